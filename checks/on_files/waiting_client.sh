@@ -42,9 +42,13 @@ printf 'get 5\nget 6\nset 6 00\n' >&8
 replies 'value ff'
 replies 'none'
 replies 'committed 3'
+# the client keeps its pipe open: the run ends for all that, within five seconds
 printf 'quit\n' >&8
 replies 'bye'
-exec 8>&-
+(sleep 5 && kill "$took") >/dev/null 2>&1 7<&- 8>&- &
+watch=$!
 wait "$took"
-verdict 'the run ends' $?
+verdict 'the run ends behind a quit, while its input is open' $?
+kill "$watch" 2>/dev/null
+exec 8>&-
 finish

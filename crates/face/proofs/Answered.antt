@@ -3,18 +3,22 @@ use Rattle.std.proofs.Common.{◌≡◌, ℕ, suc, List, ◌∷◌, ◌++◌, dr
 use Rattle.std.specs.Prelude.{Ok}
 use Rattle.site.specs.State.{State as Site}
 use Rattle.site.specs.Calls.{Preserves}
+use Rattle.site.specs.Moments.{EachMoment}
 use Rattle.record_model.specs.declared.words.CacheLine.{CacheLine}
 use Rattle.record_model.specs.Run.{Line}
 use Rattle.engine.specs.declared.engine.Engine.{Engine}
 use Rattle.engine.specs.Invariant.{sizes_of}
-use Rattle.engine.specs.Listings.{listing_of}
+use Rattle.engine.specs.Listings.{QueueIsOnFlash, listing_of}
 use Rattle.front_end.specs.declared.source.Source.{Source}
 use Rattle.front_end.specs.Lines.{HearsOnly, IsSource, TakesWithin}
-use Rattle.face.specs.Carrying.{CarriesOut, TellsAnswer}
+use Rattle.engine.specs.SeenVersions.{WhereItFits}
+use Rattle.shell_text.specs.Texts.{reply_lines}
+use Rattle.face.specs.Carrying.{CarriesOut, HandsReply, TellsAnswer}
 use Rattle.face.specs.Headline.{IsGood}
 use Rattle.face.specs.Run.{Begins, Run, answered, listing_at, state_at, step}
 use Rattle.face.specs.RunInProgress.{HasAnswered}
 use Rattle.face.proofs.Cuts.{Cut}
+use Rattle.face.proofs.Dones.{done_next}
 use Rattle.face.proofs.Listed.{asked, left_after, listed_next}
 use Rattle.face.proofs.RunsSoFar.{goes_on, moved}
 use Rattle.face.proofs.Serving.{served_next}
@@ -38,11 +42,11 @@ module _ {later : List (List CacheLine)} (pool : ℕ) (run : Run) (entry mid new
 
   -- a line is answered
   pub answered_next : {T : Type 0} (x : T) (engine' : Engine) (line : Line) (rest : List Line) → drop i (answered run) ≡ line ∷ rest → HasAnswered pool run (asked line (listing_of engine) ++ later) entry mid engine i → CarriesOut {T = T} (Ok x) line engine engine' mid new →
-      TellsAnswer {T = T} (Ok x) (sizes_of engine.store) (state_at run i) (step (state_at run i) line (listing_at run i)) mid new → HasAnswered pool run later entry new engine' (suc i)
-  answered_next {T} x engine' line rest is so_far c tells =
+      TellsAnswer {T = T} (Ok x) (sizes_of engine.store) (state_at run i) (step (state_at run i) line (listing_at run i)) mid new → QueueIsOnFlash → WhereItFits → EachMoment mid new (HandsReply line engine engine' (reply_lines (step (state_at run i) line (listing_at run i)).reply) mid) → HasAnswered pool run later entry new engine' (suc i)
+  answered_next {T} x engine' line rest is so_far c tells queue seen hands =
       let served = served_next pool run entry mid engine i so_far.served line rest is engine' new {T = T} x c in
       record {
-        progress = goes_on run entry mid engine i so_far.progress new line rest is tells.any_moment engine' served tells.told;
+        progress = goes_on run entry mid engine i so_far.progress new line rest is tells.any_moment engine' served tells.told (done_next pool run entry mid new engine engine' i line rest is so_far.served queue seen so_far.told so_far.tells hands);
         left = left_after line later so_far rest is;
         listed = listed_next line later so_far rest is;
         written = written_answered pool run i entry mid new so_far.told tells.any_moment served.reads so_far.written;

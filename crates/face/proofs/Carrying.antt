@@ -1,5 +1,5 @@
 -- A line is carried out: a command of the database, one that asks for nothing, and one whose reply is told.
-use Rattle.std.proofs.Common.{◌≡◌, inl, ℕ, ◌+◌, ◌++◌, ◌≤◌, true, false, List, [], IsTrue, IfErr, IfOk, OnOk, IsErrOf, refl, sym, ◌∙◌, ap, subst, arith, ◌≢◌}
+use Rattle.std.proofs.Common.{◌≡◌, inl, inr, ⊎_elim, ℕ, ◌+◌, ◌++◌, ◌≤◌, take, true, false, List, [], IsTrue, IfErr, IfOk, OnOk, IsErrOf, refl, sym, ◌∙◌, ap, subst, arith, ◌≢◌}
 use Rattle.std.specs.Prelude.{Result, Ok, Err, Some, None, ⊤}
 use Rattle.site.specs.declared.outside.Dev.{Dev}
 use Rattle.site.specs.declared.outside.Dev.TheVariants.{Log}
@@ -9,9 +9,10 @@ use Rattle.site.specs.declared.outside.Stop.TheVariants.{Device, Memory, Worn, F
 use Rattle.site.specs.declared.geometry.Geometry.{Geometry}
 use Rattle.site.specs.Calls.{Rose}
 use Rattle.site.specs.Faults.{WorkFaults, faults_in, with_output_fault}
-use Rattle.site.specs.State.{State as Site, Image, Snapshot, IsQuiet}
+use Rattle.std.specs.List.{concat}
+use Rattle.site.specs.State.{State as Site, Image, Moment, Snapshot, IsQuiet}
 use Rattle.site.specs.Moments.{EachMoment, LeavesOnly}
-use Rattle.site.specs.Laws.{goes_in_sequence, goes_nowhere, holds_now, leaves_weaker, rose_since, stays_honest, stays_quiet}
+use Rattle.site.specs.Laws.{each_both, each_weaker, goes_in_sequence, goes_nowhere, holds_now, in_sequence, leaves_weaker, rose_since, stays_honest, stays_quiet}
 use Rattle.site.specs.Telling.{TellsPart}
 use Rattle.site.proofs.Working.{ok_always}
 use Rattle.record_model.specs.declared.words.CacheLine.{CacheLine}
@@ -37,12 +38,12 @@ use Rattle.engine.specs.Leaves.{LeavesEither, LeavesTable}
 use Rattle.engine.specs.Listings.{listing_of}
 use Rattle.engine.specs.LogReads.{log_reads_by}
 use Rattle.image_changes.specs.Costs.{CallsForUnits}
-use Rattle.shell_text.specs.Texts.{reply_text}
+use Rattle.shell_text.specs.Texts.{reply_lines, reply_text}
 use Rattle.front_end.specs.declared.halt.Halt.{Halt}
 use Rattle.front_end.specs.declared.halt.Halt.TheVariants as halt
 use Rattle.front_end.specs.Faults.{RunFaults}
-use Rattle.front_end.specs.Tells.{Tells}
-use Rattle.face.specs.Carrying.{CarriesOut, CarriesUntold, DoesLine, LineStepsMachine, TellsAnswer, halted}
+use Rattle.front_end.specs.Tells.{HandsLines, TellsText}
+use Rattle.face.specs.Carrying.{CarriesOut, CarriesUntold, DoesLine, HandsReply, LineStepsMachine, TellsAnswer, halted}
 use Rattle.face.specs.Causes.{AnswerFailsBy}
 use Rattle.face.specs.Run.{IsAsked, StandsFor, line_checkpoints, line_log_reads, step, LeavesAnswer}
 use Rattle.face.proofs.CommandLaws.{fails_by}
@@ -51,7 +52,7 @@ use Rattle.face.proofs.Listed.{cache_line, same_step}
 use Rattle.face.proofs.Logs.{fits_stands, goes_on, still_fits}
 use Rattle.face.proofs.NextUnits.{next_later}
 use Rattle.face.proofs.Pagings.{after_same, reads_still}
-use Rattle.face.proofs.Quiet.{is_told, no_change, not_told}
+use Rattle.face.proofs.Quiet.{is_told, no_change, not_told, says_nothing}
 use Rattle.face.proofs.WornRuns.{cache_work, quit_work, stat_work}
 use Rattle.face.proofs.Writings.{last_told, writes_nothing, writes_told}
 
@@ -247,7 +248,7 @@ carries_err {A} {B} h line a b old new c = record {
     again : (dev : Dev) → IsErrOf {T = B} (Err h) (halt.Stop (Worn dev)) → IsErrOf {T = A} (Err h) (halt.Stop (Worn dev))
     again dev says = cc
 
-module _ {A : Type 0} (reply : A) (line : Line) (a b : Engine) (old mid new : Site) (c : CarriesOut {T = A} (Ok reply) line a b old mid) {N : Type 0} {piece : List ℕ} {told : Result N Failed} (tells : Tells piece mid new told) where
+module _ {A : Type 0} (reply : A) (line : Line) (a b : Engine) (old mid new : Site) (c : CarriesOut {T = A} (Ok reply) line a b old mid) {N : Type 0} {piece : List ℕ} {told : Result N Failed} (tells : TellsText piece mid new told) where
   -- what is told changes nothing
   module _ {B : Type 0} (result : Result B Halt) (never : (dev : Dev) → IsErrOf result (halt.Stop (Worn dev)) → ⊥) (cause : IfErr result (λ h. AnswerFailsBy h a old new)) (calls : IsTrue mid.honest → OnOk result (CallsForUnits (sizes_of a.store) mid new)) (faults : RunFaults result old new) where
     still : IsTrue old.honest → IsTrue mid.honest
@@ -305,12 +306,16 @@ module _ (line : Line) (a b : Engine) (old mid : Site) (result : Result Reply Ha
   untold : mid.told ≡ old.told
   untold = (holds_now old mid (LeavesEither (sizes_of a.store) s next.after old.told) moments).told
 
+  -- nothing is being told meanwhile
+  pub hands_nothing : {lines : List (List ℕ)} → EachMoment old mid (HandsReply line a b lines old)
+  hands_nothing {lines} = each_weaker old mid (λ m. m.telling ≡ []) (HandsReply line a b lines old) (λ (m : Moment) none. inl none) (says_nothing old.told (LeavesEither (sizes_of a.store) s next.after old.told) (λ x e. e.told) old mid moments)
+
   -- nothing: it has failed
   pub tells_nothing : {B : Type 0} (h : Halt) → TellsAnswer {T = B} (Err h) (sizes_of a.store) s next old mid
   tells_nothing h = record { any_moment = not_told (sizes_of a.store) old mid s next.after (reply_text next.reply) moments; told = tt; untold = λ ne. untold }
 
 -- all of it, or a front
-module _ (line : Line) (a b : Engine) (old mid new : Site) (reply : Reply) (c : CarriesUntold (Ok reply) line a b old mid) {N : Type 0} {told : Result N Failed} (tells : Tells (reply_text reply) mid new told) (s : State) (listing : List CacheLine) (asked : IsAsked line (listing_of a) listing) (fits : Matches a old s) (quiet : IsQuiet old) where
+module _ (line : Line) (a b : Engine) (old mid new : Site) (reply : Reply) (c : CarriesUntold (Ok reply) line a b old mid) {N : Type 0} {told : Result N Failed} (tells : TellsText (reply_text reply) mid new told) (s : State) (listing : List CacheLine) (asked : IsAsked line (listing_of a) listing) (fits : Matches a old s) (quiet : IsQuiet old) where
   text : reply_text reply ≡ reply_text (step s line listing).reply
   text = ap reply_text (c.reply s listing asked fits)
 
@@ -324,6 +329,23 @@ module _ (line : Line) (a b : Engine) (old mid new : Site) (reply : Reply) (c : 
       is_told (sizes_of a.store) old mid new s after (reply_text (step s line listing).reply) (moments line a b old mid (Ok reply) c s listing fits quiet) (c.stays_quiet fits.honest quiet)
       (subst (λ (x : Geometry). StandsFor x mid.image after) c.sizes (fits_stands b mid after c.going.store.both.sizes there))
       (subst (λ (t : List ℕ). EachMoment mid new (TellsPart t mid)) text (tells.any_moment honest))
+
+  pub hands_carried : (IsTrue mid.honest → EachMoment mid new (HandsLines (reply_lines reply) mid.told)) → EachMoment old new (HandsReply line a b (reply_lines (step s line listing).reply) old)
+  hands_carried hands =
+      let lines = reply_lines (step s line listing).reply in
+      let is : reply_lines reply ≡ lines = ap reply_lines (c.reply s listing asked fits) in
+      let same = untold line a b old mid (Ok reply) c s listing fits quiet in
+      let first : EachMoment old mid (HandsReply line a b lines old) = hands_nothing line a b old mid (Ok reply) c s listing fits quiet in
+      in_sequence old mid new (HandsReply line a b lines old) first
+      (each_weaker mid new (λ m. TellsPart (reply_text reply) mid m × HandsLines (reply_lines reply) mid.told m) (HandsReply line a b lines old)
+      (λ (m : Moment) both. ⊎_elim (λ none. inl none) (λ w. inr (record {
+        whole = w.0;
+        told = w.1 ∙ (λ i. same i ++ concat (take w.0 (is i)));
+        reply = reply;
+        mid = mid;
+        course = c.course;
+        image = both.0.image;
+      })) both.1) (each_both mid new (TellsPart (reply_text reply) mid) (HandsLines (reply_lines reply) mid.told) (tells.any_moment honest) (hands honest)))
 
   pub tells_all_of_it : {B : Type 0} (x : B) → new.told ≡ mid.told ++ reply_text reply → TellsAnswer {T = B} (Ok x) (sizes_of a.store) s (step s line listing) old new
   tells_all_of_it x is = record { any_moment = some_told; told = is ∙ (λ i. untold line a b old mid (Ok reply) c s listing fits quiet i ++ text i); untold = tt }

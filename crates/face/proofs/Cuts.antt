@@ -229,10 +229,11 @@ module _ (entry : List ℕ) (source : Source) (now : Site) (i : ℕ) (cut : Cut 
 
 -- the lines that stand whole in what was cut and in the octets of a line behind it
 pub whole_before : (entry : List ℕ) (source : Source) (now : Site) (i : ℕ) (cut : Cut entry source now i) → IsSource source → (octets rest : List ℕ) → AllByRecursion (λ x. x ≢ 10) octets → to_hear source now ≡ octets ++ rest → source.ended ≡ false
-    → (take (length (cut.octets ++ octets)) entry ≡ cut.octets ++ octets) × (length (answered_of false (cut.octets ++ octets)) ≡ i)
+    → (take (length (cut.octets ++ octets)) entry ≡ cut.octets ++ octets) × (length (answered_of false (cut.octets ++ octets)) ≡ i) × (list_any is_quit (commands_of false (cut.octets ++ octets)) ≡ false)
 whole_before entry source now i cut is_source octets rest none all going = (
   ap (take (length (cut.octets ++ octets))) (entry_is entry source now i cut is_source rest octets rest none all going) ∙ take_at (cut.octets ++ octets) rest (length (cut.octets ++ octets)) refl,
   before_count entry source now i cut is_source rest octets rest none all going,
+  before_no_quit entry source now i cut is_source rest octets rest none all going,
 )
 
 -- where nothing more was taken

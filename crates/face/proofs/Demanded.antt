@@ -1,7 +1,7 @@
 -- What a run asks of the devices, by how it ends.
 use Rattle.image_changes.specs.Costs.{CallsForUnits}
 use Rattle.image_changes.proofs.Counting.{calls_then}
-use Rattle.std.proofs.Common.{◌≡◌, ℕ, ◌≤◌, List, [], length, sym, ◌∙◌, ap, subst, arith}
+use Rattle.std.proofs.Common.{◌≡◌, ℕ, ◌≤◌, List, [], length, sym, ap, subst, arith}
 use Rattle.std.specs.Prelude.{Ok, Err, IsErrOf}
 use Rattle.site.specs.declared.outside.Dev.{Dev}
 use Rattle.site.specs.declared.outside.Stop.TheVariants.{Worn}
@@ -9,17 +9,15 @@ use Rattle.site.specs.State.{State as Site, Image}
 use Rattle.site.specs.Calls.{SameReads}
 use Rattle.site.specs.Moments.{EachMoment}
 use Rattle.site.specs.Telling.{TellsPart}
-use Rattle.record_model.specs.Run.{left_by}
-use Rattle.engine.specs.Paging.{cache_on}
-use Rattle.engine.specs.SeenVersions.{VersionsAreSeen}
 use Rattle.front_end.specs.declared.halt.Halt.{Halt}
 use Rattle.front_end.specs.declared.halt.Halt.TheVariants as halt
 use Rattle.face.specs.Headline.{Resources}
-use Rattle.face.specs.RunMeaning.{AsksNoMore, LeavesItsQueue, LeavesStaged, LeavesVersions, SkipsNoNumber, cache_by, staged_by_run}
+use Rattle.face.specs.Done.{HasDone}
+use Rattle.face.specs.RunMeaning.{AsksNoMore, LeavesStaged, SkipsNoNumber, staged_by_run}
 use Rattle.face.specs.Run.{Run, answered, first_lines, turns_of}
 use Rattle.front_end.specs.Texts.{fault_line}
 use Rattle.face.specs.Working.{Demands}
-use Rattle.face.specs.Worn.{HasRings, LeavesItsRings, WearsFirst, WearsNone, WearsNoneBefore, machine_by}
+use Rattle.face.specs.Worn.{WearsFirst, WearsNone, WearsNoneBefore}
 use Rattle.face.proofs.Counted.{skips_still}
 use Rattle.face.proofs.Pagings.{few_told, leaves_its_queue, leaves_staged, leaves_versions}
 use Rattle.face.proofs.WornRuns.{leaves_its_rings, wears_none}
@@ -32,12 +30,12 @@ pub same_halt : {T : Type 0} (h is : Halt) → IsErrOf {T = T} (Err h) is → h 
 same_halt h is same = cc
 
 module _ (pool : ℕ) (run : Run) (old new : Site) where
-  pub demands_ok : {T : Type 0} (x : T) → WearsNone pool run old.image → LeavesItsQueue pool run old.image new.image → LeavesVersions pool run old.image new.image → LeavesStaged pool run old new → LeavesItsRings pool run old.image new.image → CallsForUnits run.geometry old new → SkipsNoNumber run old new → AsksNoMore pool run old new →
+  pub demands_ok : {T : Type 0} (x : T) → WearsNone pool run old.image → HasDone pool run old.image new.image → LeavesStaged pool run old new → CallsForUnits run.geometry old new → SkipsNoNumber run old new → AsksNoMore pool run old new →
       Demands pool run old new (Ok x)
-  demands_ok x room queue versions staged rings calls numbers reads = record { rings = rings; calls = calls; worn = λ dev is. absurd (no_error x (halt.Stop (Worn dev)) is); room = room; queue = queue; versions = versions; staged = staged; numbers = numbers; reads = reads }
+  demands_ok x room done staged calls numbers reads = record { done = done; calls = calls; worn = λ dev is. absurd (no_error x (halt.Stop (Worn dev)) is); room = room; staged = staged; numbers = numbers; reads = reads }
 
   pub demands_err : {T : Type 0} (h : Halt) → ((dev : Dev) → h ≡ halt.Stop (Worn dev) → WearsFirst pool run dev old.image) → SkipsNoNumber run old new → AsksNoMore pool run old new → Demands {T = T} pool run old new (Err h)
-  demands_err {T} h worn numbers reads = record { worn = λ dev is. worn dev (same_halt {T = T} h (halt.Stop (Worn dev)) is); room = tt; queue = tt; versions = tt; rings = tt; staged = tt; calls = tt; numbers = numbers; reads = reads }
+  demands_err {T} h worn numbers reads = record { worn = λ dev is. worn dev (same_halt {T = T} h (halt.Stop (Worn dev)) is); room = tt; done = tt; staged = tt; calls = tt; numbers = numbers; reads = reads }
 
 -- an error of one call is that of another
 pub demands_as : {T U : Type 0} (pool : ℕ) (run : Run) (old new : Site) (h : Halt) → Demands {T = U} pool run old new (Err h) → Demands {T = T} pool run old new (Err h)
@@ -49,10 +47,8 @@ module _ (pool : ℕ) (run : Run) (old mid new : Site) (image : new.image ≡ mi
   still_reads few newest blocks sound = few_told _ _ _ _ _ old mid new reads tells (few newest blocks sound)
 
   pub demands_done : {T U : Type 0} (x : T) (y : U) → CallsForUnits run.geometry mid new → Demands pool run old mid (Ok x) → Demands pool run old new (Ok y)
-  demands_done x y calls d = demands_ok pool run old new y d.room (λ newest blocks sound. ap (λ (i : Image). cache_on run.geometry i) image ∙ d.queue newest blocks sound)
-      (λ newest blocks sound. subst (λ (i : Image). VersionsAreSeen run.geometry (cache_by pool run (turns_of run) newest old.image blocks).pool i (left_by run.opening (turns_of run))) (sym image) (d.versions newest blocks sound))
+  demands_done x y calls d = demands_ok pool run old new y d.room (subst (HasDone pool run old.image) (sym image) d.done)
       (λ newest blocks sound. last_still run.geometry (staged_by_run pool run (turns_of run) newest old.image blocks) old mid new (d.reads newest blocks sound).writes.grown tells.grown (ap (λ (i : Image). i.disk) image) (d.staged newest blocks sound))
-      (λ newest blocks sound. subst (λ (i : Image). HasRings run.geometry (machine_by pool run (turns_of run) newest old.image blocks) old.image i) (sym image) (d.rings newest blocks sound))
       (calls_then run.geometry old mid new d.calls calls)
       (skips_still run piece old mid new tells d.numbers) (still_reads d.reads)
 
@@ -62,6 +58,10 @@ module _ (pool : ℕ) (run : Run) (old mid new : Site) (image : new.image ≡ mi
   pub demands_failed : {T : Type 0} (h : Halt) → Demands {T = T} pool run old mid (Err h) → Demands {T = T} pool run old new (Err h)
   demands_failed h d = demands_err pool run old new h (λ dev e. d.worn dev (ap Err e)) (skips_still run piece old mid new tells d.numbers) (still_reads d.reads)
 
+-- where these are all of its lines
+pub done_whole : (pool : ℕ) (run : Run) (n : ℕ) → length (answered run) ≤ n → (old now : Image) → HasDone pool (first_lines run n) old now → HasDone pool run old now
+done_whole pool run n all old now d = record { frames = leaves_its_queue pool run n all old now d.frames; versions = leaves_versions pool run n all old now d.versions; rings = leaves_its_rings pool run n all old now d.rings }
+
 -- by the status, of a run of which so many lines were begun
 module _ (pool : ℕ) (run : Run) (n : ℕ) (old new : Site) where
   pub asked_done : {T : Type 0} (x : T) → length (answered run) ≤ n → WearsNoneBefore pool run n old.image → Demands pool (first_lines run n) old new (Ok x) → Resources pool run n [] old new 0
@@ -69,9 +69,7 @@ module _ (pool : ℕ) (run : Run) (n : ℕ) (old new : Site) where
     worn = λ eight. absurd (omega (arith, eight));
     room = λ zero. wears_none pool run n all old.image d.room;
     earlier = earlier;
-    frames = λ zero. leaves_its_queue pool run n all old.image new.image d.queue;
-    versions = λ zero. leaves_versions pool run n all old.image new.image d.versions;
-    rings = λ zero. leaves_its_rings pool run n all old.image new.image d.rings;
+    done = λ zero. done_whole pool run n all old.image new.image d.done;
     staged = λ zero. leaves_staged pool run n all old new d.staged;
     calls = λ zero. d.calls;
     numbers = d.numbers;
@@ -83,9 +81,7 @@ module _ (pool : ℕ) (run : Run) (n : ℕ) (old new : Site) where
     worn = λ eight. let w = worn eight in (w.0, ap fault_line w.1, d.worn w.0 (ap Err w.1));
     room = λ zero. absurd (some zero);
     earlier = earlier;
-    frames = λ zero. absurd (some zero);
-    versions = λ zero. absurd (some zero);
-    rings = λ zero. absurd (some zero);
+    done = λ zero. absurd (some zero);
     staged = λ zero. absurd (some zero);
     calls = λ zero. absurd (some zero);
     numbers = d.numbers;

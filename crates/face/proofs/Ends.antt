@@ -5,6 +5,7 @@ use Rattle.std.proofs.lemmas.List.{append-nil}
 use Rattle.site.specs.State.{Input, State as Site, Image, faults_of}
 use Rattle.site.specs.declared.geometry.Geometry.{Geometry}
 use Rattle.site.specs.Calls.{Preserves, Rose}
+use Rattle.site.specs.Moments.{EachMoment}
 use Rattle.site.specs.Laws.{holds_now, rose_since, stays_honest}
 use Rattle.site.specs.declared.outside.Stop.TheVariants.{Device, Memory, Worn, Foreign}
 use Rattle.record_model.specs.State.{Content, State}
@@ -30,7 +31,8 @@ use Rattle.engine.specs.Listings.{QueueIsOnFlash, listing_of}
 use Rattle.engine.specs.SeenVersions.{WhereItFits}
 use Rattle.front_end.specs.Lines.{HeardAll, answered_of}
 use Rattle.front_end.specs.Texts.{status_of}
-use Rattle.face.specs.Carrying.{CarriesOut, TellsAnswer}
+use Rattle.shell_text.specs.Texts.{reply_lines}
+use Rattle.face.specs.Carrying.{CarriesOut, HandsReply, TellsAnswer}
 use Rattle.face.specs.RunMeaning.{IsLeft, ListsTheMachine}
 use Rattle.face.specs.Run.{Run, answered, first_lines, listing_at, state_at, step}
 use Rattle.face.specs.Working.{HasHeard, RunOutcome, StopsTaking, TakingFails}
@@ -38,6 +40,7 @@ use Rattle.face.specs.RunInProgress.{HasAnswered, NeverOpens}
 use Rattle.face.proofs.Cuts.{Cut, has_heard_all, input_failed, over_limit, taken_by, heard_line, quit_is_last}
 use Rattle.face.proofs.RunsSoFar.{begun_after, begun_before, cut_short, ended as is_whole, stopped}
 use Rattle.face.proofs.Demanded.{demands_as}
+use Rattle.face.proofs.Dones.{done_next}
 use Rattle.face.proofs.Serving.{line_asks, line_fails, none_before, none_worn, served_all, served_so_far}
 use Rattle.site.specs.declared.outside.Dev.{Dev}
 use Rattle.face.proofs.Lefts.{left_first}
@@ -79,6 +82,7 @@ whole pool run old new engine i so_far x octets ended heard queue seen all = rec
   listed = so_far.listed;
   written = so_far.written;
   answers = so_far.answers;
+  tells = so_far.tells;
 }
 
 -- before the first line
@@ -106,6 +110,7 @@ never_opened {T} pool run old new h never ne left = record {
   listed = lists_nothing pool run old.image;
   written = written_opened pool run old new never.stops.any_moment never.demands.reads;
   answers = answers_none run old new left;
+  tells = never.tells;
 }
 
 -- So many lines were answered, and more was heard.
@@ -126,6 +131,7 @@ module _ {later : List (List CacheLine)} (pool : ℕ) (run : Run) (old mid new :
     listed = so_far.listed;
     written = so_far.written;
     answers = so_far.answers;
+    tells = so_far.tells;
   }
 
   pub taking_failed : {T : Type 0} (h : Halt) → (h ≡ halt.Input) ⊎ (h ≡ halt.Limit) → IsCutOff h source.ended (total source mid) (to_hear source mid) new.input.left → RunOutcome {T = T} pool run old new (Err h)
@@ -152,8 +158,8 @@ module _ (pool : ℕ) (run : Run) (old mid next new : Site) (source source' : So
 
   -- its answer failed
   pub answer_failed : {T U : Type 0} (later : List (List CacheLine)) (engine engine' : Engine) (so_far : HasAnswered pool run (asked line (listing_of engine) ++ later) old next engine i) (rest : List Line) (is : drop i (answered run) ≡ line ∷ rest) (fault : Halt) →
-      CarriesOut {T = U} (Err fault) line engine engine' next new → TellsAnswer {T = U} (Err fault) (sizes_of engine.store) (state_at run i) (step (state_at run i) line (listing_at run i)) next new → (fault ≢ halt.Input) × (fault ≢ halt.Limit) → RunOutcome {T = T} pool run old new (Err fault)
-  answer_failed {T} {U} later engine engine' so_far rest is fault c tells ne =
+      CarriesOut {T = U} (Err fault) line engine engine' next new → TellsAnswer {T = U} (Err fault) (sizes_of engine.store) (state_at run i) (step (state_at run i) line (listing_at run i)) next new → (fault ≢ halt.Input) × (fault ≢ halt.Limit) → QueueIsOnFlash → WhereItFits → EachMoment next new (HandsReply line engine engine' (reply_lines (step (state_at run i) line (listing_at run i)).reply) next) → RunOutcome {T = T} pool run old new (Err fault)
+  answer_failed {T} {U} later engine engine' so_far rest is fault c tells ne queue seen hands =
       let asks = line_asks pool run old next engine i so_far.served line rest is engine' new (Err fault) c in
       record {
         heard = suc i;
@@ -173,6 +179,7 @@ module _ (pool : ℕ) (run : Run) (old mid next new : Site) (source source' : So
         listed = listed_next line later so_far rest is;
         written = written_answered pool run i old next new so_far.told tells.any_moment asks so_far.written;
         answers = answers_more run i (suc i) old new (omega arith) (answers_still run i old next new left so_far.answers);
+        tells = done_next pool run old next new engine engine' i line rest is so_far.served queue seen so_far.told so_far.tells hands;
       }
 
   -- a quit was answered

@@ -40,6 +40,7 @@ use Rattle.face.proofs.LinesBeforeQuit.{all_answered}
 use Rattle.face.proofs.Lefts.{left_whole}
 use Rattle.face.proofs.Runs.{texts_count}
 use Rattle.face.proofs.Meanings.{stands_by}
+use Rattle.face.proofs.Dones.{done_fault, done_same}
 use Rattle.face.proofs.Statuses.{not_zero, of_five, of_seven, output_or_not, worn_by}
 use Rattle.face.proofs.SerialRuns.{run_is_serial, told_is_serial}
 use Rattle.face.proofs.Ranges.{IsFault, is_left, all_text}
@@ -146,20 +147,23 @@ module _ (pool : ℕ) (g : Geometry) (opening : State) (listings : List (List Ca
   over_by h heard octets mid s e = let own = subst (λ (x : Halt). StopsTaking x run heard octets old mid) (of_seven h e) s in (own.1, own.0.no_quit)
 
   -- the texts before the fault line are whole
-  ends_behind : {T U : Type 0} (mid new : Site) (h : Halt) (result : Result U Failed) (works : RunOutcome {T = T} pool run old mid (Err h)) → Preserves old mid → IsTrue mid.honest → Tells (fault_line h) mid new result → h ≢ halt.Output
-      → EndsBehind (texts (run_of g opening works.ended works.octets listings)) (fault_line h) old new
-  ends_behind mid new h result works goes honest tells ne =
+  whole_told : {T : Type 0} (mid : Site) (h : Halt) (works : RunOutcome {T = T} pool run old mid (Err h)) → h ≢ halt.Output → (whole : ℕ) × (mid.told ≡ old.told ++ first_texts (run_of g opening works.ended works.octets listings) whole)
+  whole_told mid h works ne =
       let b = works.stops.0.between ne in
       let heard = works.has_heard in
       let lines = commands_of works.ended works.octets in
-      let own = run_of g opening works.ended works.octets listings in
       let few : b.whole ≤ works.heard + 1 =
       let some = b.few in
       let long = texts_count (first_lines run works.heard) ∙ ap (λ (l : List Line). suc (length l)) (lines_first run works.heard) in
       let less = length-take works.heard (answered run) in
       omega (arith, some, long, less) in
-      let first : first_texts (first_lines run works.heard) b.whole ≡ first_texts own b.whole = told_first run works.heard b.whole few ∙ sym (told_same run lines works.heard heard.same b.whole few) in
-      (b.whole, ends_with (old.told ++ first_texts own b.whole) (fault_line h) old mid new result goes honest (b.told ∙ ap (λ (l : List ℕ). old.told ++ l) first) tells)
+      (b.whole, b.told ∙ ap (λ (l : List ℕ). old.told ++ l) (told_first run works.heard b.whole few ∙ sym (told_same run lines works.heard heard.same b.whole few)))
+
+  ends_behind : {T U : Type 0} (mid new : Site) (h : Halt) (result : Result U Failed) (works : RunOutcome {T = T} pool run old mid (Err h)) → Preserves old mid → IsTrue mid.honest → Tells (fault_line h) mid new result → h ≢ halt.Output
+      → EndsBehind (texts (run_of g opening works.ended works.octets listings)) (fault_line h) old new
+  ends_behind mid new h result works goes honest tells ne =
+      let w = whole_told mid h works ne in
+      (w.0, ends_with (old.told ++ first_texts (run_of g opening works.ended works.octets listings) w.0) (fault_line h) old mid new result goes honest w.1 tells)
 
   pub halted : {T U : Type 0} → Serial → (mid new : Site) (h : Halt) → IsGood g opening old → RunOutcome {T = T} pool run old mid (Err h) → Preserves old mid → (result : Result U Failed) → Tells (fault_line h) mid new result → HasCause h old new → (status : ℕ) → status ≡ status_of h → Headline pool g opening old new status
   halted {T} law mid new h good works goes result told cause status is =
@@ -200,6 +204,8 @@ module _ (pool : ℕ) (g : Geometry) (opening : State) (listings : List (List Ca
           taking = λ which. subst (λ (r : Run). WearsNone pool r old.image) (sym front) (works.taking (taking_by T h (⊎_elim (λ e. inl (sym is ∙ e)) (λ e. inr (sym is ∙ e)) which)));
           listed = subst (λ (r : Run). ListsTheMachine pool r old.image) (sym front) works.listed;
           written = written_same pool run lines works.heard heard.same old new (written_told pool run works.heard (fault_line h) old mid new tells works.written);
+          tells = done_fault pool own works.heard (fault_line h) old mid new (⊎_elim (λ output. inl (ap fault_line output)) (λ ne. inr (whole_told mid h works ne)) (output_or_not h))
+              (done_same pool run lines works.heard heard.same (fault_line h) old mid works.tells) (told.hands honest);
         };
         order = record {
           serial = run_is_serial law g opening old good works.ended works.octets listings;
@@ -243,6 +249,7 @@ module _ (pool : ℕ) (g : Geometry) (opening : State) (listings : List (List Ca
           taking = λ which. ⊎_elim (λ e. absurd (omega (arith, e))) (λ e. absurd (omega (arith, e))) which;
           listed = subst (λ (r : Run). ListsTheMachine pool r old.image) (sym front) works.listed;
           written = written_same pool run lines works.heard same old new works.written;
+          tells = done_same pool run lines works.heard same [] old new works.tells;
         };
         order = record {
           serial = run_is_serial law g opening old good works.ended works.octets listings;

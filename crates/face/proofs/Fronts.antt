@@ -99,6 +99,7 @@ module _ (run : Run) (lines : List Line) (n : ℕ) (same : take n lines ≡ take
             heard = a.heard;
             here = a.here;
             told = subst (λ (l : List ℕ). length (old.told ++ l) ≤ t.told) (sym (told_same (1 + whole) (omega (arith, few)))) a.told;
+            going = a.going;
           }
 
       both : (takes : List Take) → AllByRecursion (IsAnswered run old) takes → AllByRecursion (IsEarly n old) takes → AllByRecursion (IsAnswered other old) takes

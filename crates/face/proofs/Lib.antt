@@ -6,6 +6,7 @@ mod CommandLaws
 mod Counted
 mod Cuts
 mod Demanded
+mod Dones
 mod Ends
 mod Faults
 mod Fronts

@@ -1,7 +1,10 @@
 -- One life, and the lives of a script under way.
-use Rattle.std.proofs.Common.{◌≡◌, inl, inr, ⊎_elim, ℕ, ◌-◌, true, List, [], ◌++◌, sym, ◌∙◌, ap, subst, IsTrue}
+use Rattle.std.proofs.Common.{◌≡◌, inl, inr, ⊎_elim, ℕ, ◌-◌, true, List, [], ◌∷◌, ◌++◌, drop, sym, ◌∙◌, ap, subst, IsTrue}
 use Rattle.std.specs.Prelude.{Option, Some, None, IfSome}
-use Rattle.site.specs.State.{State as Site, Image, MayLeave, now_of, snapshot_of}
+use Rattle.site.specs.State.{State as Site, Image, MayLeave, no_input, now_of, snapshot_of}
+use Rattle.mem_site.specs.Crash.{started}
+use Rattle.mem_site.specs.MemState.{fed, lives_of, state_of}
+use Rattle.mem_site.specs.declared.mem.MemSite.{MemSite}
 use Rattle.site.specs.Laws.{holds_now}
 use Rattle.site.specs.declared.geometry.Geometry.{Geometry}
 use Rattle.record_model.specs.State.{State, opened}
@@ -14,7 +17,7 @@ use Rattle.face.specs.Living.{Finds, HasLivedOne, IsFoundAfter}
 use Rattle.face.specs.RunMeaning.{IsLeft, IsToldOf, run_text, texts}
 use Rattle.face.specs.Run.{Run, turns_of}
 use Rattle.front_end.specs.Texts.{IsLineOf}
-use Rattle.face.specs.Trial.{Between, IsTextOf, life_run}
+use Rattle.face.specs.Trial.{Between, IsTextOf, kept_by, life_run}
 use Rattle.face.proofs.Longer.{all_heard, lines_longer, range_all, run_with, table_all, told_all}
 use Rattle.face.proofs.Ranges.{IsFault}
 
@@ -96,3 +99,15 @@ fed_site g before entry lit fed kept octets is_lit is_fed finds told left = (
 pub with_status : (g : Geometry) (before : Between) (octets : List ℕ) (site : Site) (A : ℕ → Type 0) (o : Option ℕ) (status : ℕ) → IfSome o (λ told. (told ≡ status) × A told) → HasLivedOne g before octets status site → IfSome o (λ told. HasLivedOne g before octets told site)
 with_status g before octets site A (Some told) status is lived = subst (λ (n : ℕ). HasLivedOne g before octets n site) (sym is.0) lived
 with_status g before octets site A None status is lived = is
+
+pub if_some : {T : Type 0} (o : Option T) (P : Type 0) → P → IfSome o (λ x. P)
+if_some (Some x) P p = p
+if_some None P p = tt
+
+-- A site in memory on which a life begins.
+pub begun_so : (stop : Option (ℕ × ℕ)) (before : Between) (octets : List ℕ) (inner : MemSite) (lit begun : Site) → state_of inner ≡ started (0 ∷ 0 ∷ before.changes) before.image → lit ≡ record (state_of inner) { kept = lit.kept } → lit.kept ≡ kept_by stop (lives_of inner)
+    → begun ≡ record lit { input = fed octets lit.input } → begun ≡ record (started (kept_by stop before.changes) before.image) { input = fed octets no_input }
+begun_so stop before octets inner lit begun state is_lit fuse is_begun =
+    let lives : lives_of inner ≡ before.changes = ap (λ (s : Site). drop 2 s.kept) state in
+    let lit_is : lit ≡ started (kept_by stop before.changes) before.image = is_lit ∙ (λ i. record (state i) { kept = (fuse ∙ ap (kept_by stop) lives) i }) in
+    is_begun ∙ ap (λ (s : Site). record s { input = fed octets s.input }) lit_is

@@ -1,13 +1,13 @@
 -- A load that halts with its fault line, and one that is summed up.
-use Rattle.std.proofs.Common.{◌≡◌, ◌≢◌, ◌⊎◌, inl, inr, ⊎_elim, ℕ, ◌-◌, ◌≤◌, List, [], ◌++◌, length, take, refl, sym, ◌∙◌, ap, subst, arith, append_assoc}
-use Rattle.std.specs.Prelude.{Ok, Err, Result, IsTrue}
+use Rattle.std.proofs.Common.{◌≡◌, ◌≢◌, ◌⊎◌, inl, inr, ⊎_elim, ℕ, ◌-◌, ◌≤◌, List, [], ◌∷◌, ◌++◌, length, take, drop, refl, sym, ◌∙◌, ap, subst, arith, append_assoc}
+use Rattle.std.specs.Prelude.{Ok, Err, Result, IsTrue, flat_map}
 use Rattle.std.proofs.lemmas.List.{append-nil, take_all}
 use Rattle.site.specs.declared.geometry.Geometry.{Geometry}
 use Rattle.site.specs.declared.outside.Dev.{Dev}
-use Rattle.site.specs.State.{State as Site, Snapshot, now_of}
+use Rattle.site.specs.State.{State as Site, Moment, Snapshot, now_of}
 use Rattle.site.specs.Calls.{Preserves, SameReads}
 use Rattle.site.specs.Moments.{EachMoment, Leaves, LeavesOnly}
-use Rattle.site.specs.Laws.{image_is, in_sequence, leaves_weaker, stays_honest, tell_leaves, told_is}
+use Rattle.site.specs.Laws.{each_both, each_weaker, image_is, in_sequence, leaves_weaker, stays_honest, tell_leaves, told_is}
 use Rattle.site.specs.Telling.{SameDevices, TellsOnly, TellsPart}
 use Rattle.site.specs.declared.outside.Failed.{Failed}
 use Rattle.record_model.specs.State.{State}
@@ -20,16 +20,19 @@ use Rattle.front_end.specs.Faults.{NoFaultRose}
 use Rattle.face.proofs.WornFronts.{never_worn_within}
 use Rattle.face.specs.TopCall.{LoadContract}
 use Rattle.face.specs.Headline.{IsGood, TellsFault}
-use Rattle.face.specs.Loads.{Allows, HasBegunLoad, IsLeftOf, IsOpened, IsUntold, LoadHeadline, LoadStops, LoadWorks}
+use Rattle.face.specs.Done.{HasDone}
+use Rattle.face.specs.Loads.{Allows, HasBegunLoad, IsLeftOf, IsOpened, IsUntold, LoadHeadline, LoadStops, LoadTellsDone, LoadWorks, TellsOpening}
 use Rattle.face.specs.RunMeaning.{StandsAfter, all_commits}
 use Rattle.face.specs.Worn.{WearsFirst, WearsNone}
 use Rattle.face.specs.Run.{IsFront, Run, first_lines, turns_of}
 use Rattle.front_end.specs.Texts.{fault_line, status_of}
-use Rattle.front_end.specs.Tells.{EndsBehind, Tells}
+use Rattle.front_end.specs.Tells.{EndsBehind, HandsRest, Tells}
 use Rattle.face.specs.Workload.{load_run, load_texts, opening_text, summary_text}
 use Rattle.face.proofs.CallCounts.{calls_told}
 use Rattle.front_end.proofs.Endings.{ends_whole, ends_with}
-use Rattle.face.proofs.Demanded.{asked_done, asked_halted, demands_done, demands_err, demands_failed, demands_lost}
+use Rattle.front_end.proofs.Replies.{handed_whole}
+use Rattle.face.proofs.Dones.{none_behind}
+use Rattle.face.proofs.Demanded.{asked_done, asked_halted, done_whole, demands_done, demands_err, demands_failed, demands_lost}
 use Rattle.face.proofs.Statuses.{not_zero, of_five, of_seven, output_or_not, worn_by}
 use Rattle.face.proofs.Meanings.{stands_by}
 
@@ -134,6 +137,37 @@ module _ (pool : ℕ) (run : Run) (summary : List ℕ) (old : Site) where
       left = same.left ∙ works.left;
     }
 
+-- What is told is done.
+module _ (pool : ℕ) (run : Run) (summary : List ℕ) (old mid new : Site) where
+  pub tells_opening : EachMoment old mid (TellsOpening pool run old) → EachMoment old mid (LoadTellsDone pool run summary [] old)
+  tells_opening tells = each_weaker old mid (TellsOpening pool run old) (LoadTellsDone pool run summary [] old) (λ (m : Moment) o. inl o) tells
+
+  -- the summary
+  pub tells_summary : {T : Type 0} (x : T) → LoadWorks pool run [] old mid (Ok x) → EachMoment old mid (TellsOpening pool run old) → EachMoment mid new (TellsPart summary mid) → EachMoment mid new (HandsRest summary mid) → EachMoment old new (LoadTellsDone pool run summary [] old)
+  tells_summary x works opening tells hands =
+      let told : mid.told ≡ old.told ++ opening_text run = works.done.whole.told ∙ ap (λ (l : List ℕ). old.told ++ l) (append-nil (opening_text run)) in
+      in_sequence old mid new (LoadTellsDone pool run summary [] old) (tells_opening opening)
+      (each_weaker mid new (λ m. TellsPart summary mid m × HandsRest summary mid m) (LoadTellsDone pool run summary [] old)
+      (λ (m : Moment) both. ⊎_elim (λ none. inl (inl none)) (λ rest. inr (inl (record {
+        told = handed_whole summary mid m rest.0 rest.1 rest.2 ∙ ap (λ (l : List ℕ). l ++ summary) told ∙ append_assoc old.told (opening_text run) summary;
+        done = subst (HasDone pool run old.image) (sym both.0.image) (done_whole pool run works.begun works.all old.image mid.image works.demands.done);
+      }))) both.1) (each_both mid new (TellsPart summary mid) (HandsRest summary mid) tells hands))
+
+  -- or the fault line
+  pub tells_fault_line : (h : Halt) → LoadStops run summary old mid h → EachMoment old mid (LoadTellsDone pool run summary [] old) → EachMoment mid new (HandsRest (fault_line h) mid) → EachMoment old new (LoadTellsDone pool run summary (fault_line h) old)
+  tells_fault_line h stops tells hands =
+      in_sequence old mid new (LoadTellsDone pool run summary (fault_line h) old)
+      (each_weaker old mid (LoadTellsDone pool run summary [] old) (LoadTellsDone pool run summary (fault_line h) old)
+      (λ (m : Moment) d. ⊎_elim (λ o. inl o) (λ some. ⊎_elim (λ s. inr (inl s)) (λ f. inl (inl (f.3 ∙ none_behind f.1))) some) d) tells)
+      (each_weaker mid new (HandsRest (fault_line h) mid) (LoadTellsDone pool run summary (fault_line h) old)
+      (λ (m : Moment) h'. ⊎_elim (λ none. inl (inl none)) (λ rest. ⊎_elim
+      (λ output. inl (inl (rest.2 ∙ ap (λ (x : Halt). drop rest.0 (fault_line x)) output ∙ none_behind rest.0)))
+      (λ ne. let w = whole ne in inr (inr (w.0, rest.0, rest.1 ∙ ap (λ (l : List ℕ). l ++ take rest.0 (fault_line h)) w.1, rest.2)))
+      (output_or_not h)) h') hands)
+    where
+      whole : h ≢ halt.Output → (n : ℕ) × (mid.told ≡ old.told ++ flat_map (λ (x : List ℕ). x) (take n (opening_text run ∷ summary ∷ [])))
+      whole ne = ⊎_elim (λ u. (0, u.told ∙ sym (append-nil old.told))) (λ o. (1, o.told ∙ ap (λ (l : List ℕ). old.told ++ l) (sym (append-nil (opening_text run))))) (stops.between ne)
+
 -- A fault line.
 module _ (run : Run) (summary : List ℕ) (old mid new : Site) (h : Halt) (stops : LoadStops run summary old mid h) (tells : EachMoment mid new (TellsPart (fault_line h) mid)) where
   before : LeavesOnly old mid (IsLeftOf run summary (fault_line h) old.told)
@@ -188,8 +222,8 @@ module _ (load : Load) (g : Geometry) (opening : State) (old : Site) (good : IsG
       (λ o. (1, ends_with (old.told ++ (opening_text run' ++ [])) (fault_line h) old mid new result goes honest (o.told ∙ ap (λ (l : List ℕ). old.told ++ l) (sym (append-nil (opening_text run')))) tells))
       (stops.between ne)
 
-  pub load_halted : {T U : Type 0} (mid new : Site) (h : Halt) → LoadWorks {T = T} load.pool run' summary' old mid (Err h) → Preserves old mid → (result : Result U Failed) → Tells (fault_line h) mid new result → HasCause h old new → (status : ℕ) → status ≡ status_of h → LoadHeadline load g opening old new status
-  load_halted {T} mid new h works goes result told cause status is =
+  pub load_halted : {T U : Type 0} (mid new : Site) (h : Halt) → LoadWorks {T = T} load.pool run' summary' old mid (Err h) → EachMoment old mid (LoadTellsDone load.pool run' summary' [] old) → Preserves old mid → (result : Result U Failed) → Tells (fault_line h) mid new result → HasCause h old new → (status : ℕ) → status ≡ status_of h → LoadHeadline load g opening old new status
+  load_halted {T} mid new h works done goes result told cause status is =
       let honest = stays_honest old mid goes good.honest in
       let tells = told.any_moment honest in
       let same = told.devices honest in
@@ -211,10 +245,12 @@ module _ (load : Load) (g : Geometry) (opening : State) (old : Site) (good : IsG
           asked = asked_halted load.pool run' works.begun old new {T = T} h status (λ zero. not_zero h (sym is ∙ zero)) (λ eight. worn_by h (sym is ∙ eight)) works.earlier
               (demands_failed load.pool (first_lines run' works.begun) old mid new same.image read tells h works.demands);
         };
+        tells = tells_fault_line load.pool run' summary' old mid new h works.stops done (told.hands honest);
       }
 
-  pub load_done : {T : Type 0} (new : Site) (x : T) → LoadWorks {T = T} load.pool run' summary' old new (Ok x) → LoadHeadline load g opening old new 0
-  load_done new x works = record {
+  pub load_done : {T : Type 0} (new : Site) (x : T) → LoadWorks {T = T} load.pool run' summary' old new (Ok x) → EachMoment old new (LoadTellsDone load.pool run' summary' [] old) → LoadHeadline load g opening old new 0
+  load_done new x works done = record {
+    tells = done;
     durability = record {
       fault = [];
       of_status = inl (refl, refl);

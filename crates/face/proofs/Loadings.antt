@@ -4,9 +4,10 @@ use Rattle.std.specs.Prelude.{Result, Ok, Err, count_by}
 use Rattle.std.proofs.lemmas.List.{append-nil, drop_at, length-map, take-take}
 use Rattle.std_lemmas.proofs.AllOf.{all_append}
 use Rattle.site.specs.declared.geometry.Geometry.{Geometry}
-use Rattle.site.specs.State.{State as Site, Image, Snapshot, MayLeave, now_of}
-use Rattle.site.specs.Moments.{Leaves, LeavesOnly}
-use Rattle.site.specs.Laws.{holds_now, image_is, in_sequence, leaves_weaker}
+use Rattle.std.specs.List.{concat}
+use Rattle.site.specs.State.{State as Site, Image, Moment, Snapshot, MayLeave, now_of}
+use Rattle.site.specs.Moments.{EachMoment, Leaves, LeavesOnly}
+use Rattle.site.specs.Laws.{each_weaker, holds_now, image_is, in_sequence, leaves_weaker}
 use Rattle.record_model.specs.declared.words.Reply.{Reply}
 use Rattle.record_model.specs.State.{State}
 use Rattle.record_model.specs.Run.{Line, commit_marks, commits_among, is_quit}
@@ -17,17 +18,19 @@ use Rattle.engine.specs.Leaves.{LeavesEither}
 use Rattle.engine.specs.Listings.{QueueIsOnFlash}
 use Rattle.engine.specs.SeenVersions.{WhereItFits}
 use Rattle.front_end.specs.declared.halt.Halt.{Halt}
-use Rattle.front_end.specs.declared.halt.Halt.TheVariants as halt
 use Rattle.front_end.specs.Texts.{status_of}
 use Rattle.command_line.specs.declared.request.Load.{Load}
 use Rattle.face.specs.Carrying.{CarriesUntold}
 use Rattle.face.specs.RunInProgress.{NeverOpens, RunInProgress}
-use Rattle.face.specs.Loads.{HasBegunLoad, IsLeftOf, IsOpened, IsUntold, LoadInProgress, LoadStops, LoadWorks}
+use Rattle.face.specs.Done.{TellsDone, TellsWhenDone, lines_at}
+use Rattle.face.specs.Loads.{HasBegunLoad, IsLeftOf, IsOpened, IsUntold, LoadInProgress, LoadStops, LoadWorks, TellsOpening}
 use Rattle.face.specs.RunMeaning.{IsLeft, StandsAfter, first_texts, texts}
 use Rattle.face.specs.Run.{Run, StandsFor, answered, first_lines, listing_at, state_at, step, turns_of}
 use Rattle.face.specs.Working.{StandsNear, Stops}
 use Rattle.face.specs.Workload.{get_line, get_lines, load_run, numbers_of, opening_text, set_line, set_lines}
 use Rattle.face.proofs.Demanded.{demands_as}
+use Rattle.face.proofs.Dones.{none_behind}
+use Rattle.face.proofs.Quiet.{says_nothing}
 use Rattle.face.proofs.Lefts.{left_first, left_none, none_among}
 use Rattle.face.proofs.LinesBeforeQuit.{all_answered, count_join, front_lines, none_quits_map, one_more}
 use Rattle.face.proofs.Pagings.{after_same}
@@ -158,11 +161,23 @@ module _ (g : Geometry) (opening : State) (load : Load) where
       left = left;
     }
 
+    -- the opening alone is told
+    opens_only : (now : Site) → EachMoment old now (TellsDone load.pool run 0 [] old) → EachMoment old now (TellsOpening load.pool run old)
+    opens_only now tells = each_weaker old now (TellsDone load.pool run 0 [] old) (TellsOpening load.pool run old)
+        (λ (m : Moment) d. ⊎_elim (λ none. inl none) (λ some. ⊎_elim
+        (λ t. let none : t.0 ≡ 0 = (let few = t.2 in omega (arith, few)) in
+        inr (t.1, subst (λ (n : ℕ). TellsWhenDone load.pool (first_lines run n) (first_texts run n ++ concat (take t.1 (lines_at (first_lines run n) n))) old m) none t.3))
+        (λ f. inl (f.3 ∙ none_behind f.1)) some) d) tells
+
+    pub opens_never : (new : Site) (h : Halt) → NeverOpens load.pool run old new h → EachMoment old new (TellsOpening load.pool run old)
+    opens_never new h never = opens_only new never.tells
+
     pub load_opened : (new : Site) (engine : Engine) → RunInProgress load.pool run old new engine 0 → new.input ≡ old.input → LoadInProgress load.pool run old new engine 0
     load_opened new engine going left = record {
       served = going.served;
       told = going.told ∙ ap (λ (l : List ℕ). old.told ++ l) (append-nil (opening_text run));
       moments = leaves_weaker old new (IsLeft (first_lines run 0) old.told []) (IsLeftOf run [] [] old.told) opening_left going.moments;
+      tells = opens_only new going.tells;
       left = left;
     }
 
@@ -230,12 +245,18 @@ module _ (g : Geometry) (opening : State) (load : Load) where
               stands = k.2;
             })) leaves)
 
+        -- nothing is told of it
+        pub opens_still : EachMoment old new (TellsOpening load.pool run old)
+        opens_still = in_sequence old mid new (TellsOpening load.pool run old) so_far.tells
+            (each_weaker mid new (λ m. m.telling ≡ []) (TellsOpening load.pool run old) (λ (m : Moment) none. inl none) (says_nothing mid.told Left (λ s e. e.told) mid new leaves))
+
       -- it was carried out
       pub load_next : (line : Line) (rest : List Line) (is : drop i (answered run) ≡ line ∷ rest) (engine' : Engine) (new : Site) (reply : Reply) → CarriesUntold (Ok reply) line engine engine' mid new → LoadInProgress load.pool run old new engine' (suc i)
       load_next line rest is engine' new reply c = record {
         served = served_next load.pool run old mid engine i so_far.served line rest is engine' new reply c.course;
         told = told' line rest is engine' new (Ok reply) c;
         moments = moments' line rest is engine' new (Ok reply) c;
+        tells = opens_still line rest is engine' new (Ok reply) c;
         left = c.left so_far.fits.honest ∙ so_far.left;
       }
 

@@ -22,10 +22,11 @@ use Rattle.front_end.specs.Refusals.{LacksMemory, memory_fault}
 use Rattle.face.specs.RunInProgress.{NeverOpens}
 use Rattle.face.specs.RunMeaning.{run_of}
 use Rattle.command_line.specs.declared.request.Load.{Load}
-use Rattle.face.specs.Loads.{LoadHeadline, LoadWorks}
+use Rattle.face.specs.Loads.{LoadHeadline, LoadTellsDone, LoadWorks}
 use Rattle.face.specs.Workload.{load_run, summary_text}
 use Rattle.face.proofs.Counted.{counts_nothing}
 use Rattle.face.proofs.Demanded.{demands_err}
+use Rattle.face.proofs.Dones.{silent_start}
 use Rattle.face.proofs.ToldFaults.{tells_fault}
 use Rattle.face.proofs.LoadFaults.{load_contract, load_halted, stopped_before}
 use Rattle.face.proofs.Loadings.{load_never_opened}
@@ -54,6 +55,7 @@ still g opening old good =
 never : (pool : ℕ) (run : Run) (old : Site) → IsGood run.geometry run.opening old → NeverOpens pool run old old lacks
 never pool run old good = record {
   stops = not_opened run old old (still run.geometry run.opening old good) lacks (λ ne. good.quiet);
+  tells = silent_start pool run old old (still run.geometry run.opening old good);
   demands = demands_err pool (first_lines run 0) old old lacks (λ dev e. cc) (counts_nothing run old good.quiet)
       (λ newest blocks sound. none_read pool run.geometry _ _ old numbers_rise (let least = sound.octets.limits.groups in omega (arith, least)) good.quiet);
 }
@@ -70,7 +72,7 @@ lacked_load load g opening old new result good tells =
     let run = load_run g opening load in
     let works : LoadWorks {T = ℕ} load.pool run (summary_text run load) old old (Err lacks) =
     stopped_before load.pool run (summary_text run load) old {T = ℕ} old lacks (load_never_opened g opening load old old lacks (never load.pool run old good) refl) in
-    load_halted load g opening old good old new lacks works (goes_nowhere old) result tells tt 4 refl
+    load_halted load g opening old good old new lacks works (no_call old (LoadTellsDone load.pool run (summary_text run load) [] old) (inl (inl refl))) (goes_nowhere old) result tells tt 4 refl
 
 -- the contracts of a run and of a load
 pub lacked_run : Serial → (pool : ℕ) (old new : Site) → {T : Type 0} (result : Result T Failed) → Tells memory_fault old new result → RunContract pool old new 4
@@ -92,8 +94,10 @@ module _ (status : ℕ) (old new : Site) (l : LacksMemory status old new) where
     line = memory_fault;
     answer = inr (inr (inr (is, refl)));
     any_moment = l.1.any_moment;
+    hands = l.1.hands;
     devices = l.1.devices;
     unread = λ none. l.1.reads;
+    few = λ dev. let same = l.1.reads dev in omega (arith, same);
     ends = l.1.ends;
     ready = λ honest zero. absurd (omega (arith, zero, is));
   }

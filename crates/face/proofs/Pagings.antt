@@ -34,7 +34,6 @@ use Rattle.engine.specs.Invariant.{sizes_of}
 use Rattle.engine.specs.Listings.{QueueIsOnFlash}
 use Rattle.engine.specs.SeenVersions.{VersionsAreSeen, WhereItFits}
 use Rattle.engine.specs.Paging.{WritesFrom, AsksFrom, restart_works, cache_on}
-use Rattle.front_end.specs.declared.halt.Halt.TheVariants as halt
 use Rattle.front_end.specs.Lines.{commands_of, up_to_quit}
 use Rattle.face.proofs.Fronts.{first_commands, state_by_turns, whole_turns}
 use Rattle.face.proofs.Runs.{turn_at, turns_next}

@@ -1,14 +1,31 @@
 -- A command that makes no call, and one that is told.
-use Rattle.std.proofs.Common.{◌≡◌, inl, inr, ⊎_elim, ℕ, List, ◌++◌, take, sym, ◌∙◌, ap, subst}
-use Rattle.std.proofs.lemmas.List.{append-nil}
-use Rattle.site.specs.State.{State as Site, Image, now_of, no_loose}
+use Rattle.std.proofs.Common.{◌≡◌, inl, inr, ⊎_elim, ℕ, List, [], ◌++◌, length, length-append, take, refl, sym, ◌∙◌, ap, subst, arith}
+use Rattle.std.proofs.lemmas.List.{append-nil, nil_from_length, take_all}
+use Rattle.site.specs.State.{State as Site, Image, MayLeave, Moment, Snapshot, now_of, no_loose}
 use Rattle.site.specs.Moments.{Leaves, LeavesOnly, EachMoment}
-use Rattle.site.specs.Laws.{no_call, image_is, told_is, in_sequence, leaves_weaker, holds_now, tell_leaves}
+use Rattle.site.specs.Laws.{each_weaker, no_call, image_is, told_is, in_sequence, leaves_weaker, holds_now, tell_leaves}
 use Rattle.site.specs.Telling.{TellsPart}
 use Rattle.site.specs.declared.geometry.Geometry.{Geometry}
 use Rattle.record_model.specs.State.{State}
 use Rattle.engine.specs.Leaves.{LeavesEither}
 use Rattle.face.specs.Run.{StandsFor, LeavesAnswer}
+
+-- where each snapshot has told the same nothing is being told
+left_at : (m : Moment) (k : ℕ) → MayLeave m (record { told = m.told ++ take k m.telling; image = m.image })
+left_at m k = record { told = (k, refl); content = λ dev. record { size = refl; kept = λ place out. refl } }
+
+silent : (t : List ℕ) (m : Moment) → ((s : Snapshot) → MayLeave m s → s.told ≡ t) → m.telling ≡ []
+silent t m told =
+    let none = ap length (told _ (left_at m 0)) in
+    let all = ap length (told _ (left_at m (length m.telling))) in
+    let front = length-append m.told (take 0 m.telling) in
+    let both = length-append m.told (take (length m.telling) m.telling) in
+    let whole = ap length (take_all (length m.telling) m.telling (omega arith)) in
+    let empty : length (take 0 m.telling) ≡ 0 = refl in
+    nil_from_length m.telling (omega (arith, none, all, front, both, whole, empty))
+
+pub says_nothing : (t : List ℕ) (P : Snapshot → Type 0) → ((s : Snapshot) → P s → s.told ≡ t) → (old new : Site) → LeavesOnly old new P → EachMoment old new (λ m. m.telling ≡ [])
+says_nothing t P told old new leaves = each_weaker old new (Leaves P) (λ m. m.telling ≡ []) (λ m left. silent t m (λ s may. told s (left s may))) leaves
 
 -- a command that makes no call leaves what was there
 pub no_change : (g : Geometry) (s : Site) (before after : State) → s.loose ≡ no_loose → StandsFor g s.image before → LeavesOnly s s (LeavesEither g before after s.told)

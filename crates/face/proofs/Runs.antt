@@ -5,7 +5,9 @@ use Rattle.std.proofs.lemmas.List.{append-nil, length-map, length-take-le}
 use Rattle.record_model.specs.declared.words.CacheLine.{CacheLine}
 use Rattle.record_model.specs.State.{State}
 use Rattle.record_model.specs.Run.{Line, Turn, turn, replies, next_listing, later_listings, listings_after}
-use Rattle.shell_text.specs.Texts.{reply_text}
+use Rattle.record_model.specs.declared.words.Reply.{Reply}
+use Rattle.shell_text.specs.Texts.{reply_lines, reply_text}
+use Rattle.face.specs.Done.{lines_at}
 use Rattle.face.specs.RunMeaning.{first_texts, text_at, texts}
 use Rattle.face.specs.Run.{Run, answered, step, after_lines, first_lines, state_at, listings_left, listing_at, turns_of}
 use Rattle.face.proofs.Fronts.{lines_first, text_first}
@@ -36,12 +38,12 @@ joined_more [] i less = absurd (omega (arith, less))
 joined_more (x ∷ xs) zero less = append-nil x
 joined_more (x ∷ xs) (suc i) less = ap (λ (l : List ℕ). x ++ l) (joined_more xs i (omega (arith, less))) ∙ sym (append_assoc x (flat_map (λ (x : List ℕ). x) (take i xs)) (get_or xs i []))
 
--- a last turn's text
-last_text : (first : List Turn) (t : Turn) (i : ℕ) → length first ≡ i → get_or (map reply_text (replies (first ++ t ∷ []))) i [] ≡ reply_text t.reply
-last_text [] t zero long = refl
-last_text [] t (suc i) long = absurd (omega (arith, long))
-last_text (x ∷ first) t zero long = absurd (omega (arith, long))
-last_text (x ∷ first) t (suc i) long = last_text first t i (omega (arith, long))
+-- what a last turn tells
+last_of : {X : Type 0} (f : Reply → X) (none : X) (first : List Turn) (t : Turn) (i : ℕ) → length first ≡ i → get_or (map f (replies (first ++ t ∷ []))) i none ≡ f t.reply
+last_of f none [] t zero long = refl
+last_of f none [] t (suc i) long = absurd (omega (arith, long))
+last_of f none (x ∷ first) t zero long = absurd (omega (arith, long))
+last_of f none (x ∷ first) t (suc i) long = last_of f none first t i (omega (arith, long))
 
 module _ (run : Run) where
   pub texts_count : length (texts run) ≡ suc (length (answered run))
@@ -62,13 +64,17 @@ module _ (run : Run) where
     pub turns_next : turns_of (first_lines run (suc i)) ≡ turns_of (first_lines run i) ++ turn_at ∷ []
     turns_next = next_turn run.opening run.lines run.listings i line rest is
 
+    turns_long : length (turns_of (first_lines run i)) ≡ i
+    turns_long = let less = below (answered run) i line rest is in turns_count run.opening (take i run.lines) run.listings ∙ ap (λ (l : List Line). length l) (lines_first run i) ∙ length-take-le i (answered run) (omega (arith, less))
+
     pub text_next : text_at run (suc i) ≡ reply_text (step (state_at run i) line (listing_at run i)).reply
     text_next =
-        let less = below (answered run) i line rest is in
-        let long : length (turns_of (first_lines run i)) ≡ i = turns_count run.opening (take i run.lines) run.listings ∙ ap (λ (l : List Line). length l) (lines_first run i) ∙ length-take-le i (answered run) (omega (arith, less)) in
         sym (text_first run (suc i) (suc i) (omega arith))
         ∙ ap (λ (l : List Turn). get_or (map reply_text (replies l)) i []) turns_next
-        ∙ last_text (turns_of (first_lines run i)) turn_at i long
+        ∙ last_of reply_text [] (turns_of (first_lines run i)) turn_at i turns_long
+
+    pub lines_next : lines_at (first_lines run (suc i)) (suc i) ≡ reply_lines (step (state_at run i) line (listing_at run i)).reply
+    lines_next = ap (λ (l : List Turn). get_or (map reply_lines (replies l)) i []) turns_next ∙ last_of reply_lines [] (turns_of (first_lines run i)) turn_at i turns_long
 
     pub left_next : listings_left run (suc i) ≡ later_listings line (listings_left run i)
     left_next = left_more (answered run) run.listings i line rest is

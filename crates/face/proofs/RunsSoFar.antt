@@ -18,6 +18,7 @@ use Rattle.front_end.specs.declared.halt.Halt.{Halt}
 use Rattle.front_end.specs.declared.halt.Halt.TheVariants.{Output}
 use Rattle.front_end.specs.Texts.{status_of}
 use Rattle.front_end.specs.Lines.{HearsOnly}
+use Rattle.face.specs.Done.{TellsDone}
 use Rattle.face.specs.RunMeaning.{HasBegun, IsLeft, IsWhole, StandsAfter, first_texts, text_at}
 use Rattle.face.specs.Run.{Run, answered, first_lines, step, state_at, listing_at, StandsFor, StandsAt, LeavesAnswer}
 use Rattle.face.specs.Working.{StandsNear, Stops}
@@ -79,8 +80,9 @@ module _ (run : Run) (entry mid : Site) (leaves : LeavesOnly entry mid (LeavesTa
     pub opening_lost : IsQuiet new → Stops run 0 entry new Output
     opening_lost quiet = record { any_moment = opening; between = λ ne. absurd (ne refl); quiet = λ ne. quiet }
 
-    pub opened : {pool : ℕ} (engine : Engine) → HasServed pool run entry new engine 0 → new.told ≡ mid.told ++ text → RunInProgress pool run entry new engine 0
-    opened engine served told = record {
+    pub opened : {pool : ℕ} (engine : Engine) → HasServed pool run entry new engine 0 → new.told ≡ mid.told ++ text → EachMoment entry new (TellsDone pool run 0 [] entry) → RunInProgress pool run entry new engine 0
+    opened engine served told tells = record {
+      tells = tells;
       served = served;
       told = told ∙ (λ i. untold i ++ is i) ∙ ap (λ (l : List ℕ). entry.told ++ l) (sym (told_more run 0 (omega arith)));
       moments = opening;
@@ -93,6 +95,7 @@ moved pool run entry mid new engine i going goes hears = record {
   served = served_heard pool run entry mid engine i going.served new goes hears;
   told = hears.told ∙ going.told;
   moments = calm entry mid new (Leaves (IsLeft (first_lines run i) entry.told [])) going.moments hears.past (now_same mid new hears.told hears.image hears.loose);
+  tells = calm entry mid new (TellsDone pool run i [] entry) going.tells hears.past (now_same mid new hears.told hears.image hears.loose);
 }
 
 module _ {pool : ℕ} (run : Run) (entry mid : Site) (engine : Engine) (i : ℕ) (going : RunInProgress pool run entry mid engine i) where
@@ -179,8 +182,9 @@ module _ {pool : ℕ} (run : Run) (entry mid : Site) (engine : Engine) (i : ℕ)
           };
         }
 
-    pub goes_on : (engine' : Engine) → HasServed pool run entry new engine' (suc i) → new.told ≡ mid.told ++ reply_text (step (state_at run i) line (listing_at run i)).reply → RunInProgress pool run entry new engine' (suc i)
-    goes_on engine' served told = record {
+    pub goes_on : (engine' : Engine) → HasServed pool run entry new engine' (suc i) → new.told ≡ mid.told ++ reply_text (step (state_at run i) line (listing_at run i)).reply → EachMoment entry new (TellsDone pool run (suc i) [] entry) → RunInProgress pool run entry new engine' (suc i)
+    goes_on engine' served told tells = record {
+      tells = tells;
       served = served;
       told = told ∙ (λ j. told_suc j ++ sym (text_next run i line rest is) j)
           ∙ append_assoc entry.told (first_texts run (suc i)) (text_at run (suc i))

@@ -28,6 +28,7 @@ use Rattle.ring_machine.proofs.Works.{first_then}
 use Rattle.engine.specs.declared.engine.Engine.{Engine}
 use Rattle.engine.specs.Image.{IsSound, log_under}
 use Rattle.engine.specs.Listings.{QueueIsOnFlash}
+use Rattle.engine.specs.Invariant.{Invariant, sizes_of}
 use Rattle.engine.specs.Representation.{Matches}
 use Rattle.engine.specs.Paging.{HasLastFrom, WritesFrom, cache_on}
 use Rattle.engine.specs.RingWork.{machine_on}
@@ -37,6 +38,7 @@ use Rattle.front_end.specs.declared.halt.Halt.TheVariants as halt
 use Rattle.front_end.specs.Lines.{HearsOnly}
 use Rattle.face.specs.Carrying.{CarriesOut, DoesLine}
 use Rattle.face.specs.Run.{AsksFew, Run, answered, first_lines, listing_at, state_at, turns_of}
+use Rattle.face.specs.Done.{HasDone}
 use Rattle.face.specs.RunInProgress.{HasServed, IsPaged}
 use Rattle.face.specs.RunMeaning.{AsksNoMore, GivesNumbers}
 use Rattle.face.specs.Working.{Demands, asked_after, log_reads_after}
@@ -50,6 +52,16 @@ use Rattle.face.proofs.Runs.{below, state_next}
 use Rattle.face.proofs.WornFronts.{none_first}
 use Rattle.face.proofs.WornRuns.{none_mirrored, rings_left, rings_next}
 use Rattle.face.proofs.Writings.{engine_queue, images_heard, last_heard, last_works, writes_then}
+
+-- where the page cache and the machine of the rings have done the work of so many lines, the devices have it
+pub done_by : (pool : ℕ) (run : Run) (entry mid : Site) (engine : Engine) (i : ℕ) → QueueIsOnFlash → WhereItFits → Matches engine mid (state_at run i) → Invariant engine mid → sizes_of engine.store ≡ run.geometry
+    → ((newest : Option Master) (blocks : List (List LogRecord)) → IsSound newest run.geometry entry.image blocks → IsPaged pool run newest entry.image blocks engine i)
+    → ((newest : Option Master) (blocks : List (List LogRecord)) → IsSound newest run.geometry entry.image blocks → IsMirrored pool run newest entry.image blocks engine mid i) → AsksNoMore pool (first_lines run i) entry mid → HasDone pool (first_lines run i) entry.image mid.image
+done_by pool run entry mid engine i queue seen fits going geometry paged mirrored reads = record {
+  frames = λ newest blocks sound. paged_queue pool run newest entry.image blocks queue engine mid (state_at run i) i fits geometry (paged newest blocks sound);
+  versions = λ newest blocks sound. paged_versions pool run newest entry.image blocks seen engine mid i fits geometry (paged newest blocks sound);
+  rings = λ newest blocks sound. rings_left pool run newest blocks i engine entry mid mid.image (state_at run i) sound (paged newest blocks sound) reads (mirrored newest blocks sound) fits going geometry refl;
+}
 
 -- So many lines were carried out.
 module _ (pool : ℕ) (run : Run) (entry mid : Site) (engine : Engine) (i : ℕ) (so_far : HasServed pool run entry mid engine i) where
@@ -87,13 +99,13 @@ module _ (pool : ℕ) (run : Run) (entry mid : Site) (engine : Engine) (i : ℕ)
     staged = λ newest blocks sound. last_heard run.geometry r (asked_after run newest entry.image blocks i) start entry mid new same (so_far.staged newest blocks sound);
   }
 
+  -- their work is done
+  pub served_done : QueueIsOnFlash → WhereItFits → HasDone pool (first_lines run i) entry.image mid.image
+  served_done queue seen = done_by pool run entry mid engine i queue seen so_far.fits so_far.going so_far.geometry so_far.paged so_far.mirrored so_far.reads
+
   -- they are all
   pub served_all : {T : Type 0} → QueueIsOnFlash → WhereItFits → (x : T) → Demands pool (first_lines run i) entry mid (Ok x)
-  served_all queue seen x = demands_ok pool (first_lines run i) entry mid x none_worn
-      (λ newest blocks sound. paged_queue pool run newest entry.image blocks queue engine mid (state_at run i) i so_far.fits so_far.geometry (so_far.paged newest blocks sound))
-      (λ newest blocks sound. paged_versions pool run newest entry.image blocks seen engine mid i so_far.fits so_far.geometry (so_far.paged newest blocks sound))
-      so_far.staged
-      (λ newest blocks sound. rings_left pool run newest blocks i engine entry mid mid.image (state_at run i) sound (so_far.paged newest blocks sound) so_far.reads (so_far.mirrored newest blocks sound) so_far.fits so_far.going so_far.geometry refl)
+  served_all queue seen x = demands_ok pool (first_lines run i) entry mid x none_worn (served_done queue seen) so_far.staged
       (so_far.counted so_far.opens.newest so_far.opens.blocks so_far.opens.sound).calls
       (λ newest blocks sound. (so_far.counted newest blocks sound).numbers) so_far.reads
 

@@ -11,7 +11,7 @@ use Rattle.site.specs.declared.geometry.Geometry.{Geometry}
 use Rattle.site.specs.declared.outside.Failed.{Failed}
 use Rattle.site.specs.declared.outside.Stop.TheVariants.{Device, Memory, Worn, Foreign}
 use Rattle.mem_site.specs.Crash.{image_left, started}
-use Rattle.mem_site.specs.MemState.{limits_of, lives_of, state_of}
+use Rattle.mem_site.specs.MemState.{IsFresh, limits_of, lives_of, state_of}
 use Rattle.mem_site.specs.declared.mem.MemSite.{MemSite}
 use Rattle.workload.specs.declared.scripts.Life.{Life}
 use Rattle.workload.specs.declared.scripts.StopLine.{StopLine}
@@ -24,7 +24,7 @@ use Rattle.face.specs.Living.{Ends, Finds, HasLivedOne, IsGivenUp, IsHaltOfTrial
 use Rattle.face.specs.Run.{IsFront}
 use Rattle.front_end.specs.Tells.{Tells}
 use Rattle.front_end.specs.Texts.{fault_line, status_of}
-use Rattle.face.specs.Trial.{Between, HaveLived, IsLife, IsNewSite, IsStatus, Lives, TellsAll, TellsSome, TrialCauses, TrialContract, at_first, is_within, life_line, numbers_of, script_limit}
+use Rattle.face.specs.Trial.{Between, HaveLived, IsCut, IsLife, IsLived, IsNewSite, IsStatus, Lives, TellsAll, TellsSome, TrialCauses, TrialContract, at_first, is_within, life_line, numbers_of, script_limit}
 use Rattle.front_end.proofs.Endings.{ends_with}
 use Rattle.face.proofs.Longer.{front_more}
 
@@ -138,20 +138,24 @@ on_err P (Err e) p = p
 -- One life more.
 
 -- What stands behind a life that is over, where this is what it leaves.
-pub record Behind (g : Geometry) (number : ℕ) (octets : List ℕ) (stop : Option (ℕ × ℕ)) (before : Between) (text : List ℕ) (status changes : ℕ) (image : Image) : Type 0 where
+pub record Behind (g : Geometry) (number : ℕ) (octets : List ℕ) (stop : Option (ℕ × ℕ)) (before : Between) (site : Site) (status changes : ℕ) (image : Image) : Type 0 where
   pub after : Between
   pub life : IsLife g number octets stop before after
-  pub told : after.told ≡ before.told ++ (text ++ life_line number status)
+  pub over : life.over ≡ site
+  pub found : after.image ≡ image
+  pub told : after.told ≡ before.told ++ (site.told ++ life_line number status)
   pub counted : after.changes ≡ before.changes ++ changes ∷ []
   pub finds : (site : Site) → IsTrue site.honest → site.loose ≡ no_loose → site.image ≡ image → Finds g after.table after.commits site
 
-pub behind : (g : Geometry) (number : ℕ) (octets : List ℕ) (stop : Option (ℕ × ℕ)) (before : Between) (status changes : ℕ) (site : Site) (image : Image) → HasLivedOne g before octets status site →
-    IsStatus (is_within stop changes) status → MayLeave (now_of site) (record { told = site.told; image = image }) → Behind g number octets stop before site.told status changes image
-behind g number octets stop before status changes site image lived is_status may =
+pub behind : (g : Geometry) (number : ℕ) (octets : List ℕ) (stop : Option (ℕ × ℕ)) (before : Between) (status changes : ℕ) (site : Site) (image : Image) → HasLivedOne g before octets status site → IsLived octets stop before site →
+    IsStatus (is_within stop changes) status → MayLeave (now_of site) (record { told = site.told; image = image }) → Behind g number octets stop before site status changes image
+behind g number octets stop before status changes site image lived ran is_status may =
     let found = lived.left image may in
     record {
-      after = record { told = before.told ++ (site.told ++ life_line number status); changes = before.changes ++ changes ∷ []; table = found.table; commits = found.commits };
-      life = record { listings = lived.listings; text = site.told; status = status; is_text = lived.is_text; told = refl; changes = changes; is_status = is_status; counted = refl; goes_on = found.goes_on };
+      after = record { told = before.told ++ (site.told ++ life_line number status); changes = before.changes ++ changes ∷ []; image = image; table = found.table; commits = found.commits };
+      over = refl;
+      found = refl;
+      life = record { listings = lived.listings; over = site; lived = ran; text = site.told; text_is = refl; status = status; is_text = lived.is_text; told = refl; changes = changes; is_status = is_status; counted = refl; goes_on = found.goes_on };
       told = refl;
       counted = refl;
       finds = found.finds;
@@ -174,8 +178,8 @@ none_yet blank g script old inner new =
       lived = refl;
       ready = record {
         finds = subst (Finds g (blank_table g) 0) (sym state) (record { honest = refl; quiet = refl; opens = (blank g new.limits).1 });
-        told = ap (λ (s : Site). s.told) state;
-        left = ap (λ (s : Site). s.input.left) state;
+        fresh = new.fresh;
+        state = state;
       };
       numbers = new.lives;
       count = refl;
@@ -184,15 +188,15 @@ none_yet blank g script old inner new =
 
 -- the site of the life that is over, and how it ended
 module _ (g : Geometry) (script : List ℕ) (place : ℕ) (old mid : Site) (inner lived : MemSite) (r : Reached g script place old mid inner) (numbers : lives_of lived ≡ lives_of inner) where
-  module _ (life : Life) (is_life : slice_get (lives_in script) place ≡ Some life) (status : ℕ) (one : HasLivedOne g r.before (slice_range script life.start life.end) status (state_of lived)) (is_status : IsStatus (is_within life.stop (limits_of lived).changes) status) where
+  module _ (life : Life) (is_life : slice_get (lives_in script) place ≡ Some life) (status : ℕ) (one : HasLivedOne g r.before (slice_range script life.start life.end) status (state_of lived)) (ran : IsLived (slice_range script life.start life.end) life.stop r.before (state_of lived)) (is_status : IsStatus (is_within life.stop (limits_of lived).changes) status) where
     abbrev text : List ℕ
     text = (state_of lived).told
 
     abbrev changes : ℕ
     changes = (limits_of lived).changes
 
-    here : Behind g (place + 1) (slice_range script life.start life.end) life.stop r.before text status changes (state_of lived).image
-    here = behind g (place + 1) (slice_range script life.start life.end) life.stop r.before status changes (state_of lived) (state_of lived).image one is_status (now_leaves (state_of lived))
+    here : Behind g (place + 1) (slice_range script life.start life.end) life.stop r.before (state_of lived) status changes (state_of lived).image
+    here = behind g (place + 1) (slice_range script life.start life.end) life.stop r.before status changes (state_of lived) (state_of lived).image one ran is_status (now_leaves (state_of lived))
 
     pub told_in_part : (new : Site) (rest : List ℕ) → new.told ≡ mid.told ++ rest → IsFront rest (text ++ life_line (place + 1) status) → TellsSome g script old new (numbers_of lived)
     told_in_part new rest told front = record {
@@ -210,17 +214,18 @@ module _ (g : Geometry) (script : List ℕ) (place : ℕ) (old mid : Site) (inne
     pub told_last : (new : Site) → new.told ≡ mid.told ++ (text ++ life_line (place + 1) status) → life.stop ≡ None → TellsAll g script old new (numbers_of lived)
     told_last new told none = record {
       last = here.after;
-      lived = subst (λ (n : ℕ). HaveLived g script n here.after) (last_life script place life is_life none) (r.before, r.lived, (life, is_life, here.life));
+      lived = subst (λ (n : ℕ). HaveLived g script n here.after) (last_life script place life is_life none) (r.before, r.lived, (life, is_life, here.life), subst (λ (o : Option (ℕ × ℕ)). IsCut o here.life.over here.after.image) (sym none) tt);
       told = told ∙ ap (λ (l : List ℕ). l ++ (text ++ life_line (place + 1) status)) r.told ∙ append_assoc old.told r.before.told _ ∙ ap (λ (l : List ℕ). old.told ++ l) (sym here.told);
       numbers_are = ap (λ (l : List ℕ). l ++ changes ∷ []) (numbers ∙ r.numbers) ∙ sym here.counted;
     }
 
-    module _ (stop : ℕ × ℕ) (some : life.stop ≡ Some stop) (seed : ℕ) (cut : MemSite)
-        (state : state_of cut ≡ started (0 ∷ 0 ∷ lives_of cut) (image_left seed (state_of lived).loose (state_of lived).image))
+    module _ (stop : ℕ × ℕ) (some : life.stop ≡ Some stop) (cut : MemSite)
+        (state : state_of cut ≡ started (0 ∷ 0 ∷ lives_of cut) (image_left stop.1 (state_of lived).loose (state_of lived).image))
+        (fresh : IsFresh cut)
         (left : MayLeave (now_of (state_of lived)) (record { told = (state_of lived).told; image = (state_of cut).image }))
         (all : lives_of cut ≡ drop (length (lives_of lived ++ changes ∷ []) - 31) (lives_of lived ++ changes ∷ [])) where
-      next : Behind g (place + 1) (slice_range script life.start life.end) life.stop r.before text status changes (state_of cut).image
-      next = behind g (place + 1) (slice_range script life.start life.end) life.stop r.before status changes (state_of lived) (state_of cut).image one is_status left
+      next : Behind g (place + 1) (slice_range script life.start life.end) life.stop r.before (state_of lived) status changes (state_of cut).image
+      next = behind g (place + 1) (slice_range script life.start life.end) life.stop r.before status changes (state_of lived) (state_of cut).image one ran is_status left
 
       more : suc place < length (lives_in script)
       more = more_lives script place life stop is_life some
@@ -236,16 +241,44 @@ module _ (g : Geometry) (script : List ℕ) (place : ℕ) (old mid : Site) (inne
       pub goes_on : (new : Site) → new.told ≡ mid.told ++ (text ++ life_line (place + 1) status) → Reached g script (place + 1) old new cut
       goes_on new told = subst (λ (n : ℕ). Reached g script n old new cut) (sym (add-one place)) (record {
         before = next.after;
-        lived = (r.before, r.lived, (life, is_life, next.life));
+        lived = (
+          r.before,
+          r.lived,
+          (life, is_life, next.life),
+          subst (λ (o : Option (ℕ × ℕ)). IsCut o next.life.over next.after.image) (sym some)
+              (next.found ∙ ap (λ (s : Site). s.image) state ∙ ap (λ (s : Site). image_left stop.1 s.loose s.image) (sym next.over)),
+        );
         ready = record {
           finds = next.finds (state_of cut) refl (ap (λ (s : Site). s.loose) state) refl;
-          told = ap (λ (s : Site). s.told) state;
-          left = ap (λ (s : Site). s.input.left) state;
+          fresh = fresh;
+          state = state ∙ (λ i. started (0 ∷ 0 ∷ (kept ∙ sym next.counted) i) (sym (next.found ∙ ap (λ (s : Site). s.image) state) i));
         };
         numbers = kept ∙ sym next.counted;
         count = ap length next.counted ∙ length-append r.before.changes (changes ∷ []) ∙ ap (λ (n : ℕ). n + 1) r.count ∙ add-one place;
         told = told ∙ ap (λ (l : List ℕ). l ++ (text ++ life_line (place + 1) status)) r.told ∙ append_assoc old.told r.before.told _ ∙ ap (λ (l : List ℕ). old.told ++ l) (sym next.told);
       })
+
+-- The script is read, and nothing is told meanwhile.
+
+given_up_since : (g : Geometry) (script : List ℕ) (old mid new : Site) (numbers : List ℕ) → mid.told ≡ old.told → IsGivenUp g script mid new numbers → IsGivenUp g script old new numbers
+given_up_since g script old mid new numbers same e = record { lives = e.lives; before = e.before; lived = e.lived; told = e.told ∙ ap (λ (l : List ℕ). l ++ e.before.told) same; changes = e.changes; numbers_are = e.numbers_are }
+
+pub ends_since : {T : Type 0} (g : Geometry) (script : List ℕ) (r : Result T Halt) (old mid new : Site) (numbers : List ℕ) → mid.told ≡ old.told → Ends g script r mid new numbers → Ends g script r old new numbers
+ends_since g script (Ok x) old mid new numbers same e = record { last = e.last; lived = e.lived; told = e.told ∙ ap (λ (l : List ℕ). l ++ e.last.told) same; numbers_are = e.numbers_are }
+ends_since g script (Err halt.Output) old mid new numbers same e = record {
+  lives = e.lives;
+  before = e.before;
+  lived = e.lived;
+  after = e.after;
+  next = e.next;
+  rest = e.rest;
+  told = e.told ∙ ap (λ (l : List ℕ). l ++ (e.before.told ++ e.rest)) same;
+  front = e.front;
+  numbers_are = e.numbers_are;
+}
+ends_since g script (Err (halt.Stop stop)) old mid new numbers same e = given_up_since g script old mid new numbers same e
+ends_since g script (Err halt.Input) old mid new numbers same e = given_up_since g script old mid new numbers same e
+ends_since g script (Err halt.Limit) old mid new numbers same e = given_up_since g script old mid new numbers same e
 
 -- Before the first life.
 

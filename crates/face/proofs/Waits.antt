@@ -1,11 +1,13 @@
 -- When input is asked for.
 use Rattle.std.proofs.Common.{◌≡◌, ℕ, ◌+◌, ◌≤◌, false, List, [], ◌++◌, length, take, sym, ◌∙◌, ap, subst, arith, append_assoc, length-append}
+use Rattle.std.specs.List.{list_any}
 use Rattle.std.proofs.lemmas.List.{append-nil}
 use Rattle.std_lemmas.proofs.AllOf.{all_append, all_weaker}
 use Rattle.site.specs.State.{Input, State as Site}
 use Rattle.site.specs.declared.outside.Take.{Take}
 use Rattle.front_end.specs.declared.source.Source.{Source}
-use Rattle.front_end.specs.Lines.{answered_of, pending, to_hear, IsSource, TookWithin, TakesWithin}
+use Rattle.record_model.specs.Run.{is_quit}
+use Rattle.front_end.specs.Lines.{answered_of, commands_of, pending, to_hear, IsSource, TookWithin, TakesWithin}
 use Rattle.face.specs.RunMeaning.{first_texts}
 use Rattle.face.specs.Run.{Run}
 use Rattle.face.specs.Waiting.{IsAnswered}
@@ -81,4 +83,5 @@ answers_next run old mid new source i cut is_source told answers takes = record 
               let same : 1 + length (answered_of false (take heard old.input.left)) ≡ i + 1 = omega (arith, count) in
               let is : length (old.told ++ first_texts run (1 + length (answered_of false (take heard old.input.left)))) ≡ t.told = ap (λ (n : ℕ). length (old.told ++ first_texts run n)) same ∙ ap length (sym told) ∙ sym took.told in
               omega (arith, is);
+          going = let whole = whole_before old.input.left source mid i cut is_source took.octets took.rest took.none took.all took.going in ap (λ (l : List ℕ). list_any is_quit (commands_of false l)) whole.0 ∙ whole.2;
         }

@@ -40,7 +40,6 @@ use Rattle.engine.specs.declared.engine.Engine.{Engine}
 use Rattle.engine.specs.Image.{IsSound}
 use Rattle.engine.specs.Paging.{cache_on}
 use Rattle.engine.specs.RingWork.{machine_on}
-use Rattle.front_end.specs.declared.halt.Halt.TheVariants as halt
 use Rattle.front_end.specs.Lines.{up_to_quit}
 use Rattle.face.specs.Run.{Run, after_lines, answered, first_lines, state_at, step, turns_of}
 use Rattle.face.specs.RunInProgress.{IsPaged}

@@ -1,10 +1,11 @@
 -- What carrying out a line says.
-use Rattle.std.specs.Prelude.{◌≡◌, ◌≢◌, ℕ, ◌+◌, ◌++◌, ◌≤◌, List, [], IsTrue, Result, Ok, Err, IfOk, IfErr, OnOk}
-use Rattle.std.specs.Prelude.{IsErrOf, Some, ⊤}
+use Rattle.std.specs.Prelude.{◌≡◌, ◌≢◌, ◌⊎◌, ℕ, ◌+◌, ◌++◌, ◌≤◌, List, [], IsTrue, Result, Ok, Err, IfOk, IfErr, OnOk}
+use Rattle.std.specs.Prelude.{IsErrOf, Some, ⊤, take}
+use Rattle.std.specs.List.{concat}
 use Rattle.site.specs.declared.outside.Dev.{Dev}
 use Rattle.site.specs.declared.outside.Stop.{Stop}
 use Rattle.site.specs.declared.outside.Stop.TheVariants.{Device, Worn}
-use Rattle.site.specs.State.{State as Site, IsQuiet}
+use Rattle.site.specs.State.{State as Site, IsQuiet, Moment}
 use Rattle.site.specs.Calls.{Preserves}
 use Rattle.site.specs.Moments.{LeavesOnly}
 use Rattle.record_model.specs.declared.words.CacheLine.{CacheLine}
@@ -105,3 +106,18 @@ pub record TellsAnswer {T : Type 0} (result : Result T Halt) (g : Geometry) (s :
   pub any_moment : LeavesOnly old new (LeavesAnswer g s o.after (reply_text o.reply) old.told)
   pub told : OnOk result (new.told ≡ old.told ++ reply_text o.reply)
   pub untold : IfErr result (λ h. h ≢ halt.Output → new.told ≡ old.told)
+
+-- Within a tell the line is carried out, and the devices are as it has left them. Of its reply, which has these lines,
+-- some are told whole, with what is being told.
+pub record TellsCarried (line : Line) (before after : Engine) (lines : List (List ℕ)) (old : Site) (moment : Moment)
+    : Type 0 where
+  pub whole : ℕ
+  pub told : moment.told ++ moment.telling ≡ old.told ++ concat (take whole lines)
+  pub reply : Reply
+  pub mid : Site
+  pub course : CarriesOut (Ok reply) line before after old mid
+  pub image : moment.image ≡ mid.image
+
+abbrev pub HandsReply : Line → Engine → Engine → List (List ℕ) → Site → Moment → Type 0
+HandsReply line before after lines old moment =
+    (moment.telling ≡ []) ⊎ TellsCarried line before after lines old moment

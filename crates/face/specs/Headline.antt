@@ -3,7 +3,7 @@ use Rattle.std.specs.Prelude.{◌≡◌, ◌≢◌, ◌⊎◌, ℕ, ◌+◌, Boo
 use Rattle.site.specs.State.{State as Site, no_loose}
 use Rattle.site.specs.declared.outside.Dev.{Dev}
 use Rattle.site.specs.declared.outside.Stop.TheVariants.{Worn}
-use Rattle.site.specs.Moments.{LeavesOnly}
+use Rattle.site.specs.Moments.{EachMoment, LeavesOnly}
 use Rattle.site.specs.declared.geometry.Geometry.{Geometry}
 use Rattle.record_model.specs.declared.words.CacheLine.{CacheLine}
 use Rattle.record_model.specs.State.{State}
@@ -13,6 +13,7 @@ use Rattle.front_end.specs.Texts.{IsLineOf, fault_line, status_of}
 use Rattle.image_changes.specs.Costs.{CallsForUnits}
 use Rattle.engine.specs.Image.{Opens}
 use Rattle.face.specs.Causes.{HasCause}
+use Rattle.face.specs.Done.{HasDone, TellsDone}
 use Rattle.front_end.specs.Tells.{EndsWith, EndsBehind}
 use Rattle.std.specs.List.{list_any}
 use Rattle.record_model.specs.Run.{Turn, is_quit}
@@ -22,9 +23,8 @@ use Rattle.front_end.specs.Lines.{HeardAll, limit, commands_of}
 use Rattle.face.specs.Run.{Run, IsFront, first_lines, turns_of}
 use Rattle.face.specs.RunMeaning.{run_of, texts, run_text, IsLeft, IsWhole}
 use Rattle.face.specs.Waiting.{NobodyWaits}
-use Rattle.face.specs.RunMeaning.{LeavesItsQueue, LeavesVersions, SkipsNoNumber, AsksNoMore, ListsTheMachine, HasBegun}
-use Rattle.face.specs.RunMeaning.{LeavesStaged, WritesAsTold}
-use Rattle.face.specs.Worn.{LeavesItsRings, WearsFirst, WearsNone, WearsNoneBefore}
+use Rattle.face.specs.RunMeaning.{SkipsNoNumber, AsksNoMore, ListsTheMachine, HasBegun, LeavesStaged, WritesAsTold}
+use Rattle.face.specs.Worn.{WearsFirst, WearsNone, WearsNoneBefore}
 
 -- an honest and quiet site, whose image is sound, and over which a run opens with this state
 pub record IsGood (g : Geometry) (opening : State) (site : Site) : Type 0 where
@@ -106,12 +106,8 @@ pub record Resources (pool : ℕ) (run : Run) (begun : ℕ) (fault : List ℕ) (
   -- and whatever the status, there is none for those in front of the last of them: no line is begun behind one that
   -- finds such a ring
   pub earlier : WearsNoneBefore pool run begun old.image
-  -- with 0 the frames on flash are those that the cache machine has in its queue
-  pub frames : status ≡ 0 → LeavesItsQueue pool run old.image new.image
-  -- and the versions of pages that its pool doesn't hold as changed show what is seen of each record
-  pub versions : status ≡ 0 → LeavesVersions pool run old.image new.image
-  -- and the rings have as many units as the machine of the rings appends
-  pub rings : status ≡ 0 → LeavesItsRings pool run old.image new.image
+  -- with 0 what they ask is done
+  pub done : status ≡ 0 → HasDone pool run old.image new.image
   -- and each page that it has staged is on the disk as the frame that was staged last
   pub staged : status ≡ 0 → LeavesStaged pool run old new
   -- and no more calls were made than its units and its texts need
@@ -133,6 +129,8 @@ pub record RunResources (pool : ℕ) (run : Run) (fault : List ℕ) (old new : S
   pub listed : ListsTheMachine pool (first_lines run begun) old.image
   -- and no snapshot is written by lines that weren't begun by what it has told
   pub written : WritesAsTold pool run begun old new
+  -- nothing is told but what is done, nor less at a time than is left of a line
+  pub tells : EachMoment old new (TellsDone pool run begun fault old)
 
 -- its transactions are in serial order, and so is what it tells of them
 pub record SerialOrder (run : Run) : Type 0 where

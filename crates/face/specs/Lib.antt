@@ -1,5 +1,6 @@
 pub mod Carrying
 pub mod Causes
+pub mod Done
 pub mod RunInProgress
 pub mod Headline
 pub mod Hearing

@@ -4,7 +4,8 @@ use Rattle.site.specs.State.{State as Site, Image, MayLeave, no_loose, now_of}
 use Rattle.site.specs.Calls.{Preserves, SameReads}
 use Rattle.site.specs.declared.geometry.Geometry.{Geometry}
 use Rattle.site.specs.declared.outside.Stop.TheVariants.{Memory}
-use Rattle.mem_site.specs.MemState.{state_of}
+use Rattle.mem_site.specs.Crash.{started}
+use Rattle.mem_site.specs.MemState.{IsFresh, state_of}
 use Rattle.mem_site.specs.declared.mem.MemSite.{MemSite}
 use Rattle.record_model.specs.declared.words.CacheLine.{CacheLine}
 use Rattle.record_model.specs.State.{Content, opened}
@@ -27,8 +28,8 @@ Finds g table commits site = IsGood g (opened table commits 0 (g.blocks - 1)) si
 -- a life may begin on the site
 pub record IsReady (g : Geometry) (before : Between) (m : MemSite) : Type 0 where
   pub finds : Finds g before.table before.commits (state_of m)
-  pub told : (state_of m).told ≡ []
-  pub left : (state_of m).input.left ≡ []
+  pub fresh : IsFresh m
+  pub state : state_of m ≡ started (0 ∷ 0 ∷ before.changes) before.image
 
 -- each honest and quiet site with these contents is found so by a run, after some of the commits of this one
 pub record IsFoundAfter (g : Geometry) (run : Run) (text : List ℕ) (image : Image) : Type 0 where

@@ -1,8 +1,9 @@
 -- What a load does, and what a crash at any moment leaves of it.
-use Rattle.std.specs.Prelude.{◌≡◌, ◌≢◌, ◌⊎◌, ℕ, ◌-◌, ◌≤◌, List, [], ◌++◌, length}
+use Rattle.std.specs.Prelude.{◌≡◌, ◌≢◌, ◌⊎◌, ℕ, ◌-◌, ◌≤◌, List, [], ◌∷◌, ◌++◌, length, take}
 use Rattle.std.specs.Prelude.{Result, IfErr, OnOk}
-use Rattle.site.specs.State.{State as Site, Snapshot, MayLeave, now_of, no_loose}
-use Rattle.site.specs.Moments.{LeavesOnly}
+use Rattle.std.specs.List.{concat}
+use Rattle.site.specs.State.{State as Site, Moment, Snapshot, MayLeave, now_of, no_loose}
+use Rattle.site.specs.Moments.{EachMoment, LeavesOnly}
 use Rattle.site.specs.declared.geometry.Geometry.{Geometry}
 use Rattle.record_model.specs.State.{State}
 use Rattle.record_model.specs.Run.{commit_marks, commits_among}
@@ -10,6 +11,7 @@ use Rattle.engine.specs.declared.engine.Engine.{Engine}
 use Rattle.front_end.specs.declared.halt.Halt.{Halt}
 use Rattle.front_end.specs.declared.halt.Halt.TheVariants.{Output}
 use Rattle.command_line.specs.declared.request.Load.{Load}
+use Rattle.face.specs.Done.{TellsFaultLine, TellsWhenDone}
 use Rattle.face.specs.RunInProgress.{HasServed}
 use Rattle.face.specs.Headline.{IsFaultOf, Resources}
 use Rattle.front_end.specs.Tells.{EndsBehind}
@@ -50,6 +52,17 @@ pub record HasBegunLoad (run : Run) (begun : ℕ) (old now : Site) : Type 0 wher
   pub stands : (s : Snapshot) → MayLeave (now_of now) s →
       (k : ℕ) × (commits_among (begun - 1) (commit_marks (turns_of run)) ≤ k) × StandsAfter run k s.image
 
+-- within a tell the opening is told, and restart is done
+abbrev pub TellsOpening : ℕ → Run → Site → Moment → Type 0
+TellsOpening pool run old moment = (moment.telling ≡ [])
+    ⊎ ((whole : ℕ) × TellsWhenDone pool (first_lines run 0) (concat (take whole (opening_text run ∷ []))) old moment)
+
+-- or the summary, and all lines are done; or the fault line
+abbrev pub LoadTellsDone : ℕ → Run → List ℕ → List ℕ → Site → Moment → Type 0
+LoadTellsDone pool run summary fault old moment =
+    TellsOpening pool run old moment ⊎ (TellsWhenDone pool run (opening_text run ++ summary) old moment
+    ⊎ TellsFaultLine (opening_text run ∷ summary ∷ []) fault old moment)
+
 -- What a load leaves that opens with this state, and what a crash at any moment of it leaves.
 pub record LoadDurability (load : Load) (g : Geometry) (opening : State) (old new : Site) (status : ℕ) : Type 0 where
   -- the fault line of the status
@@ -79,6 +92,10 @@ pub record LoadHeadline (load : Load) (g : Geometry) (opening : State) (old new 
   pub durability : LoadDurability load g opening old new status
   pub caused : IsFaultOf status durability.fault old new
   pub resources : LoadResources load.pool (load_run g opening load) durability.fault old new status
+  -- nothing is told but what is done, nor less at a time than is left of a line
+  pub tells : EachMoment old new
+      (LoadTellsDone load.pool (load_run g opening load) (summary_text (load_run g opening load) load)
+      durability.fault old)
 
 -- What comes of a load before its fault line. The summary is the empty text as long as it isn't to be told.
 
@@ -126,4 +143,5 @@ pub record LoadInProgress (pool : ℕ) (run : Run) (entry now : Site) (engine : 
   pub open served use *
   pub told : now.told ≡ entry.told ++ opening_text run
   pub moments : LeavesOnly entry now (IsLeftOf run [] [] entry.told)
+  pub tells : EachMoment entry now (TellsOpening pool run entry)
   pub left : now.input ≡ entry.input

@@ -2,7 +2,7 @@
 use Rattle.std.specs.Prelude.{◌≡◌, ℕ, ◌+◌, ◌≤◌, [], ◌++◌, List, length, Option, IsTrue, ⊤, Err}
 use Rattle.site.specs.State.{State as Site, Image, no_loose}
 use Rattle.site.specs.Calls.{Preserves}
-use Rattle.site.specs.Moments.{LeavesOnly}
+use Rattle.site.specs.Moments.{EachMoment, LeavesOnly}
 use Rattle.site.specs.Geometry.{HasLimits, HasLengths}
 use Rattle.site.specs.declared.geometry.Geometry.{Geometry}
 use Rattle.record_model.specs.State.{State, Content}
@@ -23,6 +23,7 @@ use Rattle.front_end.specs.Faults.{SameFaults}
 use Rattle.log_records.specs.Log.{Entry}
 use Rattle.redo_laws.specs.Holding.{blocks_to}
 use Rattle.image_changes.specs.Costs.{CallsForUnits}
+use Rattle.face.specs.Done.{TellsDone}
 use Rattle.face.specs.RunMeaning.{AsksNoMore, GivesNumbers, IsLeft, LeavesStaged, ListsTheMachine, WritesAsTold}
 use Rattle.face.specs.RunMeaning.{blocks_by, first_texts}
 use Rattle.face.specs.Run.{Run, Begins, answered, first_lines, state_at, listings_left}
@@ -81,10 +82,12 @@ pub record RunInProgress (pool : ℕ) (run : Run) (entry now : Site) (engine : E
   pub open served use *
   pub told : now.told ≡ entry.told ++ first_texts run (lines + 1)
   pub moments : LeavesOnly entry now (IsLeft (first_lines run lines) entry.told [])
+  pub tells : EachMoment entry now (TellsDone pool run lines [] entry)
 
 -- it never opened
 pub record NeverOpens (pool : ℕ) (run : Run) (entry now : Site) (halt : Halt) : Type 0 where
   pub stops : Stops run 0 entry now halt
+  pub tells : EachMoment entry now (TellsDone pool run 0 [] entry)
   pub demands : Demands {T = ⊤} pool (first_lines run 0) entry now (Err halt)
 
 -- The lines were heard and answered, and these listings of the cache are left for those behind them.

@@ -1,14 +1,16 @@
 -- Lives of one database, one after the other, a power cut behind each but the last: lines told, and the record table.
 use Rattle.std.specs.Prelude.{◌≡◌, ◌≢◌, ◌⊎◌, ℕ, zero, suc, ◌+◌, ◌-◌, ◌<◌, ◌≤◌, Bool, true, false, ◌&&◌, nat_le, List}
 use Rattle.std.specs.Prelude.{[], ◌∷◌}
-use Rattle.std.specs.Prelude.{◌++◌, length, slice_get, slice_range, Option, Some, None, IsTrue, codes, decimal}
-use Rattle.site.specs.State.{State as Site}
-use Rattle.site.specs.Calls.{Rose, SameReads}
+use Rattle.std.specs.Prelude.{◌++◌, length, slice_get, slice_range, Option, Some, None, IsTrue, codes, decimal, ⊤}
+use Rattle.std.specs.Prelude.{option_map}
+use Rattle.site.specs.State.{State as Site, Image, no_input}
+use Rattle.site.specs.Calls.{Preserves, Rose, SameReads}
 use Rattle.site.specs.Moments.{EachMoment}
 use Rattle.site.specs.Geometry.{HasLimits, blank_image}
 use Rattle.site.specs.declared.geometry.Geometry.{Geometry}
-use Rattle.mem_site.specs.Crash.{started}
-use Rattle.mem_site.specs.MemState.{IsFresh, limits_of, lives_of, state_of}
+use Rattle.mem_site.specs.Crash.{image_left, started}
+use Rattle.mem_site.specs.Limits.{code_of}
+use Rattle.mem_site.specs.MemState.{IsFresh, fed, limits_of, lives_of, state_of}
 use Rattle.mem_site.specs.declared.mem.MemSite.{MemSite}
 use Rattle.record_model.specs.declared.words.CacheLine.{CacheLine}
 use Rattle.record_model.specs.State.{Content, opened}
@@ -17,22 +19,24 @@ use Rattle.workload.specs.declared.scripts.Life.{Life}
 use Rattle.workload.specs.Scripts.{lives_of as lives_in}
 use Rattle.front_end.specs.declared.halt.Halt.{Halt}
 use Rattle.face.specs.Image.{blank_table}
+use Rattle.face.specs.TopCall.{RunContract}
 use Rattle.face.specs.RunMeaning.{IsToldOf, run_of, run_text, texts}
 use Rattle.face.specs.Run.{IsFront, Run, turns_of}
 use Rattle.front_end.specs.Tells.{EndsWith}
 use Rattle.front_end.specs.Texts.{IsLineOf, fault_line, status_of}
 
--- What stands between two lives: what was told of those before, how many changes each of them asked for, and the table
--- and the number of commits that the next one finds.
+-- What stands between two lives: what was told of those before, how many changes each of them asked for, and the
+-- devices' contents that the next one finds, with the table and the number of commits that they stand for.
 pub record Between : Type 0 where
   pub told : List ℕ
   pub changes : List ℕ
+  pub image : Image
   pub table : List Content
   pub commits : ℕ
 
--- the first one finds the table without values
+-- the first one finds blank devices, and the table without values
 abbrev pub at_first : Geometry → Between
-at_first g = record { told = []; changes = []; table = blank_table g; commits = 0 }
+at_first g = record { told = []; changes = []; image = blank_image g; table = blank_table g; commits = 0 }
 
 -- The run of a life: it opens with what it finds, has the lines of these octets to answer, and the cache lists this.
 abbrev pub life_run : Geometry → Between → List ℕ → List (List CacheLine) → Run
@@ -63,6 +67,26 @@ pub record GoesOn (run : Run) (text : List ℕ) (table : List Content) (commits 
   pub table_is : table ≡ after_commits run.opening.table (turns_of run) k
   pub commits_are : commits ≡ run.opening.commits + k
 
+-- what a site in memory keeps as a life begins: a fuse that lets K changes pass, where a stop line says so, and the
+-- numbers of changes of the lives before
+abbrev pub kept_by : Option (ℕ × ℕ) → List ℕ → List ℕ
+kept_by stop changes = code_of (option_map (λ s. s.0) stop) ∷ 0 ∷ changes
+
+-- A life is a run over a site in memory with these octets on its input: it begins with what was found, and that fuse.
+-- `over` is the site as the life leaves it.
+pub record IsLived (octets : List ℕ) (stop : Option (ℕ × ℕ)) (before : Between) (over : Site) : Type 0 where
+  pub pool : ℕ
+  pub status : ℕ
+  pub begun : Site
+  pub begins : begun ≡ record (started (kept_by stop before.changes) before.image) { input = fed octets no_input }
+  pub runs : RunContract pool begun over status
+  pub keeps : Preserves begun over
+
+-- and behind a stop line the devices have what a crash with its SEED leaves
+abbrev pub IsCut : Option (ℕ × ℕ) → Site → Image → Type 0
+IsCut None over image = ⊤
+IsCut (Some stop) over image = image ≡ image_left stop.1 over.loose over.image
+
 -- the line that ends what is told of a life
 abbrev pub life_line : ℕ → ℕ → List ℕ
 life_line number status = codes "life " ++ decimal number ++ codes " status " ++ decimal status ++ codes "\n"
@@ -72,7 +96,10 @@ life_line number status = codes "life " ++ decimal number ++ codes " status " ++
 pub record IsLife (g : Geometry) (number : ℕ) (octets : List ℕ) (stop : Option (ℕ × ℕ)) (before after : Between)
     : Type 0 where
   pub listings : List (List CacheLine)
+  pub over : Site
+  pub lived : IsLived octets stop before over
   pub text : List ℕ
+  pub text_is : over.told ≡ text
   pub status : ℕ
   pub is_text : IsTextOf (life_run g before octets listings) status text
   pub told : after.told ≡ before.told ++ (text ++ life_line number status)
@@ -91,7 +118,8 @@ IsNext g script lives before after = (life : Life) × (slice_get (lives_in scrip
 abbrev pub HaveLived : Geometry → List ℕ → ℕ → Between → Type 0
 HaveLived g script zero after = after ≡ at_first g
 HaveLived g script (suc lives) after =
-    (before : Between) × HaveLived g script lives before × IsNext g script lives before after
+    (before : Between) × HaveLived g script lives before × (next : IsNext g script lives before after)
+    × IsCut next.0.stop next.2.over after.image
 
 -- All lives of the script are told, and asked for these numbers of changes.
 pub record TellsAll (g : Geometry) (script : List ℕ) (old new : Site) (numbers : List ℕ) : Type 0 where

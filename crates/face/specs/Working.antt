@@ -2,7 +2,7 @@
 use Rattle.std.specs.Prelude.{◌≡◌, ◌≢◌, ℕ, ◌+◌, ◌-◌, ◌≤◌, ◌++◌, Bool, true, false, List, [], length, take, Option}
 use Rattle.std.specs.Prelude.{Result, Err, IfErr, IsErrOf, OnOk, ⊤}
 use Rattle.site.specs.State.{State as Site, Snapshot, Image, MayLeave, now_of, no_loose}
-use Rattle.site.specs.Moments.{LeavesOnly}
+use Rattle.site.specs.Moments.{EachMoment, LeavesOnly}
 use Rattle.std.specs.List.{AllByRecursion, list_any}
 use Rattle.site.specs.declared.outside.Take.{Take}
 use Rattle.site.specs.declared.outside.Dev.{Dev}
@@ -15,13 +15,14 @@ use Rattle.checkpoint.specs.declared.master.Master.{Master}
 use Rattle.front_end.specs.declared.halt.Halt.{Halt}
 use Rattle.front_end.specs.declared.halt.Halt.TheVariants.{Stop, Output, Input, Limit}
 use Rattle.front_end.specs.Lines.{HeardAll, answered_of, commands_of, limit}
-use Rattle.face.specs.RunMeaning.{AsksNoMore, HasBegun, IsLeft, IsWhole, LeavesItsQueue, LeavesStaged, LeavesVersions}
+use Rattle.face.specs.Done.{HasDone, TellsDone}
+use Rattle.face.specs.RunMeaning.{AsksNoMore, HasBegun, IsLeft, IsWhole, LeavesStaged}
 use Rattle.face.specs.RunMeaning.{ListsTheMachine, SkipsNoNumber, StandsAfter, WritesAsTold, first_texts}
 use Rattle.face.specs.RunMeaning.{log_reads_by_turns, texts, works_by}
 use Rattle.face.specs.Run.{Run, first_lines, turns_of}
 use Rattle.front_end.specs.Texts.{status_of}
 use Rattle.face.specs.Waiting.{NobodyWaits}
-use Rattle.face.specs.Worn.{LeavesItsRings, WearsFirst, WearsNone, WearsNoneBefore}
+use Rattle.face.specs.Worn.{WearsFirst, WearsNone, WearsNoneBefore}
 
 -- what a run over this image has asked once it has answered so many lines
 abbrev pub asked_after : Run → Option Master → Image → List (List LogRecord) → ℕ → List CacheOp
@@ -87,14 +88,12 @@ pub record AnswersFirst (run : Run) (lines : ℕ) (old now : Site) : Type 0 wher
   pub count : now.input.heard + length now.input.left ≡ old.input.heard + length old.input.left
 
 -- What a run that ends so asks of the devices. A device is worn only where the first ring that is appended to at its
--- end lies there, and at Ok there is none; then the rings have the numbers of the machine, and no more calls were made
--- than its units and its texts need. No ring number is skipped on the log's device.
+-- end lies there, and at Ok there is none; then its work is done, and no more calls were made than its units and its
+-- texts need. No ring number is skipped on the log's device.
 pub record Demands {T : Type 0} (pool : ℕ) (run : Run) (old new : Site) (result : Result T Halt) : Type 0 where
   pub worn : (dev : Dev) → IsErrOf result (Stop (Worn dev)) → WearsFirst pool run dev old.image
   pub room : OnOk result (WearsNone pool run old.image)
-  pub queue : OnOk result (LeavesItsQueue pool run old.image new.image)
-  pub versions : OnOk result (LeavesVersions pool run old.image new.image)
-  pub rings : OnOk result (LeavesItsRings pool run old.image new.image)
+  pub done : OnOk result (HasDone pool run old.image new.image)
   pub staged : OnOk result (LeavesStaged pool run old new)
   pub calls : OnOk result (CallsForUnits run.geometry old new)
   pub numbers : SkipsNoNumber run old new
@@ -116,4 +115,5 @@ pub record RunOutcome {T : Type 0} (pool : ℕ) (run : Run) (old new : Site) (re
   pub taking : TakingFails result → WearsNone pool (first_lines run heard) old.image
   pub listed : ListsTheMachine pool (first_lines run heard) old.image
   pub written : WritesAsTold pool run heard old new
+  pub tells : EachMoment old new (TellsDone pool run heard [] old)
   pub answers : AnswersFirst run heard old new

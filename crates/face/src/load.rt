@@ -16,16 +16,17 @@ ghost use Rattle.command_line.specs.Words.{HasLoadLimits};
 ghost use Rattle.front_end.specs.Refusals.{RefusesDevices};
 ghost use Rattle.face.specs.Workload as stated;
 ghost use Rattle.face.specs.Workload.{get_line, load_run, set_line, summary_of, summary_text};
-ghost use Rattle.face.specs.Loads.{HasCounted, LoadWorks};
+ghost use Rattle.site.specs.Moments.{EachMoment};
+ghost use Rattle.face.specs.Loads.{HasCounted, LoadTellsDone, LoadWorks, TellsOpening};
 
 use crate::commands::carry_out;
 use crate::opening::open;
 use command_line::Load;
 use engine::{Engine, queue_is_on_flash, versions_are_seen};
-use front_end::{Halt, tell_halt};
+use front_end::{Halt, tell_all, tell_halt};
 use record_model::{Command, Reply};
 use shell_text::Line;
-use site::{Dev, Geometry, Site, tell_all};
+use site::{Dev, Geometry, Site};
 use std::alloc::Global;
 use workload::{load_set, next};
 
@@ -148,6 +149,9 @@ fn run_load<S: Site>(alloc: Global, load: &Load, site: &mut S) -> Result<Counts,
     requires limits { HasLoadLimits load.now }
     ensures works { (g : Geometry) (opening : State) → IsGood g opening (S.state site.old)
         → LoadWorks load.now.pool (load_run g opening load.now) [] (S.state site.old) (S.state site.new) result }
+    ensures opens { (g : Geometry) (opening : State) → IsGood g opening (S.state site.old)
+        → EachMoment (S.state site.old) (S.state site.new)
+        (TellsOpening load.now.pool (load_run g opening load.now) (S.state site.old)) }
     ensures counts { (g : Geometry) (opening : State) → IsGood g opening (S.state site.old) → IfOk result (λ counts.
         HasCounted (load_run g opening load.now) counts.committed counts.checkpoints counts.found) }
     ensures halts { IfErr result (λ halt. (halt ≢ Halt.Input) × (halt ≢ Halt.Limit)) }
@@ -184,6 +188,9 @@ fn load_and_tell<S: Site>(alloc: Global, load: &Load, site: &mut S) -> Result<()
     ensures works { (g : Geometry) (opening : State) → IsGood g opening (S.state site.old)
         → LoadWorks load.now.pool (load_run g opening load.now) (summary_text (load_run g opening load.now) load.now)
         (S.state site.old) (S.state site.new) result }
+    ensures tells { (g : Geometry) (opening : State) → IsGood g opening (S.state site.old)
+        → EachMoment (S.state site.old) (S.state site.new) (LoadTellsDone load.now.pool (load_run g opening load.now)
+        (summary_text (load_run g opening load.now) load.now) [] (S.state site.old)) }
     ensures halts { IfErr result (λ halt. (halt ≢ Halt.Input) × (halt ≢ Halt.Limit)) }
     ensures ends { WorkEnds result (S.state site.old) (S.state site.new) }
 {

@@ -6,10 +6,10 @@ ghost use Rattle.face.specs.Headline.{IsGood};
 ghost use Rattle.face.specs.Run.{Run};
 ghost use Rattle.face.specs.RunInProgress.{GoesOn, NeverOpens, RunInProgress};
 
-use engine::Engine;
-use front_end::Halt;
+use engine::{Engine, queue_is_on_flash, versions_are_seen};
+use front_end::{Halt, tell_all};
 use shell_text::open_line;
-use site::{Site, tell_all};
+use site::Site;
 use std::alloc::Global;
 
 /// Restart, and the line that opens the run. No input is taken.
@@ -27,6 +27,8 @@ pub fn open<S: Site>(alloc: Global, pool: u32, site: &mut S) -> Result<Engine, H
     ensures halts { IfErr result (λ halt. (halt ≢ Halt.Input) × (halt ≢ Halt.Limit)) }
     ensures ends { WorkEnds result (S.state site.old) (S.state site.new) }
 {
+    queue_is_on_flash();
+    versions_are_seen();
     let engine = match Engine::start(alloc, site, pool) {
         Ok(engine) => engine,
         Err(stop) => return Err(Halt::Stop(stop)),

@@ -5,24 +5,23 @@ ghost use Rattle.std.specs.Prelude.{Err, [], length, true, false, take};
 ghost use Rattle.site.specs.Calls.{Preserves, Rose, SameReads};
 ghost use Rattle.site.specs.declared.geometry.Geometry.{Geometry};
 ghost use Rattle.site.specs.declared.outside.Stop.{Stop};
-ghost use Rattle.mem_site.specs.MemState.{state_of, limits_of, lives_of as numbers_in};
+ghost use Rattle.mem_site.specs.MemState.{IsFresh, state_of, limits_of, lives_of as numbers_in};
 ghost use Rattle.front_end.specs.Faults.{FirstDecides, RunFaults, SameFaults};
 ghost use Rattle.site.specs.Faults.{TellFaults};
 ghost use Rattle.front_end.specs.Lines.{HearsOnly};
 ghost use Rattle.face.specs.Run.{IsFront};
 ghost use Rattle.front_end.specs.declared.halt.Halt.{Halt};
 ghost use Rattle.face.specs.Trial as spec;
-ghost use Rattle.face.specs.Trial.{Between, IsNewSite, IsStatus, TrialContract};
-ghost use Rattle.face.specs.Trial.{numbers_of};
+ghost use Rattle.face.specs.Trial.{Between, IsLived, IsNewSite, IsStatus, TrialContract, kept_by, numbers_of};
 ghost use Rattle.face.specs.Trial.{script_limit};
 ghost use Rattle.face.specs.Living.{Ends, HasLivedOne, IsHaltOfTrial, IsReady, KeepsDevices};
 
 use crate::laws::{blank_stands, what_is_left_opens};
 use crate::running::serve;
-use front_end::{Halt, tell_halt};
+use front_end::{Halt, tell_all, tell_halt};
 use mem_site::MemSite;
 use shell_text::Line;
-use site::{Failed, Site, Stop, tell_all};
+use site::{Failed, Site, Stop};
 use std::alloc::Global;
 use workload::{STOPS_MAX, life};
 
@@ -101,6 +100,7 @@ fn read_script<S: Site>(alloc: Global, site: &mut S) -> Result<Vec<u8>, Halt>
 fn light_fuse(stop: Option<(u64, u64)>, inner: &mut MemSite)
     ensures state { state_of inner.new ≡ record (state_of inner.old) { kept = (state_of inner.new).kept } }
     ensures lives { numbers_in inner.new ≡ numbers_in inner.old }
+    ensures fuse { IsFresh inner.old → (state_of inner.new).kept ≡ kept_by stop (numbers_in inner.old) }
 {
     if let Some((k, _)) = stop {
         inner.fuse(k);
@@ -142,6 +142,8 @@ fn live(
     requires pool { (1 ≤ pool) × (pool ≤ 4096) }
     ensures life { (g : Geometry) (before : Between) → IsReady g before inner.old
         → IfSome result (λ status. HasLivedOne g before lines.now status (state_of inner.new)) }
+    ensures lived { (g : Geometry) (before : Between) → IsReady g before inner.old
+        → IfSome result (λ status. IsLived lines.now stop before (state_of inner.new)) }
     ensures status { IfSome result (λ status. IsStatus (spec.is_within stop (limits_of inner.new).changes) status) }
     ensures lives { numbers_in inner.new ≡ numbers_in inner.old }
 {

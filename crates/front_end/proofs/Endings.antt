@@ -41,6 +41,7 @@ ends_with before line old mid new result goes honest is tells = by result (tells
 pub only_tells : {T : Type 0} (line : List ℕ) (old new : State) (result : Result T Failed) → Tells line old new result → OnlyTells line old new
 only_tells line old new result tells = record {
   any_moment = tells.any_moment;
+  hands = tells.hands;
   ends = λ honest. ends_with old.told line old old new result (goes_nowhere old) honest refl tells;
   devices = tells.devices;
   reads = tells.reads;

@@ -1,8 +1,9 @@
 pub mod CheckLaws
 pub mod Endings
 pub mod Firsts
+mod Handed
 mod LineOctets
 mod NewLaws
-mod Replies
+pub mod Replies
 mod Takes
 mod Zeros

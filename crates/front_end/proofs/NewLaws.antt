@@ -1,5 +1,5 @@
 -- What `new` tells after it has only read.
-use Rattle.std.proofs.Common.{◌≡◌, ◌++◌, ℕ, List, take, arith, le_trans, ◌∙◌, ap, IsTrue}
+use Rattle.std.proofs.Common.{◌≡◌, inl, inr, ⊎_elim, ◌++◌, ℕ, List, take, refl, arith, le_trans, ◌∙◌, ap, IsTrue}
 use Rattle.std.specs.Prelude.{Result}
 use Rattle.site.specs.declared.geometry.Geometry.{Geometry}
 use Rattle.site.specs.declared.outside.Failed.{Failed as CallFailed}
@@ -11,8 +11,8 @@ use Rattle.site.specs.Telling.{TellsPart}
 use Rattle.site.specs.Laws.{stays_honest, no_call, in_sequence, each_weaker, unchanged_calm, unchanged_devices, devices_in_sequence}
 use Rattle.front_end.specs.declared.new_database.Unfit.{Unfit}
 use Rattle.front_end.specs.declared.new_database.Unfit.TheVariants.{Foreign, Failed, NotBlank}
-use Rattle.front_end.specs.New.{New, IsAnswer, IsUnfit, unfit_status}
-use Rattle.front_end.specs.Tells.{Tells}
+use Rattle.front_end.specs.New.{New, IsAnswer, IsUnfit, ReadsOnce, unfit_status}
+use Rattle.front_end.specs.Tells.{HandsRest, Tells}
 use Rattle.front_end.proofs.Endings.{ends_with}
 use Rattle.front_end.proofs.Replies.{nothing_told}
 
@@ -30,15 +30,23 @@ moments line old mid new same told =
     (unchanged_calm old old mid (TellsPart line old) (no_call old (TellsPart line old) (nothing_told line old)) same)
     (each_weaker mid new (TellsPart line mid) (TellsPart line old) (part_of line old mid same) told)
 
+hands_behind : (line : List ℕ) (old mid new : State) → IsUnchanged old mid → EachMoment mid new (HandsRest line mid) → EachMoment old new (HandsRest line old)
+hands_behind line old mid new same hands =
+    in_sequence old mid new (HandsRest line old)
+    (unchanged_calm old old mid (HandsRest line old) (no_call old (HandsRest line old) (inl refl)) same)
+    (each_weaker mid new (HandsRest line mid) (HandsRest line old) (λ (m : Moment) h. ⊎_elim (λ none. inl none) (λ rest. inr (rest.0, rest.1 ∙ ap (λ (t : List ℕ). t ++ take rest.0 line) same.told, rest.2)) h) hands)
+
 -- after an error of telling nothing is said of all of the line
-pub answered : {T : Type 0} (g : Geometry) (old mid new : State) (line : List ℕ) (status : ℕ) (result : Result T CallFailed) → Preserves old mid → (IsTrue old.honest → IsUnchanged old mid) → ((HasLengths g old.image → ⊥) → SameReads old mid) → Tells line mid new result
+pub answered : {T : Type 0} (g : Geometry) (old mid new : State) (line : List ℕ) (status : ℕ) (result : Result T CallFailed) → Preserves old mid → (IsTrue old.honest → IsUnchanged old mid) → ((HasLengths g old.image → ⊥) → SameReads old mid) → ReadsOnce old mid → Tells line mid new result
     → IsAnswer g status line old new → (IsTrue old.honest → status ≡ 0 → new.told ≡ mid.told ++ line) → New g old new status
-answered g old mid new line status result goes same unread tells answer ready = record {
+answered g old mid new line status result goes same unread few tells answer ready = record {
   line = line;
   answer = answer;
   any_moment = λ honest. moments line old mid new (same honest) (tells.any_moment (stays_honest old mid goes honest));
+  hands = λ honest. hands_behind line old mid new (same honest) (tells.hands (stays_honest old mid goes honest));
   devices = λ honest. devices_in_sequence old mid new (unchanged_devices old mid (same honest)) (tells.devices (stays_honest old mid goes honest));
   unread = λ none dev. tells.reads dev ∙ unread none dev;
+  few = λ dev. let one = few dev in let same = tells.reads dev in omega (arith, one, same);
   ends = λ honest. ends_with old.told line old mid new result goes (stays_honest old mid goes honest) (same honest).told tells;
   ready = λ honest done. ready honest done ∙ ap (λ (t : List ℕ). t ++ line) (same honest).told;
 }

@@ -1,11 +1,11 @@
 -- What `new` does: the devices have the lengths of its words and are blank, or it says what isn't so.
-use Rattle.std.specs.Prelude.{◌≡◌, ◌≢◌, ◌⊎◌, ℕ, ◌≤◌, ◌<◌, List, ◌++◌, length, slice_index_or, codes, decimal, IsTrue}
-use Rattle.std.specs.Prelude.{Result, Ok, Err}
+use Rattle.std.specs.Prelude.{◌≡◌, ◌≢◌, ◌⊎◌, ℕ, ◌+◌, ◌/◌, ◌≤◌, ◌<◌, List, ◌++◌, length, slice_index_or, codes, decimal}
+use Rattle.std.specs.Prelude.{IsTrue, Result, Ok, Err}
 use Rattle.site.specs.declared.outside.Dev.{Dev}
 use Rattle.site.specs.declared.outside.Dev.TheVariants.{Log, Flash, Disk}
 use Rattle.site.specs.declared.geometry.Geometry.{Geometry}
 use Rattle.site.specs.Geometry.{HasLengths}
-use Rattle.site.specs.State.{State, Image, content_of, faults_of}
+use Rattle.site.specs.State.{State, Image, content_of, faults_of, reads_of}
 use Rattle.site.specs.Calls.{Rose, SameReads}
 use Rattle.site.specs.Moments.{EachMoment}
 use Rattle.site.specs.Telling.{TellsPart, SameDevices}
@@ -14,7 +14,7 @@ use Rattle.front_end.specs.declared.new_database.Unfit.TheVariants.{Foreign, Fai
 use Rattle.front_end.specs.Texts.{dev_name}
 use Rattle.front_end.specs.Faults.{NoFaultRose, SameFaults}
 use Rattle.site.specs.Faults.{faults_in, with_fault}
-use Rattle.front_end.specs.Tells.{EndsWith}
+use Rattle.front_end.specs.Tells.{EndsWith, HandsRest}
 
 -- the octets from one place to another are zero
 abbrev pub AreZero : List ℕ → ℕ → ℕ → Type 0
@@ -96,15 +96,22 @@ IsAnswer g status line old new =
     ⊎ (((status ≡ 6) × (line ≡ ready_line g) × IsFit g old × Rose old.output_faults new.output_faults)
     ⊎ ((status ≡ 4) × (line ≡ codes "fault memory\n"))))
 
+-- each device is read once at most, by pieces of 4,096 octets
+abbrev pub ReadsOnce : State → State → Type 0
+ReadsOnce old new = (dev : Dev) →
+    reads_of dev new ≤ reads_of dev old + (length (content_of dev old.image) + 4095) / 4096
+
 -- What `new` of these sizes does.
 pub record New (g : Geometry) (old new : State) (status : ℕ) : Type 0 where
   -- the line of the status is told, or a front of it, and nothing else is done
   pub line : List ℕ
   pub answer : IsAnswer g status line old new
   pub any_moment : IsTrue old.honest → EachMoment old new (TellsPart line old)
+  pub hands : IsTrue old.honest → EachMoment old new (HandsRest line old)
   pub devices : IsTrue old.honest → SameDevices old new
   -- where the lengths aren't those of the words nothing is read
   pub unread : (HasLengths g old.image → ⊥) → SameReads old new
+  pub few : ReadsOnce old new
   -- all of it where no tell failed, and with status 0 at any rate
   pub ends : IsTrue old.honest → EndsWith old.told line old new
   pub ready : IsTrue old.honest → status ≡ 0 → new.told ≡ old.told ++ line

@@ -4,7 +4,7 @@ use Rattle.site.specs.State.{State}
 use Rattle.site.specs.Calls.{SameReads}
 use Rattle.site.specs.Moments.{EachMoment}
 use Rattle.site.specs.Telling.{TellsPart, SameDevices}
-use Rattle.front_end.specs.Tells.{EndsWith}
+use Rattle.front_end.specs.Tells.{EndsWith, HandsRest}
 
 abbrev pub words_fault : List ℕ
 words_fault = codes "fault words\n"
@@ -13,6 +13,7 @@ words_fault = codes "fault words\n"
 -- this line told, and when it is over all of it is, where no tell failed
 pub record OnlyTells (line : List ℕ) (old new : State) : Type 0 where
   pub any_moment : IsTrue old.honest → EachMoment old new (TellsPart line old)
+  pub hands : IsTrue old.honest → EachMoment old new (HandsRest line old)
   pub ends : IsTrue old.honest → EndsWith old.told line old new
   pub devices : IsTrue old.honest → SameDevices old new
   pub reads : SameReads old new

@@ -1,21 +1,38 @@
 -- What telling a line does.
-use Rattle.std.specs.Prelude.{◌≡◌, List, ℕ, ◌++◌, take, flat_map, IsTrue, Result, OnOk, OnErr}
-use Rattle.site.specs.State.{State}
+use Rattle.std.specs.Prelude.{◌≡◌, ◌⊎◌, List, ℕ, [], ◌++◌, take, drop, flat_map, IsTrue, Result, OnOk, OnErr}
+use Rattle.std.specs.List.{concat}
+use Rattle.site.specs.State.{State, Moment}
 use Rattle.site.specs.Calls.{Preserves, SameReads, Rose}
 use Rattle.site.specs.Faults.{TellFaults}
 use Rattle.site.specs.Moments.{EachMoment}
 use Rattle.site.specs.Telling.{TellsPart, SameDevices}
 use Rattle.site.specs.declared.outside.Failed.{Failed}
 
--- the line is told, or after an error a front of it, and nothing else is done
-pub record Tells {T : Type 0} (line : List ℕ) (old new : State) (result : Result T Failed) : Type 0 where
-  pub any_moment : IsTrue old.honest → EachMoment old new (TellsPart line old)
-  pub told : IsTrue old.honest → OnOk result (new.told ≡ old.told ++ line)
+-- within a tell all that wasn't told of the piece is being told
+abbrev pub HandsRest : List ℕ → State → Moment → Type 0
+HandsRest piece old moment = (moment.telling ≡ [])
+    ⊎ ((k : ℕ) × (moment.told ≡ old.told ++ take k piece) × (moment.telling ≡ drop k piece))
+
+-- within a tell a line is told to its end with it, and those before are told whole
+abbrev pub HandsLines : List (List ℕ) → List ℕ → Moment → Type 0
+HandsLines lines so_far moment = (moment.telling ≡ [])
+    ⊎ ((whole : ℕ) × (moment.told ++ moment.telling ≡ so_far ++ concat (take whole lines)))
+
+-- the text is told, or after an error a front of it, and nothing else is done
+pub record TellsText {T : Type 0} (text : List ℕ) (old new : State) (result : Result T Failed) : Type 0 where
+  pub any_moment : IsTrue old.honest → EachMoment old new (TellsPart text old)
+  pub told : IsTrue old.honest → OnOk result (new.told ≡ old.told ++ text)
   pub devices : IsTrue old.honest → SameDevices old new
   pub cause : OnErr result (Rose old.output_faults new.output_faults)
   pub reads : SameReads old new
   pub preserves : Preserves old new
   pub faults : TellFaults result old new
+
+-- so is the line, and each call is handed all that is left of it
+pub record Tells {T : Type 0} (line : List ℕ) (old new : State) (result : Result T Failed) : Type 0 where
+  pub text : TellsText line old new result
+  pub open text use *
+  pub hands : IsTrue old.honest → EachMoment old new (HandsRest line old)
 
 -- Behind what was told before, this line comes last: all of it where no tell has failed, and else a front of it.
 pub record EndsWith (before line : List ℕ) (old new : State) : Type 0 where

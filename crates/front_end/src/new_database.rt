@@ -4,9 +4,9 @@ ghost use Rattle.site.specs.Faults.{CallFaults};
 ghost use Rattle.front_end.specs.Faults.{FirstDecides, SameFaults};
 ghost use Rattle.site.specs.Geometry.{HasLengths};
 ghost use Rattle.site.specs.State.{content_of, faults_of};
-ghost use Rattle.site.specs.Calls.{Preserves, Rose, IsUnchanged, SameReads};
+ghost use Rattle.site.specs.Calls.{Preserves, ReadsMore, Rose, IsUnchanged, SameReads};
 ghost use Rattle.front_end.specs.New.{AreZero, IsFirst, IsBlankAt, IsFirstAt, IsBlank, IsUnfitAt, IsNotBlank, IsUnfit};
-ghost use Rattle.front_end.specs.New.{IsFit, New, NewCauses, TestFaults, unfit_status};
+ghost use Rattle.front_end.specs.New.{IsFit, New, NewCauses, ReadsOnce, TestFaults, unfit_status};
 
 use crate::fault_lines::{tell_ready, tell_unfit};
 use site::{Dev, Failed, Geometry, Site};
@@ -67,6 +67,7 @@ fn read_first<S: Site>(
         → IfOk result (λ found. IfNone found (AreZero (content_of dev (S.state site.old).image) at
         (at + length into.old))) }
     ensures same { IsTrue (S.state site.old).honest → IsUnchanged (S.state site.old) (S.state site.new) }
+    ensures reads { ReadsMore dev (length into.old) (S.state site.old) (S.state site.new) }
     ensures preserves { Preserves (S.state site.old) (S.state site.new) }
     ensures cause { IfErr result (λ failed.
         Rose (faults_of dev (S.state site.old)) (faults_of dev (S.state site.new))) }
@@ -86,6 +87,8 @@ fn find_nonzero<S: Site>(site: &mut S, dev: Dev) -> Result<Option<u64>, Failed>
     ensures none { IsTrue (S.state site.old).honest
         → IfOk result (λ found. IfNone found (IsBlankAt dev (S.state site.old).image)) }
     ensures same { IsTrue (S.state site.old).honest → IsUnchanged (S.state site.old) (S.state site.new) }
+    ensures reads { ReadsMore dev (length (content_of dev (S.state site.old).image)) (S.state site.old)
+        (S.state site.new) }
     ensures preserves { Preserves (S.state site.old) (S.state site.new) }
     ensures cause { IfErr result (λ failed.
         Rose (faults_of dev (S.state site.old)) (faults_of dev (S.state site.new))) }
@@ -110,6 +113,8 @@ fn test_device<S: Site>(site: &mut S, dev: Dev) -> Result<(), Unfit>
     ensures blank { IsTrue (S.state site.old).honest → OnOk result (IsBlankAt dev (S.state site.old).image) }
     ensures unfit { IfErr result (λ unfit. IsUnfitAt dev unfit (S.state site.old) (S.state site.new)) }
     ensures same { IsTrue (S.state site.old).honest → IsUnchanged (S.state site.old) (S.state site.new) }
+    ensures reads { ReadsMore dev (length (content_of dev (S.state site.old).image)) (S.state site.old)
+        (S.state site.new) }
     ensures preserves { Preserves (S.state site.old) (S.state site.new) }
     ensures faults { TestFaults result (S.state site.old) (S.state site.new) }
 {
@@ -125,6 +130,7 @@ fn test_all<S: Site>(site: &mut S) -> Result<(), Unfit>
     ensures blank { IsTrue (S.state site.old).honest → OnOk result (IsBlank (S.state site.old).image) }
     ensures unfit { IfErr result (λ unfit. IsNotBlank unfit (S.state site.old) (S.state site.new)) }
     ensures same { IsTrue (S.state site.old).honest → IsUnchanged (S.state site.old) (S.state site.new) }
+    ensures few { ReadsOnce (S.state site.old) (S.state site.new) }
     ensures preserves { Preserves (S.state site.old) (S.state site.new) }
     ensures faults { TestFaults result (S.state site.old) (S.state site.new) }
 {
@@ -151,6 +157,7 @@ fn test_fit<S: Site>(site: &mut S, geometry: &Geometry) -> Result<(), Unfit>
     ensures unfit { IfErr result (λ unfit. IsUnfit unfit geometry.now (S.state site.old) (S.state site.new)) }
     ensures unread { (HasLengths geometry.now (S.state site.old).image → ⊥)
         → SameReads (S.state site.old) (S.state site.new) }
+    ensures few { ReadsOnce (S.state site.old) (S.state site.new) }
     ensures same { IsTrue (S.state site.old).honest → IsUnchanged (S.state site.old) (S.state site.new) }
     ensures preserves { Preserves (S.state site.old) (S.state site.new) }
     ensures faults { TestFaults result (S.state site.old) (S.state site.new) }

@@ -3,7 +3,7 @@ use Rattle.site.specs.Laws.{stays_honest}
 use Rattle.shell_text.specs.Texts.{reply_text}
 use Rattle.engine.specs.Invariant.{sizes_of}
 use Rattle.face.proofs.CallCounts.{calls_told}
-use Rattle.face.proofs.Carrying.{all_told, carries_err, not_all_told, tells_all_of_it, tells_front, tells_nothing}
+use Rattle.face.proofs.Carrying.{all_told, carries_err, hands_carried, hands_nothing, not_all_told, tells_all_of_it, tells_front, tells_nothing}
 use Rattle.face.proofs.answer.answer.Goals as goal
 
 pub returns-in-Err-clause-course : goal.returns-in-Err-clause-course
@@ -40,3 +40,18 @@ returns-clause-tells g c s listing asked fits quiet =
     let t = c.tell_reply.ensures in
     tells_front _ _ _ _ _ _ c.in-Ok.reply c.in-Ok.ensures {told = c.tell_reply.result}
     (record { any_moment = t.any_moment; told = t.told; devices = t.same; cause = t.cause; reads = t.reads; preserves = t.preserves; faults = t.faults }) s listing asked fits quiet
+
+pub returns-in-Err-clause-hands : goal.returns-in-Err-clause-hands
+returns-in-Err-clause-hands g c s listing asked fits quiet = hands_nothing _ _ _ _ _ _ c.in-Err.ensures s listing fits quiet
+
+pub returns-in-Ok-tell_reply-clause-hands : goal.returns-in-Ok-tell_reply-clause-hands
+returns-in-Ok-tell_reply-clause-hands g c s listing asked fits quiet =
+    let t = c.tell_reply.ensures in
+    hands_carried _ _ _ _ _ _ c.in-Ok.reply c.in-Ok.ensures {told = c.tell_reply.result}
+    (record { any_moment = t.any_moment; told = t.told; devices = t.same; cause = t.cause; reads = t.reads; preserves = t.preserves; faults = t.faults }) s listing asked fits quiet t.lines
+
+pub returns-clause-hands : goal.returns-clause-hands
+returns-clause-hands g c s listing asked fits quiet =
+    let t = c.tell_reply.ensures in
+    hands_carried _ _ _ _ _ _ c.in-Ok.reply c.in-Ok.ensures {told = c.tell_reply.result}
+    (record { any_moment = t.any_moment; told = t.told; devices = t.same; cause = t.cause; reads = t.reads; preserves = t.preserves; faults = t.faults }) s listing asked fits quiet t.lines

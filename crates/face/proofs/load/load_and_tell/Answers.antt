@@ -1,10 +1,17 @@
-use Rattle.std.proofs.Common.{◌≡◌, ◌++◌, ◌∙◌, ℕ, List, length, ap, subst}
+use Rattle.std.proofs.Common.{◌≡◌, [], ◌++◌, ◌∙◌, ℕ, List, length, ap, subst}
 use Rattle.site.specs.Laws.{stays_honest}
 use Rattle.site.specs.Moments.{EachMoment}
 use Rattle.site.specs.Telling.{TellsOnly, TellsPart}
+use Rattle.site.specs.declared.geometry.Geometry.{Geometry}
+use Rattle.record_model.specs.State.{State}
+use Rattle.face.specs.Headline.{IsGood}
+use Rattle.face.specs.Loads.{LoadTellsDone}
 use Rattle.face.specs.Workload.{load_run, summary_of, summary_text}
 use Rattle.face.proofs.Going.{ends_as, ends_told, ends_untold}
-use Rattle.face.proofs.LoadFaults.{stopped_before, summary_lost, summed_up}
+use Rattle.front_end.specs.Tells.{HandsRest}
+use Rattle.face.proofs.LoadFaults.{stopped_before, summary_lost, summed_up, tells_opening, tells_summary}
+use Rattle.face.proofs.load.load_and_tell.Given.{Over}
+use Rattle.face.proofs.load.load_and_tell.Goals.{After-tell_all}
 use Rattle.face.proofs.load.load_and_tell.Goals as goal
 
 pub returns-in-Err-clause-works : goal.returns-in-Err-clause-works
@@ -47,3 +54,31 @@ returns-in-Ok-tell_all-clause-ends g c = ends_told c.in-Ok.counts _ _ _ c.in-Ok.
 
 pub returns-in-Err-tell_all-clause-ends : goal.returns-in-Err-tell_all-clause-ends
 returns-in-Err-tell_all-clause-ends g c = ends_untold c.in-Ok.counts _ _ _ c.in-Ok.ensures.ends c.tell_all.ensures.preserves c.in-Err-tell_all.ensures.faults c.in-Err-tell_all.ensures.cause
+
+pub returns-in-Err-clause-tells : goal.returns-in-Err-clause-tells
+returns-in-Err-clause-tells g c geometry opening good =
+    let run = load_run geometry opening c.args.load.now in
+    let new = g.S.Site.state c.run_load.new.site in
+    tells_opening c.args.load.now.pool run (summary_text run c.args.load.now) (g.S.Site.state c.args.site.now) new new (c.run_load.ensures.opens geometry opening good)
+
+-- The summary is told, or a front of it.
+module _ (g : Over) (c : After-tell_all g) (geometry : Geometry) (opening : State) (good : IsGood geometry opening (g.S.Site.state c.args.site.now)) where
+  done : EachMoment (g.S.Site.state c.args.site.now) (g.S.Site.state c.tell_all.new.site) (LoadTellsDone c.args.load.now.pool (load_run geometry opening c.args.load.now) (summary_text (load_run geometry opening c.args.load.now) c.args.load.now) [] (g.S.Site.state c.args.site.now))
+  done =
+      let old = g.S.Site.state c.args.site.now in
+      let mid = g.S.Site.state c.run_load.new.site in
+      let new = g.S.Site.state c.tell_all.new.site in
+      let load = c.args.load.now in
+      let run = load_run geometry opening load in
+      let counted = c.in-Ok.ensures.counts geometry opening good in
+      let text : c.as_slice.result.now ≡ summary_text run load = c.as_slice.ensures.value ∙ c.summary_line.ensures ∙ (λ i. summary_of load.count (counted.committed_is i) (counted.checkpoints_are i) (counted.found_is i)) in
+      let honest = stays_honest old mid c.run_load.ensures.ends.preserves good.honest in
+      tells_summary load.pool run (summary_text run load) old mid new c.in-Ok.counts (c.in-Ok.ensures.works geometry opening good) (c.run_load.ensures.opens geometry opening good)
+      (subst (λ (t : List ℕ). EachMoment mid new (TellsPart t mid)) text (c.tell_all.ensures.any_moment honest))
+      (subst (λ (t : List ℕ). EachMoment mid new (HandsRest t mid)) text (c.tell_all.ensures.hands honest))
+
+pub returns-in-Ok-tell_all-clause-tells : goal.returns-in-Ok-tell_all-clause-tells
+returns-in-Ok-tell_all-clause-tells g c = done g (goal.at.returns-in-Ok-tell_all-clause-tells g c).After-tell_all
+
+pub returns-in-Err-tell_all-clause-tells : goal.returns-in-Err-tell_all-clause-tells
+returns-in-Err-tell_all-clause-tells g c = done g (goal.at.returns-in-Err-tell_all-clause-tells g c).After-tell_all

@@ -1,7 +1,6 @@
 use Rattle.std.proofs.Common.{◌≡◌, ◌-◌, ◌+◌, ◌*◌, ◌<◌, ◌≤◌, ◌&&◌, ⊎_elim, ℕ, suc, List, [], ◌∷◌, drop, false, true≢false, refl, sym, ◌∙◌, ap, subst, arith, add-one}
 use Rattle.std.proofs.lemmas.Bool.{cases_lt}
 use Rattle.site.specs.declared.geometry.Geometry.{Geometry}
-use Rattle.site.specs.State.{State as Site}
 use Rattle.record_model.specs.State.{State, is_due}
 use Rattle.record_model.specs.Run.{Line, is_cache}
 use Rattle.workload.specs.Generator.{following, generated, record_of, value_of}
@@ -12,7 +11,7 @@ use Rattle.face.specs.Workload.{checkpoints_in, committed_in, found_in, get_line
 use Rattle.face.proofs.Ends.{answer_takes_nothing}
 use Rattle.face.proofs.Fronts.{whole_turns}
 use Rattle.face.proofs.Going.{ends_as, ends_well, fails_there, goes_next}
-use Rattle.face.proofs.Loadings.{get_at, lines_count, load_finished, load_never_opened, load_next, load_opened, load_stopped, set_at}
+use Rattle.face.proofs.Loadings.{get_at, lines_count, load_finished, load_never_opened, load_next, load_opened, load_stopped, opens_never, opens_still, set_at}
 use Rattle.face.proofs.LoadCounts.{counted_next, get_makes, one_most, set_makes}
 use Rattle.face.proofs.load.run_load.Given.{Over}
 use Rattle.face.proofs.load.run_load.Goals.{After-carry_out}
@@ -158,3 +157,18 @@ returns-clause-counts g c geometry opening good =
       checkpoints_are = counted.checkpoints_are ∙ ap checkpoints_in all;
       found_is = counted.found_is ∙ ap found_in all;
     }
+
+-- What is told by then.
+
+pub returns-in-Err-clause-opens : goal.returns-in-Err-clause-opens
+returns-in-Err-clause-opens g c geometry opening good =
+    opens_never geometry opening c.args.load.now (g.S.Site.state c.args.site.now) (g.S.Site.state c.open.new.site) c.in-Err.halt (c.in-Err.ensures.never (load_run geometry opening c.args.load.now) good)
+
+pub returns-in-Err-carry_out-clause-opens : goal.returns-in-Err-carry_out-clause-opens
+returns-in-Err-carry_out-clause-opens g c geometry opening good =
+    let s = (goal.at.returns-in-Err-carry_out-clause-opens g c).After-carry_out in
+    let at = at g s geometry opening good in
+    opens_still geometry opening c.args.load.now (g.S.Site.state c.args.site.now) (g.S.Site.state c.loop-place.site) c.loop-place.engine c.loop-place.place (c.loop-place.invariant.progress geometry opening good) c.line_at.result at.0 at.1 c.carry_out.new.engine (g.S.Site.state c.carry_out.new.site) _ c.in-Err-carry_out.ensures
+
+pub returns-clause-opens : goal.returns-clause-opens
+returns-clause-opens g c geometry opening good = (c.loop-place.invariant.progress geometry opening good).tells

@@ -12,7 +12,7 @@ returns-in-Ok-clause-load g c =
     let old = g.S.Site.state c.args.site.now in
     let new = g.S.Site.state c.load_and_tell.new.site in
     load_contract c.args.load.now old new 0
-    (λ geometry opening good. load_done c.args.load.now geometry opening old good new _ (c.in-Ok.ensures.works geometry opening good))
+    (λ geometry opening good. load_done c.args.load.now geometry opening old good new _ (c.in-Ok.ensures.works geometry opening good) (c.load_and_tell.ensures.tells geometry opening good))
     (no_causes old new) (λ e. omega (arith, e), λ e. omega (arith, e)) (λ honest. tells_none old new)
 
 pub returns-in-Err-clause-load : goal.returns-in-Err-clause-load
@@ -23,7 +23,7 @@ returns-in-Err-clause-load g c =
     let goes = c.load_and_tell.ensures.ends.preserves in
     let cause = cause_then c.in-Err.halt old mid new c.in-Err.ensures.ends.cause c.tell_halt.ensures.preserves (λ h. c.tell_halt.ensures.devices (stays_honest old mid goes h)) in
     load_contract c.args.load.now old new c.status.result
-    (λ geometry opening good. load_halted c.args.load.now geometry opening old good mid new c.in-Err.halt (c.in-Err.ensures.works geometry opening good) goes c.tell_halt.result c.tell_halt.ensures cause c.status.result c.status.ensures)
+    (λ geometry opening good. load_halted c.args.load.now geometry opening old good mid new c.in-Err.halt (c.in-Err.ensures.works geometry opening good) (c.load_and_tell.ensures.tells geometry opening good) goes c.tell_halt.result c.tell_halt.ensures cause c.status.result c.status.ensures)
     (status_causes c.in-Err.halt c.status.result old new c.status.ensures cause)
     (not_taken c.in-Err.halt c.status.result c.status.ensures c.in-Err.ensures.halts)
     (λ honest. tells_fault c.in-Err.halt c.status.result old mid new c.tell_halt.result c.status.ensures cause goes (stays_honest old mid goes honest) c.tell_halt.ensures)

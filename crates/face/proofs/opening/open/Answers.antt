@@ -1,8 +1,9 @@
-use Rattle.std.proofs.Common.{◌∙◌, ap, ◌≡◌, List, arith, refl, subst, sym}
+use Rattle.std.proofs.Common.{◌∙◌, ap, ◌≡◌, List, [], arith, refl, subst, sym}
 use Rattle.std.specs.Prelude.{Err}
 use Rattle.std.proofs.lemmas.List.{append-nil}
 use Rattle.site.specs.declared.outside.Stop.TheVariants.{Worn}
-use Rattle.site.specs.Laws.{stays_honest, goes_in_sequence}
+use Rattle.site.specs.Laws.{stays_honest, goes_in_sequence, holds_now}
+use Rattle.site.specs.Moments.{EachMoment}
 use Rattle.record_model.specs.Touches.{CacheOp}
 use Rattle.image_meaning.specs.Meaning.{logical_image_under}
 use Rattle.second_chance.specs.Machine.{rules_of}
@@ -14,7 +15,10 @@ use Rattle.engine.specs.RingWork.{machine_on}
 use Rattle.shell_text.specs.Texts.{open_text}
 use Rattle.front_end.specs.Texts.{status_of}
 use Rattle.front_end.specs.declared.halt.Halt.TheVariants as halt
-use Rattle.face.specs.Run.{first_lines}
+use Rattle.engine.specs.Leaves.{LeavesTable}
+use Rattle.face.specs.Done.{TellsDone}
+use Rattle.face.specs.Headline.{IsGood}
+use Rattle.face.specs.Run.{Run, first_lines}
 use Rattle.engine.specs.declared.engine.Engine.{Engine}
 use Rattle.face.proofs.Carrying.{stop_faults}
 use Rattle.face.proofs.Going.{ends_told, ends_untold}
@@ -22,13 +26,17 @@ use Rattle.face.proofs.CallCounts.{calls_told}
 use Rattle.face.proofs.CommandLaws.{start_cause}
 use Rattle.face.proofs.Counted.{first_counted, restart_numbers, restart_told}
 use Rattle.face.proofs.Demanded.{demands_err}
+use Rattle.face.proofs.Dones.{opening_done, silent_start}
 use Rattle.face.proofs.Logs.{goes_on, still_fits}
 use Rattle.face.proofs.Meanings.{stands_by, opens_where_it_stands}
 use Rattle.face.proofs.NextUnits.{next_later}
 use Rattle.face.proofs.Pagings.{first_paged, first_reads}
 use Rattle.face.proofs.RunsSoFar.{not_opened, opening_lost, opened}
+use Rattle.face.proofs.Serving.{done_by}
 use Rattle.face.proofs.WornRuns.{opened_performs}
 use Rattle.face.proofs.Writings.{last_told, writes_told}
+use Rattle.face.proofs.opening.open.Given.{Over}
+use Rattle.face.proofs.opening.open.Goals.{After-tell_all}
 use Rattle.face.proofs.opening.open.Goals as goal
 
 pub returns-in-Err-clause-never : goal.returns-in-Err-clause-never
@@ -38,6 +46,7 @@ returns-in-Err-clause-never g c run good =
     let ends = c.in-Err.ensures.ends good.honest run.geometry run.opening.table run.opening.commits (stands_by run.geometry old.image run.opening good.opens) in
     record {
       stops = not_opened run old new (ends.any_moment good.quiet) (halt.Stop c.in-Err.stop) (λ ne. ends.quiet good.quiet (λ d is. ne (ap (λ x. status_of (halt.Stop x)) is)));
+      tells = silent_start c.args.pool run old new (ends.any_moment good.quiet);
       demands = demands_err c.args.pool (first_lines run 0) old new (halt.Stop c.in-Err.stop)
           (λ dev says newest blocks sound.
           let same : c.in-Err.stop ≡ Worn dev = cc in
@@ -59,6 +68,25 @@ returns-in-Err-clause-ends g c =
       faults = stop_faults Engine Engine c.in-Err.stop old new c.in-Err.ensures.calls.faults;
     }
 
+-- The opening is told, or a front of it.
+module _ (g : Over) (c : After-tell_all g) (run : Run) (good : IsGood run.geometry run.opening (g.S.Site.state c.args.site.now)) where
+  tells_done : EachMoment (g.S.Site.state c.args.site.now) (g.S.Site.state c.tell_all.new.site) (TellsDone c.args.pool run 0 [] (g.S.Site.state c.args.site.now))
+  tells_done =
+      let old = g.S.Site.state c.args.site.now in
+      let mid = g.S.Site.state c.start.new.site in
+      let engine = c.in-Ok.engine in
+      let leaves = (c.start.ensures.ends good.honest run.geometry run.opening.table run.opening.commits (stands_by run.geometry old.image run.opening good.opens)).any_moment good.quiet in
+      let opens = c.in-Ok.ensures.opens good.honest run.geometry run.opening good.opens in
+      let honest = stays_honest old mid c.start.ensures.calls.preserves good.honest in
+      opening_done c.args.pool run old mid (g.S.Site.state c.tell_all.new.site) c.as_slice.result.now (c.as_slice.ensures.value ∙ c.open_line.ensures ∙ ap open_text (c.commits.ensures.model run.opening mid opens.0))
+      (holds_now old mid (LeavesTable run.geometry run.opening.table run.opening.commits old.told) leaves).told leaves
+      (done_by c.args.pool run old mid engine 0 c.queue_is_on_flash.ensures c.versions_are_seen.ensures opens.0 c.in-Ok.ensures.going opens.1
+      (λ newest blocks sound. first_paged c.args.pool run newest old.image blocks engine _ _ _ (c.in-Ok.ensures.asks good.honest run.geometry newest blocks sound))
+      (λ newest blocks sound. opened_performs run newest old.image blocks engine refl (c.in-Ok.ensures.performs good.honest run.geometry newest blocks sound))
+      (λ newest blocks sound. first_reads c.args.pool run newest old.image blocks c.start.result (λ e. e.store.pages) old mid mid (λ d. refl) (c.start.ensures.writes good.honest good.quiet run.geometry newest blocks sound)
+      (c.start.ensures.asks good.honest run.geometry newest blocks sound) (c.start.ensures.log_reads good.honest run.geometry newest blocks sound)))
+      (c.tell_all.ensures.any_moment honest) (c.tell_all.ensures.hands honest)
+
 pub returns-in-Err-tell_all-clause-never : goal.returns-in-Err-tell_all-clause-never
 returns-in-Err-tell_all-clause-never g c run good =
     let old = g.S.Site.state c.args.site.now in
@@ -71,6 +99,7 @@ returns-in-Err-tell_all-clause-never g c run good =
     let each = c.tell_all.ensures.any_moment honest in
     record {
       stops = opening_lost run old mid leaves new c.as_slice.result.now is each ((c.tell_all.ensures.same honest).loose ∙ c.in-Ok.ensures.calls.stays_quiet good.honest good.quiet);
+      tells = tells_done g (goal.at.returns-in-Err-tell_all-clause-never g c).After-tell_all run good;
       demands = demands_err c.args.pool (first_lines run 0) old new halt.Output (λ dev says. cc)
           (λ newest blocks sound. restart_told run (log_under newest blocks) old c.start.result _ _ mid new each (c.start.ensures.numbers good.honest good.quiet run.geometry newest blocks sound))
           (λ newest blocks sound. first_reads c.args.pool run newest old.image blocks c.start.result (λ e. e.store.pages) old mid new c.tell_all.ensures.reads
@@ -118,7 +147,7 @@ returns-in-Ok-tell_all-clause-opens g c run good =
           let restart = restart_works (logical_image_under newest run.geometry old.image blocks) in
           subst (λ (w : List CacheOp). HasLastFrom run.geometry r w (cache_on run.geometry old.image) old new) (sym (append-nil restart))
           (last_told run.geometry r restart (cache_on run.geometry old.image) _ old mid new (c.start.ensures.writes good.honest good.quiet run.geometry newest blocks sound).grown each (c.in-Ok.ensures.last good.honest good.quiet run.geometry newest blocks sound));
-    }) (c.in-Ok-tell_all.ensures.told honest)
+    }) (c.in-Ok-tell_all.ensures.told honest) (tells_done g (goal.at.returns-in-Ok-tell_all-clause-opens g c).After-tell_all run good)
 
 pub returns-in-Ok-tell_all-clause-going : goal.returns-in-Ok-tell_all-clause-going
 returns-in-Ok-tell_all-clause-going g c =

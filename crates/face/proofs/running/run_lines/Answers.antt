@@ -136,7 +136,8 @@ loop-line-preserved g c =
             let at = at g s run begins in
             subst (HasAnswered c.args.pool run later _ new c.answer.new.engine) (sym (add-one i))
             (answered_next c.args.pool run _ next new c.loop-line.engine i c.in_default.field-0 c.answer.new.engine c.in-Line.line at.0 at.1 so_far c.in_default.ensures.course
-            (c.in_default.ensures.tells (state_at run i) (listing_at run i) (is_asked c.in-Line.line later so_far) so_far.fits so_far.quiet));
+            (c.in_default.ensures.tells (state_at run i) (listing_at run i) (is_asked c.in-Line.line later so_far) so_far.fits so_far.quiet) c.queue_is_on_flash.ensures c.versions_are_seen.ensures
+            (c.answer.ensures.hands (state_at run i) (listing_at run i) (is_asked c.in-Line.line later so_far) so_far.fits so_far.quiet));
       };
     }
 
@@ -173,7 +174,8 @@ returns-in-Err-answer-clause-works g c =
           let at = at g s run begins in
           answer_failed c.args.pool run _ (g.S.Site.state c.loop-line.site) next new c.loop-line.source c.next.new.self c.loop-line._line (c.loop-line.invariant.cut begins.honest) c.loop-line.invariant.source c.in-Line.line (hears g s begins.honest) (ended g s begins.honest) c.next.ensures.source
           (c.in-Err-answer.ensures.course.left so_far.fits.honest) [] c.loop-line.engine c.answer.new.engine so_far at.0 at.1 c.in-Err-answer.halt c.in-Err-answer.ensures.course
-          (c.in-Err-answer.ensures.tells (state_at run c.loop-line._line) (listing_at run c.loop-line._line) (is_asked c.in-Line.line [] so_far) so_far.fits so_far.quiet) (answer_takes_nothing c.in-Err-answer.halt c.loop-line.engine next new c.in-Err-answer.ensures.course.cause),
+          (c.in-Err-answer.ensures.tells (state_at run c.loop-line._line) (listing_at run c.loop-line._line) (is_asked c.in-Line.line [] so_far) so_far.fits so_far.quiet) (answer_takes_nothing c.in-Err-answer.halt c.loop-line.engine next new c.in-Err-answer.ensures.course.cause) c.queue_is_on_flash.ensures c.versions_are_seen.ensures
+          (c.answer.ensures.hands (state_at run c.loop-line._line) (listing_at run c.loop-line._line) (is_asked c.in-Line.line [] so_far) so_far.fits so_far.quiet),
     )
 
 pub returns-then-last-clause-works : goal.returns-then-last-clause-works
@@ -189,7 +191,8 @@ returns-then-last-clause-works g c =
           quitted c.args.pool run _ (g.S.Site.state c.loop-line.site) next new c.loop-line.source c.next.new.self i (c.loop-line.invariant.cut begins.honest) c.loop-line.invariant.source c.in-Line.line (hears g s begins.honest) (ended g s begins.honest) c.next.ensures.source
           (c.in_default.ensures.course.left so_far.fits.honest) _ c.answer.new.engine (sym c.quits-last.ensures ∙ c.if-last.true) c.queue_is_on_flash.ensures c.versions_are_seen.ensures
           (answered_next c.args.pool run _ next new c.loop-line.engine i c.in_default.field-0 c.answer.new.engine c.in-Line.line at.0 at.1 so_far c.in_default.ensures.course
-          (c.in_default.ensures.tells (state_at run i) (listing_at run i) (is_asked c.in-Line.line [] so_far) so_far.fits so_far.quiet)),
+          (c.in_default.ensures.tells (state_at run i) (listing_at run i) (is_asked c.in-Line.line [] so_far) so_far.fits so_far.quiet) c.queue_is_on_flash.ensures c.versions_are_seen.ensures
+          (c.answer.ensures.hands (state_at run i) (listing_at run i) (is_asked c.in-Line.line [] so_far) so_far.fits so_far.quiet)),
     )
 
 pub returns-clause-works : goal.returns-clause-works

@@ -1,6 +1,7 @@
-use Rattle.std.proofs.Common.{◌-◌, ◌≤◌, IsTrue}
+use Rattle.std.proofs.Common.{◌≡◌, ◌⊎◌, ◌-◌, ◌≤◌, IsTrue}
+use Rattle.std.specs.Prelude.{◌%◌}
 use Rattle.site.specs.State.{content_of}
-use Rattle.site.specs.Calls.{Preserves, IsUnchanged}
+use Rattle.site.specs.Calls.{Preserves, IsUnchanged, ReadsMore}
 use Rattle.front_end.specs.New.{AreZero}
 use Rattle.front_end.specs.Faults.{SameFaults}
 use Rattle.front_end.proofs.new_database.find_nonzero.Given as goal
@@ -13,6 +14,8 @@ invariant-loop-at g l =
       at : l.at ≤ l.len;
       preserves : Preserves old now;
       faults : SameFaults old now;
+      reads : ReadsMore l.dev l.at old now;
+      cut : (l.at ≡ l.len) ⊎ (l.at % 4096 ≡ 0);
       same : IsTrue old.honest → IsUnchanged old now;
       zeros : IsTrue old.honest → AreZero (content_of l.dev old.image) 0 l.at;
     }

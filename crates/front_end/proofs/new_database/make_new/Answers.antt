@@ -10,14 +10,14 @@ pub returns-in-Ok-tell_ready-clause-new : goal.returns-in-Ok-tell_ready-clause-n
 returns-in-Ok-tell_ready-clause-new g c =
     let old = g.S.Site.state c.args.site.now in
     let mid = g.S.Site.state c.test_fit.new.site in
-    answered c.args.geometry.now old mid (g.S.Site.state c.tell_ready.new.site) (ready_line c.args.geometry.now) 0 c.tell_ready.result c.test_fit.ensures.preserves c.test_fit.ensures.same c.test_fit.ensures.unread c.tell_ready.ensures
+    answered c.args.geometry.now old mid (g.S.Site.state c.tell_ready.new.site) (ready_line c.args.geometry.now) 0 c.tell_ready.result c.test_fit.ensures.preserves c.test_fit.ensures.same c.test_fit.ensures.unread c.test_fit.ensures.few c.tell_ready.ensures
     (inr (inl (refl, refl, c.in-Ok.ensures.fit))) (λ honest done. c.in-Ok-tell_ready.ensures.told (stays_honest old mid c.test_fit.ensures.preserves honest))
 
 pub returns-in-Err-tell_ready-clause-new : goal.returns-in-Err-tell_ready-clause-new
 returns-in-Err-tell_ready-clause-new g c =
     let old = g.S.Site.state c.args.site.now in
     let mid = g.S.Site.state c.test_fit.new.site in
-    answered c.args.geometry.now old mid (g.S.Site.state c.tell_ready.new.site) (ready_line c.args.geometry.now) 6 c.tell_ready.result c.test_fit.ensures.preserves c.test_fit.ensures.same c.test_fit.ensures.unread c.tell_ready.ensures
+    answered c.args.geometry.now old mid (g.S.Site.state c.tell_ready.new.site) (ready_line c.args.geometry.now) 6 c.tell_ready.result c.test_fit.ensures.preserves c.test_fit.ensures.same c.test_fit.ensures.unread c.test_fit.ensures.few c.tell_ready.ensures
     (inr (inr (inl (refl, refl, c.in-Ok.ensures.fit, search rules)))) (λ honest done. absurd (omega (arith, done)))
 
 pub returns-in-Err-clause-new : goal.returns-in-Err-clause-new
@@ -25,7 +25,7 @@ returns-in-Err-clause-new g c =
     let old = g.S.Site.state c.args.site.now in
     let mid = g.S.Site.state c.test_fit.new.site in
     let new = g.S.Site.state c.tell_unfit.new.site in
-    answered c.args.geometry.now old mid new (unfit_line c.in-Err.unfit) c.status.result c.tell_unfit.result c.test_fit.ensures.preserves c.test_fit.ensures.same c.test_fit.ensures.unread c.tell_unfit.ensures
+    answered c.args.geometry.now old mid new (unfit_line c.in-Err.unfit) c.status.result c.tell_unfit.result c.test_fit.ensures.preserves c.test_fit.ensures.same c.test_fit.ensures.unread c.test_fit.ensures.few c.tell_unfit.ensures
     (inl (c.in-Err.unfit, c.status.ensures, refl, unfit_stays c.in-Err.unfit c.args.geometry.now old mid new c.in-Err.ensures.unfit c.tell_unfit.ensures.preserves))
     (λ honest done. absurd (not_done c.in-Err.unfit (sym c.status.ensures ∙ done)))
 

@@ -1,10 +1,11 @@
-use Rattle.std.proofs.Common.{◌≡◌, ◌+◌, ◌<◌, ◌++◌, [], List, ℕ, length, get_or, refl, sym, ◌∙◌, ap, subst, arith, append_assoc, add-one, length-append}
+use Rattle.std.proofs.Common.{inl, ◌≡◌, ◌+◌, ◌<◌, ◌++◌, [], List, ℕ, length, get_or, refl, sym, ◌∙◌, ap, subst, arith, append_assoc, add-one, length-append}
 use Rattle.std.proofs.lemmas.List.{append-nil}
 use Rattle.site.specs.Moments.{EachMoment}
 use Rattle.site.specs.Telling.{TellsPart}
 use Rattle.site.specs.Laws.{stays_honest, goes_nowhere, no_call, goes_in_sequence, devices_in_sequence}
 use Rattle.shell_text.specs.Texts.{reply_text, reply_lines}
-use Rattle.front_end.proofs.Replies.{all_lines, first_of, line_more, piece_told, nothing_told}
+use Rattle.front_end.specs.Tells.{HandsLines, HandsRest}
+use Rattle.front_end.proofs.Replies.{all_lines, first_of, line_more, lines_handed, piece_told, nothing_told}
 use Rattle.front_end.proofs.text.tell_reply.Goals as goal
 
 pub loop-place-init : goal.loop-place-init
@@ -18,6 +19,7 @@ loop-place-init g c =
       told = λ honest. sym (append-nil old.told);
       tells_only = λ honest. record { calls = omega arith; works = refl };
       moments = λ honest. no_call old (TellsPart (reply_text c.args.reply.now) old) (nothing_told (reply_text c.args.reply.now) old);
+      lines = λ honest. no_call old (HandsLines (reply_lines c.args.reply.now) old.told) (inl refl);
     }
 
 pub loop-place-preserved : goal.loop-place-preserved
@@ -49,6 +51,8 @@ loop-place-preserved g c =
       moments = λ honest.
           piece_told (first_of place lines) (get_or lines place []) more.0 (reply_text c.args.reply.now) old mid new more.1 (c.loop-place.invariant.same honest) (c.loop-place.invariant.told honest) (c.loop-place.invariant.moments honest)
           (subst (λ (t : List ℕ). EachMoment mid new (TellsPart t mid)) piece (c.tell_all.ensures.any_moment (stays_honest old mid c.loop-place.invariant.preserves honest)));
+      lines = λ honest. lines_handed lines place (get_or lines place []) old mid new more.2 (c.loop-place.invariant.told honest) (c.loop-place.invariant.lines honest)
+          (subst (λ (t : List ℕ). EachMoment mid new (HandsRest t mid)) piece (c.tell_all.ensures.hands (stays_honest old mid c.loop-place.invariant.preserves honest)));
     }
 
 pub returns-in-Err-clause-any_moment : goal.returns-in-Err-clause-any_moment
@@ -63,6 +67,19 @@ returns-in-Err-clause-any_moment g c honest =
     let piece : c.as_slice.result.now ≡ get_or lines place [] = c.as_slice.ensures.value ∙ c.reply_line.ensures in
     piece_told (first_of place lines) (get_or lines place []) more.0 (reply_text c.args.reply.now) old mid new more.1 (c.loop-place.invariant.same honest) (c.loop-place.invariant.told honest) (c.loop-place.invariant.moments honest)
     (subst (λ (t : List ℕ). EachMoment mid new (TellsPart t mid)) piece (c.tell_all.ensures.any_moment (stays_honest old mid c.loop-place.invariant.preserves honest)))
+
+pub returns-in-Err-clause-lines : goal.returns-in-Err-clause-lines
+returns-in-Err-clause-lines g c honest =
+    let old = g.S.Site.state c.args.site.now in
+    let mid = g.S.Site.state c.loop-place.site in
+    let new = g.S.Site.state c.tell_all.new.site in
+    let place = c.loop-place.place in
+    let lines = reply_lines c.args.reply.now in
+    let less : place < length lines = omega (arith, c.loop-place-test.true, c.line_count-place-end.ensures) in
+    let more = line_more lines place less in
+    let piece : c.as_slice.result.now ≡ get_or lines place [] = c.as_slice.ensures.value ∙ c.reply_line.ensures in
+    lines_handed lines place (get_or lines place []) old mid new more.2 (c.loop-place.invariant.told honest) (c.loop-place.invariant.lines honest)
+    (subst (λ (t : List ℕ). EachMoment mid new (HandsRest t mid)) piece (c.tell_all.ensures.hands (stays_honest old mid c.loop-place.invariant.preserves honest)))
 
 pub returns-clause-tells_only : goal.returns-clause-tells_only
 returns-clause-tells_only g c honest =

@@ -5,6 +5,7 @@ use Rattle.site.specs.Telling.{TellsOnly, TellsPart, SameDevices}
 use Rattle.shell_text.specs.Texts.{reply_text, reply_lines}
 use Rattle.front_end.proofs.Replies.{first_of}
 use Rattle.front_end.specs.Faults.{SameFaults}
+use Rattle.front_end.specs.Tells.{HandsLines}
 use Rattle.front_end.proofs.text.tell_reply.Given as goal
 
 abbrev pub invariant-loop-place : goal.invariant-loop-place
@@ -19,4 +20,5 @@ invariant-loop-place g l =
       told : IsTrue old.honest → now.told ≡ old.told ++ first_of l.place (reply_lines l.reply);
       tells_only : IsTrue old.honest → TellsOnly (length (first_of l.place (reply_lines l.reply))) old now;
       moments : IsTrue old.honest → EachMoment old now (TellsPart (reply_text l.reply) old);
+      lines : IsTrue old.honest → EachMoment old now (HandsLines (reply_lines l.reply) old.told);
     }
