@@ -1,5 +1,5 @@
 -- Lists under `map`, `filter` and tests, and fronts of lists.
-use Rattle.std.proofs.Common.{◌≡◌, ◌≢◌, ℕ, zero, suc, ◌+◌, ◌-◌, ◌<◌, ◌≤◌, Bool, true, false, cond, ◌||◌, List, [], ◌∷◌, ◌++◌, map, filter, reverse, length, get_or, take, drop, slice_get, Some, refl, sym, ap, ◌∙◌, length-append, length-take-le, take_at, arith}
+use Rattle.std.proofs.Common.{◌≡◌, ℕ, zero, suc, ◌+◌, ◌-◌, ◌<◌, ◌≤◌, Bool, true, false, cond, ◌||◌, List, [], ◌∷◌, ◌++◌, map, filter, reverse, length, get_or, take, drop, slice_get, Some, refl, sym, ap, ◌∙◌, length-append, length-take-le, take_at, arith}
 use mathlib.Core.List.{reverse_aux}
 use Rattle.std.specs.List.{AllByRecursion, list_any, range_with_len}
 use Rattle.std.proofs.lemmas.List.{reverse-append, take_more, drop_more}
@@ -48,10 +48,6 @@ pub any_between : {X : Type 0} (test : X → Bool) (xs : List X) (x : X) (ys : L
 any_between test xs x ys here = list_any-append test xs (x ∷ ys) ∙ or_right (list_any test xs) (test x || list_any test ys) (or_left (test x) (list_any test ys) here)
 
 -- Lengths, and parts at the front.
-
-pub some_length : {X : Type 0} (xs : List X) → xs ≢ [] → 1 ≤ length xs
-some_length [] h = absurd (h refl)
-some_length (x ∷ xs) h = omega arith
 
 pub length_front : {X : Type 0} (xs ys : List X) (n : ℕ) → n ≤ length xs → length (take n xs ++ ys) ≡ n + length ys
 length_front xs ys n h = length-append (take n xs) ys ∙ ap (λ k. k + length ys) (length-take-le n xs h)
