@@ -1,3 +1,5 @@
+use Rattle.std.proofs.lemmas.Result.{err_from_is_err_and}
+use Rattle.site.proofs.Working.{looks_then, looks_failed}
 use Rattle.std.proofs.Common.{rules, ◌+◌, ◌*◌, List, length, ◌<◌, ℕ, true≢false, Err, Ok, refl, sym, ◌∙◌, subst, arith}
 use Rattle.std.specs.Prelude.{Option, IfSome}
 use Rattle.log_records.specs.declared.log_record.LogRecord.{LogRecord}
@@ -9,7 +11,7 @@ use Rattle.image_form.specs.Verdict.{logical_image_of}
 use Rattle.image_check.specs.Judging.{reading_of}
 use Rattle.image_check.proofs.OpenOnes.{third_at, third_of}
 use Rattle.image_check.proofs.Surveyed.{comes, one_more}
-use Rattle.image_check.proofs.Walking.{in_order, walk_begins, walk_goes_on, judged_at, judged_end}
+use Rattle.image_check.proofs.Walking.{in_order, walk_begins, walk_goes_on, judged_at, judged_end, reads_lacked}
 use Rattle.image_check.proofs.survey.rule_transactions.Goals as goal
 
 pub loop-survey-init : goal.loop-survey-init
@@ -45,3 +47,19 @@ returns g c = judged_end c.loop-survey.invariant c.in_ok-lsn.field-0 c.next.new.
     let few = so_far.few in
     let p = logical_image_of (reading_of c.args.found.now blocks) (g.S.Site.state c.args.site.now).image in
     ((λ yes. third_of p so_far.stand, λ rule. refl), record { surveys = so_far.surveys; few = omega (arith, few) }))
+
+pub returns-in-Err : goal.returns-in-Err
+returns-in-Err g c =
+    let now = g.S.Site.state c.loop-survey.site in
+    record { says = tt; reads = reads_lacked c.in-Err.ensures.stops (looks_then tt _ _ now _ c.loop-survey.invariant.reads c.in_ok-lsn.ensures.reads) }
+
+pub returns-in-Err-hear : goal.returns-in-Err-hear
+returns-in-Err-hear g c =
+    let now = g.S.Site.state c.loop-survey.site in
+    record { says = tt; reads = reads_lacked c.in-Err-hear.ensures.stops (looks_then tt _ _ now _ c.loop-survey.invariant.reads c.in_ok-lsn.ensures.reads) }
+
+pub returns-in_err-lsn : goal.returns-in_err-lsn
+returns-in_err-lsn g c =
+    let p = err_from_is_err_and c.from_residual-in_err-lsn.result c.from_residual-in_err-lsn.ensures.1 in
+    let now = g.S.Site.state c.loop-survey.site in
+    record { says = search rules; reads = rw (p.1, p.2) (looks_then tt _ _ now _ c.loop-survey.invariant.reads (looks_failed c.in_err-lsn.field-0.0 now _ c.in_err-lsn.ensures.reads)) }

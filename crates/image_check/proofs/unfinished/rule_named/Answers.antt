@@ -6,7 +6,7 @@ pub returns : goal.returns
 returns c = record {
   named = λ records left.
       let early = before_block c.args.master.now.redo records in
-      let items = c.args.early.now.left.items in (
+      let items = c.args.early.now.left in (
         λ yes. named_are_active early items c.args.master.now.active left (c.are_named.ensures.0 yes),
         λ rule. c.are_named.ensures.1 (active_are_named early items c.args.master.now.active left rule),
       );

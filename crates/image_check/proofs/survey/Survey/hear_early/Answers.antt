@@ -13,7 +13,7 @@ returns-clause-early c = memory_as c.hear.result (λ x says records comes left.
     let few = comes.few in
     let e : Entry = record { lsn = c.args.lsn; rec = c.args.rec.now } in
     let less = early_least c.args.redo records in
-    subst (λ (l : List Entry). AreLeft l c.hear.new.self.left.items) (sym (early_more c.args.redo records e (omega (arith, c.if-lsn-redo.false))))
+    subst (λ (l : List Entry). AreLeft l c.hear.new.self.left) (sym (early_more c.args.redo records e (omega (arith, c.if-lsn-redo.false))))
     (says (before_block c.args.redo records) (record {
       from = comes.from;
       in_order = in_order_filter (λ x. nat_lt x.lsn (512 * c.args.redo)) comes.from records c.args.lsn comes.in_order;

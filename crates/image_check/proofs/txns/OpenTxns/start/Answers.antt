@@ -1,9 +1,8 @@
-use Rattle.std.proofs.Common.{◌≡◌, ◌==◌, ◌||◌, Bool, true, false, ℕ, nat_eq, cond, get_or, List, take, refl, sym, ap, ◌∙◌, arith}
+use Rattle.std.proofs.Common.{◌≡◌, ◌==◌, ◌||◌, Bool, true, false, cond, List, take, refl, sym, ap, ◌∙◌, arith}
 use Rattle.std.specs.List.{list_any}
 use Rattle.std.proofs.lemmas.List.{take_all}
 use Rattle.std.proofs.lemmas.Option.{get_or_from_slice_get}
 use Rattle.std.proofs.lemmas.List.Folds.{list_any_more}
-use Rattle.indexmap.specs.IndexSet.{contains}
 use Rattle.checkpoint.specs.declared.pairs.Pair.{Pair}
 use Rattle.checkpoint.specs.Newest.{seen}
 use Rattle.image_check.proofs.OpenOnes.{open_first}

@@ -1,4 +1,4 @@
-use Rattle.std.proofs.Common.{◌≡◌, ◌+◌, true≢false, length, sym, ap, ◌∙◌, arith}
+use Rattle.std.proofs.Common.{true≢false, length, sym, ap, arith}
 use Rattle.checkpoint.specs.declared.pairs.Pair.{Pair}
 use Rattle.image_check.proofs.LeftOnes.{named_more, named_not}
 use Rattle.image_check.proofs.unfinished.LeftTxns.are_named.Goals as goal

@@ -1,9 +1,9 @@
-use Rattle.std.proofs.Common.{◌≡◌, true, false, ℕ, Some, None, sym, ap, ◌∙◌, arith}
+use Rattle.std.proofs.Common.{◌≡◌, ℕ, Some, sym, ap, ◌∙◌, arith}
 use Rattle.std.specs.BTreeMap.{BTreeMap, is_at}
 use Rattle.std.specs.Map.{lookup, remove_entry, set_value}
 use Rattle.std.specs.Option.{option_copied_mut}
 use Rattle.std.specs.Ordering.{nat_cmp}
-use Rattle.log_records.specs.Log.{Entry, txn_of, is_closing}
+use Rattle.log_records.specs.Log.{Entry, txn_of}
 use Rattle.image_check.specs.declared.unfinished.Left.{Left}
 use Rattle.image_check.proofs.LeftOnes.{left_same, left_closed, left_few, left_more}
 use Rattle.image_check.proofs.unfinished.LeftTxns.go_on.Goals as goal
