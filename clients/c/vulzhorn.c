@@ -111,7 +111,8 @@ static vulzhorn_error of_status(int status, const char *said) {
         const char *sentence;
         vulzhorn_error error;
     } ends[] = {{9, "another program is at work", VULZHORN_IN_USE}, {9, "has no database", VULZHORN_NO_DATABASE},
-                {9, "can't be opened", VULZHORN_UNUSABLE}, {9, "can't be made", VULZHORN_UNUSABLE},
+                {9, "can't be opened", VULZHORN_UNUSABLE}, {9, "is no file", VULZHORN_UNUSABLE},
+                {9, "can't be made", VULZHORN_UNUSABLE},
                 {9, "these sizes ask for", VULZHORN_WRONG_SIZES}, {9, "", VULZHORN_DAMAGED},
                 {2, "", VULZHORN_WRONG_SIZES}, {3, "", VULZHORN_DEVICE}, {8, "", VULZHORN_WORN},
                 {10, "", VULZHORN_NOT_BLANK}, {NOT_STARTED, "", VULZHORN_UNUSABLE}};

@@ -298,7 +298,7 @@ class Openings(Case):
         os.rename(self.path("db/face.flash"), self.path("db/kept"))
         self.refused(Damaged, "face.flash is missing", self.path("db"))
         os.mkdir(self.path("db/face.flash"))
-        self.refused(Unusable, "can't be opened", self.path("db"))
+        self.refused(Unusable, "is no file", self.path("db"))
         os.rmdir(self.path("db/face.flash"))
         with open(self.path("db/face.flash"), "wb") as file:
             file.truncate(os.path.getsize(self.path("db/kept")))

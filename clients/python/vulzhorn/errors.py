@@ -94,7 +94,7 @@ class Unanswered(Ended):
 
 REFUSALS = {"busy": Busy, "record": NoSuchRecord, "long": ValueTooLong, "session": NoSession, "full": LogFull}
 STATUSES = {2: WrongSizes, 3: DeviceFailed, 8: Worn, 9: Damaged, 10: NotBlank}
-FOREIGN = {"another program is at work": InUse, "this folder has no database": NoDatabase, "can't be opened": Unusable,
+FOREIGN = {"another program is at work": InUse, "this folder has no database": NoDatabase, "can't be opened": Unusable, "is no file": Unusable,
            "can't be made": Unusable, "these sizes ask for": WrongSizes}
 
 
