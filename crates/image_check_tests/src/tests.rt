@@ -1,4 +1,7 @@
 // The rules on a site in memory. A test is a table of devices and of what is found on them, which one function plays.
+ghost use Rattle.std.specs.Prelude.{IfOk, IfSome};
+ghost use Rattle.image_check.specs.Judging.{MayBeJudged};
+ghost use Rattle.mem_site.specs.MemState.{state_of};
 
 use checkpoint::{Master, Pairs};
 use image_check::{
@@ -6,7 +9,7 @@ use image_check::{
     rule_transactions, rule_undoable,
 };
 use image_form::{
-    Place, rule_blocks, rule_clean, rule_following, rule_groups, rule_kept, rule_lengths,
+    Found, Place, rule_blocks, rule_clean, rule_following, rule_groups, rule_kept, rule_lengths,
     rule_master, rule_rings, rule_segments, rule_versions,
 };
 use log_store::LogStore;
@@ -241,34 +244,47 @@ enum LogRule {
     OneCommit,
 }
 
-// Whether a rule on the log holds with the first and the third, where the lengths are those of sizes and the kept
-// blocks are live.
-fn holds_of_log(
-    alloc: Global,
-    site: &mut MemSite,
-    master: &Master,
-    rule: LogRule,
-) -> Result<Option<bool>, Stop> {
+// The log and the rings that stand there, with this master, where the lengths are those of sizes, the rings are of the
+// form and the kept blocks are live.
+fn found_with(site: &mut MemSite, master: Master) -> Result<Option<Found>, Stop>
+    ensures { IfOk result (λ found. IfSome found (λ found. MayBeJudged found (state_of site.new))) }
+{
     let Some(geometry) = rule_lengths(site) else {
         return Ok(None);
     };
+    let Ok(rings) = rule_rings(site, &geometry)? else {
+        return Ok(None);
+    };
     let log = LogStore::start(site, &geometry)?;
-    if !rule_kept(&log, master) {
+    if !rule_kept(&log, &master) {
         return Ok(None);
     }
-    if rule_blocks(site, &log, 0)?.is_some() {
+    Ok(Some(Found { rings, master, log }))
+}
+
+// Whether a rule on the log holds with the first and the third.
+fn holds_of_log(
+    alloc: Global,
+    site: &mut MemSite,
+    master: Master,
+    rule: LogRule,
+) -> Result<Option<bool>, Stop> {
+    let Some(found) = found_with(site, master)? else {
+        return Ok(None);
+    };
+    if rule_blocks(site, &found.log, 0)?.is_some() {
         return Ok(Some(false));
     }
-    let Ok(survey) = rule_transactions(alloc, site, &log, master)? else {
+    let Ok(survey) = rule_transactions(alloc, site, &found)? else {
         return Ok(Some(false));
     };
     let holds = match rule {
         LogRule::Formed => true,
-        LogRule::Undoable => { rule_undoable(alloc, site, &log, master, &survey.left)?.is_none() }
-        LogRule::Apart => rule_apart(alloc, site, &log, master, &survey.left)?.is_none(),
-        LogRule::Room => rule_room(&log, master, &survey.left),
-        LogRule::Named => rule_named(master, &survey.early),
-        LogRule::OneCommit => rule_commits(&log, master, &survey.numbers) == Some(1),
+        LogRule::Undoable => rule_undoable(alloc, site, &found, &survey.left)?.is_none(),
+        LogRule::Apart => rule_apart(alloc, site, &found, &survey.left)?.is_none(),
+        LogRule::Room => rule_room(&found, &survey.left),
+        LogRule::Named => rule_named(&found.master, &survey.early),
+        LogRule::OneCommit => rule_commits(&found, &survey.numbers) == Some(1),
     };
     Ok(Some(holds))
 }
@@ -286,7 +302,7 @@ fn names_the_active(alloc: Global, site: &mut MemSite, named: bool) -> Result<Op
         commits: 0,
         active,
     };
-    holds_of_log(alloc, site, &master, LogRule::Named)
+    holds_of_log(alloc, site, master, LogRule::Named)
 }
 
 // The rules on the rings of flash, and on pages.
@@ -325,17 +341,10 @@ fn values_after(alloc: Global, site: &mut MemSite, redo: u64) -> Result<Option<u
         commits: 0,
         active: Pairs::new(),
     };
-    let Some(geometry) = rule_lengths(site) else {
+    let Some(found) = found_with(site, master)? else {
         return Ok(None);
     };
-    let Ok(rings) = rule_rings(site, &geometry)? else {
-        return Ok(None);
-    };
-    let log = LogStore::start(site, &geometry)?;
-    if !rule_kept(&log, &master) {
-        return Ok(None);
-    }
-    Ok(rule_shown(alloc, site, &log, &rings, &master)?.ok())
+    Ok(rule_shown(alloc, site, &found)?.ok())
 }
 
 // The place where devices fail the first rule that fails, if one does.
@@ -370,7 +379,7 @@ enum Finds {
 fn is_found(alloc: Global, site: &mut MemSite, found: Finds) -> Result<bool, Stop> {
     match found {
         Finds::OnLog(rule, holds) => {
-            Ok(holds_of_log(alloc, site, &Master::blank(), rule)? == Some(holds))
+            Ok(holds_of_log(alloc, site, Master::blank(), rule)? == Some(holds))
         }
         Finds::Named(named, holds) => Ok(names_the_active(alloc, site, named)? == Some(holds)),
         Finds::Lengths => Ok(rule_lengths(site) == Some(SMALL)),
