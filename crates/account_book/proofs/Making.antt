@@ -6,7 +6,7 @@ use Rattle.record_model.specs.declared.words.Reply.{Reply}
 use Rattle.database.specs.declared.unanswered.Unanswered.{Unanswered}
 use Rattle.database.specs.Held.{Held}
 use Rattle.database.specs.Serving.{Serves}
-use Rattle.site.specs.Laws.{leaves_weaker}
+use Rattle.site.proofs.Laws.{leaves_weaker}
 use Rattle.database.specs.Course.{Call, CallsAreDurable, LeavesCommits, may_commit, may_commit_in, run_of}
 use Rattle.database.proofs.Following.{one_call, calls_then}
 use Rattle.account_book.specs.Payments.{MakesCalls, MakesOneCommit}

@@ -40,21 +40,6 @@ below_to n txn (x ∷ items) (suc place) z ascend inside is less =
         let later = from_at (u.txn + 1) ys k y h.1 (omega (arith, far)) same in
         omega (arith, low, later)
 
-pub begins_from : (txn : ℕ) (items : List Transaction) (place : ℕ) (z : Transaction) → place < length items → z ≡ get_or items place z → txn ≤ z.txn → BeginsFrom txn (drop place items)
-begins_from txn [] place z inside is le = absurd (omega (arith, inside))
-begins_from txn (x ∷ items) zero z inside is le = subst (λ (y : Transaction). txn ≤ y.txn) is le
-begins_from txn (x ∷ items) (suc place) z inside is le = begins_from txn items place z (omega (arith, inside)) is le
-
-pub begins_behind : (txn : ℕ) (items : List Transaction) (place : ℕ) (z : Transaction) → place < length items → z ≡ get_or items place z → (z.txn ≡ txn → ⊥) → BeginsFrom txn (drop place items) → BeginsBehind txn (drop place items)
-begins_behind txn [] place z inside is other from = absurd (omega (arith, inside))
-begins_behind txn (x ∷ items) zero z inside is other from =
-    let apart : x.txn ≡ txn → ⊥ = λ same. other (ap (λ (y : Transaction). y.txn) is ∙ same) in
-    less_of txn x.txn from apart
-  where
-    less_of : (a b : ℕ) → a ≤ b → (b ≡ a → ⊥) → a < b
-    less_of a b le apart = grind (arith, le, apart)
-begins_behind txn (x ∷ items) (suc place) z inside is other from = begins_behind txn items place z (omega (arith, inside)) is other from
-
 -- a transaction at its place
 pub record IsSplit (items : List Transaction) (place txn : ℕ) : Type 0 where
   pub x : Transaction

@@ -7,7 +7,7 @@ use Rattle.site.specs.Geometry.{HasLimits, HasLengths}
 use Rattle.site.specs.State.{State, Snapshot, IsQuiet}
 use Rattle.site.specs.Calls.{Preserves}
 use Rattle.site.specs.Moments.{LeavesOnly, OnlyDevice}
-use Rattle.site.specs.Laws.{leaves_weaker, leaves_others_too}
+use Rattle.site.proofs.Laws.{leaves_weaker, leaves_others_too}
 use Rattle.sealed_ring.specs.declared.slots.Shape.{Shape}
 use Rattle.sealed_ring.specs.declared.ring.Ring.{Ring}
 use Rattle.sealed_ring.specs.Ring.{IsRing, SameOutside, units_of, appended}

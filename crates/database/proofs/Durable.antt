@@ -8,7 +8,7 @@ use Rattle.site.specs.State.{Image, Snapshot, MayLeave, IsQuiet, now_of}
 use Rattle.site.specs.Moments.{Leaves, LeavesOnly}
 use Rattle.site.proofs.Working.{ok_as}
 use Rattle.std_lemmas.proofs.Results.{on_ok}
-use Rattle.site.specs.Laws.{holds_now, in_sequence, image_is, leaves_weaker, no_call, told_is}
+use Rattle.site.proofs.Laws.{holds_now, in_sequence, image_is, leaves_weaker, no_call, told_is}
 use Rattle.record_model.specs.declared.words.CacheLine.{CacheLine}
 use Rattle.record_model.specs.declared.words.Reply.{Reply}
 use Rattle.record_model.specs.State.{Content, State}

@@ -8,7 +8,7 @@ use Rattle.site.specs.declared.outside.Stop.{Stop}
 use Rattle.site.specs.declared.outside.Stop.TheVariants.{Device, Memory, Worn}
 use Rattle.site.specs.State.{State as Site, Snapshot, IsQuiet}
 use Rattle.site.specs.Moments.{LeavesOnly}
-use Rattle.site.specs.Laws.{leaves_weaker}
+use Rattle.site.proofs.Laws.{leaves_weaker}
 use Rattle.site.specs.Work.{Calls}
 use Rattle.site.proofs.Working.{calls_nothing, calls_refused, err_as, of_error}
 use Rattle.record_model.specs.State.{State}

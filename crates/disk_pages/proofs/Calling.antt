@@ -5,7 +5,7 @@ use Rattle.site.specs.declared.outside.Dev.TheVariants.{Disk}
 use Rattle.site.specs.declared.outside.Stop.{Stop}
 use Rattle.site.specs.State.{State}
 use Rattle.site.specs.Faults.{after_work}
-use Rattle.site.specs.Laws.{goes_in_sequence, fault_since}
+use Rattle.site.proofs.Laws.{goes_in_sequence, fault_since}
 use Rattle.disk_pages.specs.Calls.{WritesDisk}
 
 on_err_weaker : {T E : Type 0} (r : Result T E) {P Q : Type 0} → (P → Q) → OnErr r P → OnErr r Q

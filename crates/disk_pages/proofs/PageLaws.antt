@@ -2,7 +2,7 @@
 use Rattle.std.proofs.Common.{◌≡◌, inl, inr, ℕ, ◌+◌, ◌*◌, ◌≤◌, ◌<◌, List, length, drop, get_or, sym, ◌∙◌, arith}
 use Rattle.std.proofs.lemmas.Bool.{cases_order}
 use Rattle.std.proofs.lemmas.List.{same_lists, get_or_default, get_or-take, get_or-drop, length-take-le, length-drop}
-use Rattle.site.specs.Laws.{length-put, put_below, put_behind, put_here}
+use Rattle.site.proofs.Laws.{length-put, put_below, put_behind, put_here}
 use Rattle.disk_pages.specs.Pages.{LiesOn, page_on, with_page}
 use Rattle.disk_pages.specs.Laws.{IsBesidePage}
 use Rattle.disk_pages.specs.Laws.{HasWritten}

@@ -6,7 +6,7 @@ use Rattle.site.specs.declared.outside.Failed.{Failed}
 use Rattle.site.specs.State.{State, MayLeave}
 use Rattle.site.specs.Calls.{within_write, Wrote}
 use Rattle.site.specs.Moments.{LeavesOnly}
-use Rattle.site.specs.Laws.{write_leaves_only}
+use Rattle.site.proofs.Laws.{write_leaves_only}
 use Rattle.disk_pages.specs.Pages.{LiesOn, within_page}
 
 pub page_leaves : {T : Type 0} (page at : ℕ) (bytes : List ℕ) (old new : State) (result : Result T Failed) → at ≡ 4096 * page → length bytes ≡ 4096 → LiesOn page old.image.disk

@@ -7,7 +7,7 @@ use Rattle.site.specs.declared.outside.Stop.{Stop}
 use Rattle.site.specs.State.{State as Site, Image, Snapshot, IsQuiet}
 use Rattle.site.specs.declared.geometry.Geometry.{Geometry}
 use Rattle.site.specs.Moments.{Leaves, LeavesOnly}
-use Rattle.site.specs.Laws.{in_sequence}
+use Rattle.site.proofs.Laws.{in_sequence}
 use Rattle.sealed_ring.specs.Ring.{hi_of}
 use Rattle.image_changes.specs.Rings.{group_shape, units_on}
 use Rattle.frame_group.specs.Groups.{Frame, frames_in}

@@ -10,7 +10,7 @@ use Rattle.site.specs.State.{State as Site, Snapshot, IsQuiet}
 use Rattle.site.specs.Moments.{LeavesOnly}
 use Rattle.site.specs.Calls.{Preserves, FaultRose, IsUnchanged}
 use Rattle.site.specs.Faults.{Faults, faults_in, after_work, WorkFaults}
-use Rattle.site.specs.Laws.{holds_now, leaves_weaker, stays_honest, fault_since, goes_in_sequence}
+use Rattle.site.proofs.Laws.{holds_now, leaves_weaker, stays_honest, fault_since, goes_in_sequence}
 use Rattle.record_model.specs.State.{Content, State, Write, table_with}
 use Rattle.record_model.specs.Step.{Outcome, refusal, asks_for_checkpoint, lacks_room, making, committed}
 use Rattle.record_model.specs.Touches.{CacheOp, flush, command_touches}

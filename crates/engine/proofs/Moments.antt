@@ -3,7 +3,7 @@ use Rattle.std.proofs.Common.{◌≡◌, List, subst, ℕ}
 use Rattle.site.specs.declared.geometry.Geometry.{Geometry}
 use Rattle.site.specs.State.{State}
 use Rattle.site.specs.Moments.{Leaves, LeavesOnly}
-use Rattle.site.specs.Laws.{in_sequence, holds_now}
+use Rattle.site.proofs.Laws.{in_sequence, holds_now}
 use Rattle.record_model.specs.State.{Content}
 use Rattle.engine.specs.Leaves.{LeavesTable}
 

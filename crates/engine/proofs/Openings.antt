@@ -12,7 +12,7 @@ use Rattle.site.specs.declared.geometry.Geometry.{Geometry}
 use Rattle.site.specs.State.{State, Image, IsQuiet}
 use Rattle.site.specs.Calls.{Preserves, IsUnchanged}
 use Rattle.site.specs.Moments.{Leaves, LeavesOnly}
-use Rattle.site.specs.Laws.{no_call, unchanged_calm, stays_honest, quiet_leaves}
+use Rattle.site.proofs.Laws.{no_call, unchanged_calm, stays_honest, quiet_leaves}
 use Rattle.sealed_ring.specs.declared.ring.Ring.{Ring}
 use Rattle.sealed_ring.specs.Ready.{Finds}
 use Rattle.sealed_ring.specs.Ring.{IsRing, hi_of, live}

@@ -9,7 +9,7 @@ use Rattle.site.specs.declared.geometry.Geometry.{Geometry}
 use Rattle.site.specs.State.{State as Site, Image, IsQuiet}
 use Rattle.site.specs.Calls.{IsUnchanged}
 use Rattle.site.specs.Moments.{Leaves, LeavesOnly}
-use Rattle.site.specs.Laws.{in_sequence}
+use Rattle.site.proofs.Laws.{in_sequence}
 use Rattle.sealed_ring.specs.Ring.{hi_of}
 use Rattle.image_changes.specs.Rings.{log_shape, master_shape}
 use Rattle.image_changes.proofs.Counting.{calls_then, calls_unchanged}

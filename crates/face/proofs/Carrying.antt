@@ -12,7 +12,7 @@ use Rattle.site.specs.Faults.{WorkFaults, faults_in, with_output_fault}
 use Rattle.std.specs.List.{concat}
 use Rattle.site.specs.State.{State as Site, Image, Moment, Snapshot, IsQuiet}
 use Rattle.site.specs.Moments.{EachMoment, LeavesOnly}
-use Rattle.site.specs.Laws.{each_both, each_weaker, goes_in_sequence, goes_nowhere, holds_now, in_sequence, leaves_weaker, rose_since, stays_honest, stays_quiet}
+use Rattle.site.proofs.Laws.{each_both, each_weaker, goes_in_sequence, goes_nowhere, holds_now, in_sequence, leaves_weaker, rose_since, stays_honest, stays_quiet}
 use Rattle.site.specs.Telling.{TellsPart}
 use Rattle.site.proofs.Working.{ok_always}
 use Rattle.record_model.specs.declared.words.CacheLine.{CacheLine}

@@ -5,7 +5,7 @@ use Rattle.site.specs.declared.outside.Dev.TheVariants.{Log, Flash, Disk}
 use Rattle.site.specs.declared.outside.Stop.TheVariants.{Device, Memory, Worn, Foreign}
 use Rattle.site.specs.State.{Input, State, faults_of}
 use Rattle.site.specs.Calls.{Preserves}
-use Rattle.site.specs.Laws.{rose_then}
+use Rattle.site.proofs.Laws.{rose_then}
 use Rattle.site.specs.Telling.{SameDevices}
 use Rattle.flash_cache.specs.Representation.{IsWorn}
 use Rattle.redo_laws.specs.Holding.{IsLogWorn, IsSpent}

@@ -5,7 +5,7 @@ use Rattle.std_lemmas.proofs.Results.{on_ok}
 use Rattle.site.specs.declared.geometry.Geometry.{Geometry}
 use Rattle.site.specs.declared.outside.Stop.{Stop}
 use Rattle.site.specs.State.{State as Site, Image, IsQuiet}
-use Rattle.site.specs.Laws.{holds_now, in_sequence, unchanged}
+use Rattle.site.proofs.Laws.{holds_now, in_sequence, unchanged}
 use Rattle.site.proofs.Working.{ok_as}
 use Rattle.site.specs.Moments.{EachMoment, Leaves, LeavesOnly}
 use Rattle.site.specs.Telling.{TellsPart}

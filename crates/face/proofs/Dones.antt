@@ -4,7 +4,7 @@ use Rattle.std.specs.List.{concat}
 use Rattle.std.proofs.lemmas.List.{append-nil, take-take}
 use Rattle.site.specs.State.{State as Site, Moment}
 use Rattle.site.specs.Moments.{EachMoment, LeavesOnly}
-use Rattle.site.specs.Laws.{each_both, each_weaker, in_sequence}
+use Rattle.site.proofs.Laws.{each_both, each_weaker, in_sequence}
 use Rattle.site.specs.Telling.{TellsPart}
 use Rattle.record_model.specs.Run.{Line}
 use Rattle.engine.specs.declared.engine.Engine.{Engine}

@@ -6,7 +6,7 @@ use Rattle.site.specs.State.{Input, State as Site, Image, faults_of}
 use Rattle.site.specs.declared.geometry.Geometry.{Geometry}
 use Rattle.site.specs.Calls.{Preserves, Rose}
 use Rattle.site.specs.Moments.{EachMoment}
-use Rattle.site.specs.Laws.{holds_now, rose_since, stays_honest}
+use Rattle.site.proofs.Laws.{holds_now, rose_since, stays_honest}
 use Rattle.site.specs.declared.outside.Stop.TheVariants.{Device, Memory, Worn, Foreign}
 use Rattle.record_model.specs.State.{Content, State}
 use Rattle.engine.specs.Image.{Stands}

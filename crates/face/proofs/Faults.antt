@@ -5,7 +5,7 @@ use Rattle.std.proofs.lemmas.List.{append-nil, length-take, take_all, take_at, t
 use Rattle.site.specs.State.{Input, State as Site, Snapshot}
 use Rattle.site.specs.Calls.{Preserves}
 use Rattle.site.specs.Moments.{Leaves, LeavesOnly, EachMoment}
-use Rattle.site.specs.Laws.{in_sequence, leaves_weaker, stays_honest, told_is, tell_leaves}
+use Rattle.site.proofs.Laws.{in_sequence, leaves_weaker, stays_honest, told_is, tell_leaves}
 use Rattle.site.specs.Telling.{TellsPart}
 use Rattle.site.specs.declared.outside.Failed.{Failed}
 use Rattle.site.specs.declared.geometry.Geometry.{Geometry}

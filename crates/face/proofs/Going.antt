@@ -4,7 +4,7 @@ use Rattle.std.specs.Prelude.{Ok, Err, ⊤}
 use Rattle.site.specs.State.{State as Site}
 use Rattle.site.specs.Calls.{Preserves, Rose}
 use Rattle.site.specs.Faults.{faults_in, with_output_fault}
-use Rattle.site.specs.Laws.{goes_in_sequence, rose_since, stays_honest}
+use Rattle.site.proofs.Laws.{goes_in_sequence, rose_since, stays_honest}
 use Rattle.record_model.specs.Run.{Line}
 use Rattle.engine.specs.declared.engine.Engine.{Engine}
 use Rattle.front_end.specs.declared.halt.Halt.{Halt}

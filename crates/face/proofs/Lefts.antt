@@ -4,7 +4,7 @@ use Rattle.std.proofs.lemmas.List.{append-nil, length-take-le, take_all, take-ta
 use Rattle.std.proofs.lemmas.Bool.{cases_lt}
 use Rattle.site.specs.State.{State as Site, Image, Snapshot}
 use Rattle.site.specs.Moments.{Leaves, LeavesOnly}
-use Rattle.site.specs.Laws.{in_sequence, leaves_weaker}
+use Rattle.site.proofs.Laws.{in_sequence, leaves_weaker}
 use Rattle.site.specs.declared.geometry.Geometry.{Geometry}
 use Rattle.record_model.specs.declared.words.CacheLine.{CacheLine}
 use Rattle.record_model.specs.State.{State}

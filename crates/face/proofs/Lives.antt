@@ -1,7 +1,7 @@
 -- What a run or a load leaves opens again.
 use Rattle.std.proofs.Common.{ℕ, List, sym, subst}
 use Rattle.site.specs.State.{Image, Snapshot}
-use Rattle.site.specs.Laws.{holds_now, leaves_weaker}
+use Rattle.site.proofs.Laws.{holds_now, leaves_weaker}
 use Rattle.record_model.specs.Run.{after_commits}
 use Rattle.engine.specs.Image.{Opens}
 use Rattle.face.specs.Headline.{ran}

@@ -5,7 +5,7 @@ use Rattle.site.specs.State.{State as Site, Image, MayLeave, no_input, now_of, s
 use Rattle.mem_site.specs.Crash.{started}
 use Rattle.mem_site.specs.MemState.{fed, lives_of, state_of}
 use Rattle.mem_site.specs.declared.mem.MemSite.{MemSite}
-use Rattle.site.specs.Laws.{holds_now}
+use Rattle.site.proofs.Laws.{holds_now}
 use Rattle.site.specs.declared.geometry.Geometry.{Geometry}
 use Rattle.record_model.specs.State.{State, opened}
 use Rattle.record_model.specs.Run.{IsInRange, Line, after_commits, commit_marks}

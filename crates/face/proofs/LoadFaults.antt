@@ -7,7 +7,7 @@ use Rattle.site.specs.declared.outside.Dev.{Dev}
 use Rattle.site.specs.State.{State as Site, Moment, Snapshot, now_of}
 use Rattle.site.specs.Calls.{Preserves, SameReads}
 use Rattle.site.specs.Moments.{EachMoment, Leaves, LeavesOnly}
-use Rattle.site.specs.Laws.{each_both, each_weaker, image_is, in_sequence, leaves_weaker, stays_honest, tell_leaves, told_is}
+use Rattle.site.proofs.Laws.{each_both, each_weaker, image_is, in_sequence, leaves_weaker, stays_honest, tell_leaves, told_is}
 use Rattle.site.specs.Telling.{SameDevices, TellsOnly, TellsPart}
 use Rattle.site.specs.declared.outside.Failed.{Failed}
 use Rattle.record_model.specs.State.{State}

@@ -7,7 +7,7 @@ use Rattle.site.specs.declared.geometry.Geometry.{Geometry}
 use Rattle.std.specs.List.{concat}
 use Rattle.site.specs.State.{State as Site, Image, Moment, Snapshot, MayLeave, now_of}
 use Rattle.site.specs.Moments.{EachMoment, Leaves, LeavesOnly}
-use Rattle.site.specs.Laws.{each_weaker, holds_now, image_is, in_sequence, leaves_weaker}
+use Rattle.site.proofs.Laws.{each_weaker, holds_now, image_is, in_sequence, leaves_weaker}
 use Rattle.record_model.specs.declared.words.Reply.{Reply}
 use Rattle.record_model.specs.State.{State}
 use Rattle.record_model.specs.Run.{Line, commit_marks, commits_among, is_quit}

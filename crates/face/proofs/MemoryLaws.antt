@@ -37,7 +37,7 @@ use Rattle.face.proofs.Faults.{halted, run_contract}
 use Rattle.face.proofs.Meanings.{stands_by}
 use Rattle.engine.specs.Image.{Stands}
 use Rattle.engine.specs.Leaves.{LeavesTable}
-use Rattle.site.specs.Laws.{goes_nowhere, no_call, told_is, image_is}
+use Rattle.site.proofs.Laws.{goes_nowhere, no_call, told_is, image_is}
 use Rattle.site.specs.State.{Image, now_of}
 
 abbrev lacks : Halt

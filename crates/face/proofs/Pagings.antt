@@ -22,7 +22,7 @@ use Rattle.second_chance.specs.Machine.{Rules, Cache, rules_of, after_works, ope
 use Rattle.page_store.specs.declared.store.PageStore.{PageStore}
 use Rattle.site.specs.Moments.{EachMoment}
 use Rattle.site.specs.Telling.{TellsPart}
-use Rattle.site.specs.Laws.{unchanged}
+use Rattle.site.proofs.Laws.{unchanged}
 use Rattle.site.specs.State.{IsQuiet}
 use Rattle.engine.proofs.Asking.{still_writes}
 use Rattle.front_end.specs.Lines.{HearsOnly}

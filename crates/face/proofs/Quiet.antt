@@ -3,7 +3,7 @@ use Rattle.std.proofs.Common.{◌≡◌, inl, inr, ⊎_elim, ℕ, List, [], ◌+
 use Rattle.std.proofs.lemmas.List.{append-nil, nil_from_length, take_all}
 use Rattle.site.specs.State.{State as Site, Image, MayLeave, Moment, Snapshot, now_of, no_loose}
 use Rattle.site.specs.Moments.{Leaves, LeavesOnly, EachMoment}
-use Rattle.site.specs.Laws.{each_weaker, no_call, image_is, told_is, in_sequence, leaves_weaker, holds_now, tell_leaves}
+use Rattle.site.proofs.Laws.{each_weaker, no_call, image_is, told_is, in_sequence, leaves_weaker, holds_now, tell_leaves}
 use Rattle.site.specs.Telling.{TellsPart}
 use Rattle.site.specs.declared.geometry.Geometry.{Geometry}
 use Rattle.record_model.specs.State.{State}

@@ -4,7 +4,7 @@ use Rattle.std.proofs.lemmas.List.{append-nil, length-take-le, take_all}
 use Rattle.site.specs.State.{State as Site, Image, Snapshot, MayLeave, now_of, no_loose, IsQuiet}
 use Rattle.site.specs.Calls.{Preserves}
 use Rattle.site.specs.Moments.{Leaves, LeavesOnly, EachMoment}
-use Rattle.site.specs.Laws.{in_sequence, leaves_weaker, image_is, calm, now_same, holds_now, tell_leaves}
+use Rattle.site.proofs.Laws.{in_sequence, leaves_weaker, image_is, calm, now_same, holds_now, tell_leaves}
 use Rattle.site.specs.Telling.{TellsPart}
 use Rattle.site.specs.declared.geometry.Geometry.{Geometry}
 use Rattle.record_model.specs.State.{State}

@@ -4,7 +4,7 @@ use Rattle.std.specs.Prelude.{Option, Some, None, min, Result, Ok, Err, OnErr, s
 use Rattle.std.proofs.lemmas.List.{append-nil, take_all, take_at}
 use Rattle.site.specs.State.{Input, State as Site, Image, MayLeave, no_loose, now_of}
 use Rattle.site.specs.Calls.{Preserves, Rose, SameReads}
-use Rattle.site.specs.Laws.{calm, each_weaker, goes_in_sequence, goes_nowhere, in_sequence, no_call, now_leaves, now_same, rose_then, stays_honest}
+use Rattle.site.proofs.Laws.{calm, each_weaker, goes_in_sequence, goes_nowhere, in_sequence, no_call, now_leaves, now_same, rose_then, stays_honest}
 use Rattle.site.specs.Moments.{EachMoment}
 use Rattle.site.specs.Telling.{TellsPart}
 use Rattle.site.specs.declared.geometry.Geometry.{Geometry}

@@ -6,7 +6,7 @@ use Rattle.std.proofs.lemmas.Grind.{flat_map-append}
 use Rattle.std.proofs.lemmas.List.{length-map}
 use Rattle.site.specs.declared.outside.Dev.{Dev}
 use Rattle.site.specs.State.{State as Site, Image, Snapshot}
-use Rattle.site.specs.Laws.{holds_now}
+use Rattle.site.proofs.Laws.{holds_now}
 use Rattle.record_model.specs.declared.words.CacheLine.{CacheLine}
 use Rattle.record_model.specs.Run.{Line, Turn, is_quit, turns, next_listing, later_listings}
 use Rattle.record_model.specs.State.{State}

@@ -5,7 +5,7 @@ use Rattle.site.specs.State.{State as Site, Snapshot, Image, IsQuiet}
 use Rattle.site.specs.Moments.{EachMoment, Leaves, LeavesOnly, since}
 use Rattle.flash_cache.specs.OnDisk.{HasLastStaged}
 use Rattle.site.specs.Telling.{TellsPart}
-use Rattle.site.specs.Laws.{in_sequence, leaves_weaker, holds_now, tell_leaves, calm, now_same, unchanged}
+use Rattle.site.proofs.Laws.{in_sequence, leaves_weaker, holds_now, tell_leaves, calm, now_same, unchanged}
 use Rattle.record_model.specs.Touches.{CacheOp}
 use Rattle.record_model.specs.State.{State}
 use Rattle.second_chance.specs.Machine.{Rules, Cache, Staged, after_works, staged_by_works}

@@ -4,7 +4,7 @@ use Rattle.std.specs.List.{AllByRecursion}
 use Rattle.std.proofs.lemmas.List.{drop_at, take-take}
 use Rattle.site.specs.State.{State as Site, Image, Moment, Snapshot}
 use Rattle.site.specs.Moments.{EachMoment, Leaves, LeavesOnly, since}
-use Rattle.site.specs.Laws.{calm, each_both, each_weaker, in_sequence, leaves_weaker, now_same, tell_leaves, told_is}
+use Rattle.site.proofs.Laws.{calm, each_both, each_weaker, in_sequence, leaves_weaker, now_same, tell_leaves, told_is}
 use Rattle.site.specs.Telling.{TellsPart}
 use Rattle.site.specs.declared.geometry.Geometry.{Geometry}
 use Rattle.log_records.specs.declared.log_record.LogRecord.{LogRecord}

@@ -6,7 +6,7 @@ use Rattle.site.specs.declared.geometry.Geometry.{Geometry}
 use Rattle.site.specs.declared.outside.Dev.TheVariants.{Flash}
 use Rattle.site.specs.State.{State, Image, Moment, MayStand, loose_of, IsQuiet}
 use Rattle.site.specs.Moments.{Leaves, SameAt}
-use Rattle.site.specs.Laws.{settled_is, quiet_settled}
+use Rattle.site.proofs.Laws.{settled_is, quiet_settled}
 use Rattle.image_changes.specs.Rings.{group_shape}
 use Rattle.sealed_ring.specs.Ring.{hi_of, IsRing, units_of}
 use Rattle.byte_fields.specs.declared.frame_head.Mark.{Mark}

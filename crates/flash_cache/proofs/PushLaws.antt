@@ -4,7 +4,7 @@ use Rattle.site.specs.declared.geometry.Geometry.{Geometry}
 use Rattle.site.specs.Geometry.{HasLimits, HasLengths}
 use Rattle.site.specs.State.{State, Snapshot, IsQuiet}
 use Rattle.site.specs.Moments.{Leaves, LeavesOnly, OnlyDevice}
-use Rattle.site.specs.Laws.{in_sequence, leaves_weaker}
+use Rattle.site.proofs.Laws.{in_sequence, leaves_weaker}
 use Rattle.sealed_ring.specs.Ready.{LeavesOldOrNew}
 use Rattle.image_changes.specs.Rings.{Groups, shape_of, octets_of}
 use Rattle.image_changes.specs.Changes.{Change, AppendsGroup, Reaches}

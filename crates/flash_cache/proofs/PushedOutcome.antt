@@ -10,7 +10,7 @@ use Rattle.site.specs.declared.outside.Stop.{Stop}
 use Rattle.site.specs.declared.outside.Stop.TheVariants.{Foreign}
 use Rattle.site.specs.State.{State, Image, Snapshot, IsQuiet}
 use Rattle.site.specs.Moments.{LeavesOnly}
-use Rattle.site.specs.Laws.{leaves_weaker}
+use Rattle.site.proofs.Laws.{leaves_weaker}
 use Rattle.image_changes.specs.Changes.{Change, AppendsGroup, Reaches}
 use Rattle.image_changes.specs.Reached.{IsFrontOf}
 use Rattle.stage_out.specs.Staged.{HasStaged, changes_of}

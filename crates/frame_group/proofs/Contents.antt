@@ -86,4 +86,3 @@ frames_are_in content frames is =
 pub frames_more : (contents : List (List ℕ)) (content : List ℕ) (frames : List Frame) → IsGroup content frames → frames_of (contents ++ content ∷ []) ≡ frames_of contents ++ frames
 frames_more contents content frames is =
     flat_map-append frames_in contents (content ∷ []) ∙ ap (λ (xs : List Frame). frames_of contents ++ xs) (append-nil (frames_in content) ∙ frames_are_in content frames is)
-

@@ -8,7 +8,7 @@ use Rattle.site.specs.declared.outside.Stop.{Stop}
 use Rattle.site.specs.declared.outside.Stop.TheVariants.{Device, Memory, Worn, Foreign}
 use Rattle.site.specs.State.{State, Image, faults_of}
 use Rattle.site.specs.Calls.{Preserves, IsUnchanged, Rose}
-use Rattle.site.specs.Laws.{stays_honest, unchanged_devices, devices_in_sequence}
+use Rattle.site.proofs.Laws.{stays_honest, unchanged_devices, devices_in_sequence}
 use Rattle.site.specs.Work.{IsOutside}
 use Rattle.image_check.specs.declared.verdict.Verdict.{Verdict}
 use Rattle.image_form.specs.declared.place.Place.TheVariants.{Lengths}

@@ -6,7 +6,7 @@ use Rattle.site.specs.State.{State}
 use Rattle.site.specs.Calls.{Preserves, Rose}
 use Rattle.site.specs.Moments.{EachMoment}
 use Rattle.site.specs.Telling.{TellsPart}
-use Rattle.site.specs.Laws.{goes_nowhere, rose_since}
+use Rattle.site.proofs.Laws.{goes_nowhere, rose_since}
 use Rattle.site.specs.declared.outside.Failed.{Failed}
 use Rattle.front_end.specs.declared.halt.Halt.{Halt}
 use Rattle.front_end.specs.declared.halt.Halt.TheVariants as halt

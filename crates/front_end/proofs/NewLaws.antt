@@ -8,7 +8,7 @@ use Rattle.site.specs.Geometry.{HasLengths}
 use Rattle.site.specs.Calls.{Preserves, IsUnchanged, SameReads}
 use Rattle.site.specs.Moments.{EachMoment}
 use Rattle.site.specs.Telling.{TellsPart}
-use Rattle.site.specs.Laws.{stays_honest, no_call, in_sequence, each_weaker, unchanged_calm, unchanged_devices, devices_in_sequence}
+use Rattle.site.proofs.Laws.{stays_honest, no_call, in_sequence, each_weaker, unchanged_calm, unchanged_devices, devices_in_sequence}
 use Rattle.front_end.specs.declared.new_database.Unfit.{Unfit}
 use Rattle.front_end.specs.declared.new_database.Unfit.TheVariants.{Foreign, Failed, NotBlank}
 use Rattle.front_end.specs.New.{New, IsAnswer, IsUnfit, ReadsOnce, unfit_status}

@@ -4,7 +4,7 @@ use Rattle.std.specs.List.{concat}
 use Rattle.std.proofs.lemmas.List.{append-nil, take_at, take_all}
 use Rattle.site.specs.State.{State, Moment}
 use Rattle.site.specs.Moments.{EachMoment}
-use Rattle.site.specs.Laws.{in_sequence, each_weaker}
+use Rattle.site.proofs.Laws.{in_sequence, each_weaker}
 use Rattle.site.specs.Telling.{TellsPart, SameDevices}
 use Rattle.front_end.specs.Tells.{HandsLines, HandsRest}
 

@@ -4,7 +4,7 @@ use Rattle.site.specs.declared.geometry.Geometry.{Geometry}
 use Rattle.site.specs.State.{State, IsQuiet}
 use Rattle.site.specs.Calls.{IsUnchanged}
 use Rattle.site.specs.Moments.{Leaves}
-use Rattle.site.specs.Laws.{in_sequence, leaves_weaker, quiet_leaves, no_call, unchanged_calm}
+use Rattle.site.proofs.Laws.{in_sequence, leaves_weaker, quiet_leaves, no_call, unchanged_calm}
 use Rattle.image_changes.specs.Changes.{Change, Reaches}
 use Rattle.image_changes.specs.Reached.{IsReached, LeavesReached, IsFrontOf}
 use Rattle.image_changes.specs.Laws.{FrontsAddUp}

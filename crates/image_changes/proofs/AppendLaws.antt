@@ -5,7 +5,7 @@ use Rattle.site.specs.declared.outside.Dev.TheVariants.{Disk}
 use Rattle.site.specs.declared.geometry.Geometry.{Geometry}
 use Rattle.site.specs.Geometry.{HasLimits, HasLengths}
 use Rattle.site.specs.State.{Image, Range, MayStand, content_of}
-use Rattle.site.specs.Laws.{cases_dev, leaves_weaker, leaves_others_too, settled_is, quiet_settled}
+use Rattle.site.proofs.Laws.{cases_dev, leaves_weaker, leaves_others_too, settled_is, quiet_settled}
 use Rattle.sealed_ring.specs.declared.slots.Shape.{Shape}
 use Rattle.sealed_ring.specs.Ring.{FitsIn, IsRing, units_of, appended, OldOrNew}
 use Rattle.sealed_ring.specs.Ready.{LeavesOldOrNew}

@@ -11,7 +11,7 @@ use Rattle.std.proofs.lemmas.List.Folds.{list_all-map, list_all_at}
 use Rattle.std.proofs.lemmas.List.FromFn.{get_or-map-range_with_len, length-map-range_with_len, map-range_with_len_more}
 use Rattle.site.specs.declared.geometry.Geometry.{Geometry}
 use Rattle.site.specs.State.{State, Image}
-use Rattle.site.specs.Laws.{stays_honest}
+use Rattle.site.proofs.Laws.{stays_honest}
 use Rattle.site.specs.Work.{OnlyReads}
 use Rattle.indexmap.specs.IndexMap.{IndexMap, get}
 use Rattle.record_model.specs.State.{Content, content_at}

@@ -1,6 +1,6 @@
 -- Unfinished transactions, record by record.
-use Rattle.std.specs.Prelude.{◌≡◌, ◌⊎◌, ℕ, Bool, List, [], ◌∷◌, ◌++◌, map, reverse, drop, true, false, ◌==◌, ◌||◌, nat_eq}
-use Rattle.std.specs.Prelude.{Option, Some, None, is_some, IfSome}
+use Rattle.std.specs.Prelude.{◌≡◌, ◌⊎◌, ℕ, Bool, List, [], ◌∷◌, ◌++◌, map, reverse, drop, true, false, ◌==◌, ◌||◌}
+use Rattle.std.specs.Prelude.{nat_eq, Option, Some, None, is_some, IfSome}
 use Rattle.indexmap.specs.IndexMap.{IndexMap, get}
 use Rattle.std.specs.List.{list_any}
 use Rattle.log_records.specs.declared.log_record.LogRecord.TheVariants.{Begin}

@@ -24,7 +24,8 @@ use site::Stop;
 use std::alloc::Global;
 use std::collections::BTreeMap;
 
-/// What is kept of an unfinished transaction: the LSN of its last record, and how many of its Updates no CLR compensates.
+/// What is kept of an unfinished transaction: the LSN of its last record, and how many of its Updates no CLR
+/// compensates.
 #[derive(Clone, Copy, Debug, Drop)]
 pub struct Left {
     pub last: u64,

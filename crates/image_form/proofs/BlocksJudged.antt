@@ -3,7 +3,7 @@ use Rattle.std.proofs.Common.{◌≡◌, inl, inr, ℕ, ◌+◌, ◌-◌, ◌≤
 use Rattle.std.proofs.lemmas.Bool.{cases_eq}
 use Rattle.site.specs.State.{State, Image}
 use Rattle.site.specs.Calls.{Preserves}
-use Rattle.site.specs.Laws.{stays_honest}
+use Rattle.site.proofs.Laws.{stays_honest}
 use Rattle.sealed_ring.specs.Ring.{IsRing, IsLive, hi_of}
 use Rattle.image_changes.specs.Rings.{log_shape}
 use Rattle.log_records.specs.declared.log_record.LogRecord.{LogRecord}

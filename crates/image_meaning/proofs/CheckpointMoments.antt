@@ -7,7 +7,7 @@ use Rattle.site.specs.declared.geometry.Geometry.{Geometry}
 use Rattle.std.specs.Prelude.{◌≡◌}
 use Rattle.std.proofs.Common.{ℕ, List, [], ◌∷◌, Option, subst}
 use Rattle.site.specs.Moments.{Leaves, LeavesOnly}
-use Rattle.site.specs.Laws.{in_sequence}
+use Rattle.site.proofs.Laws.{in_sequence}
 use Rattle.log_records.specs.Sound.{Means}
 use Rattle.checkpoint.specs.declared.master.Master.{Master}
 use Rattle.image_changes.specs.Changes.{AppendsMaster}
@@ -22,4 +22,3 @@ save_stands newest g old mid new blocks content table count leaves told sound me
     in_sequence old mid new (Leaves (LeavesFor g table count old.told)) leaves
     (subst (λ (l : List ℕ). LeavesOnly mid new (LeavesFor g table count l)) told
     (front_stands_for newest g mid new blocks (AppendsMaster content ∷ []) table count sound means (may, λ end made. tt) (tt, tt) saves))
-

@@ -5,7 +5,7 @@ use Rattle.std.specs.List.{AllByRecursion}
 use Rattle.std_lemmas.proofs.AllOf.{all_left}
 use Rattle.site.specs.declared.geometry.Geometry.{Geometry}
 use Rattle.site.specs.State.{State, Image, Snapshot}
-use Rattle.site.specs.Laws.{leaves_weaker}
+use Rattle.site.proofs.Laws.{leaves_weaker}
 use Rattle.record_model.specs.State.{Content, table_with}
 use Rattle.log_records.specs.declared.log_record.LogRecord.{LogRecord}
 use Rattle.log_records.specs.declared.log_record.LogRecord.TheVariants.{Commit}

@@ -167,4 +167,3 @@ checkpoint_may_save newest g image blocks content m sound unit is flushed rises 
     may_save newest g image blocks content m unit (master_is_saved p m sound.records is) ((checkpoint_needs p m.kept sound.records).1 (flushed, rises, within)) orderly
 
 -- The blocks of the transactions that the master names as active.
-

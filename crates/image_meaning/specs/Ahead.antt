@@ -1,2 +1,1 @@
 -- Versions of pages, and records that aren't sealed yet, as statements over lists.
-

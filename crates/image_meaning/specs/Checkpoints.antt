@@ -59,4 +59,3 @@ SavedIsOrderly =
     → IsSoundUnder newest g old blocks → MaySave newest g old blocks content →
     Makes g (AppendsMaster content) old new
     → AreOrderly (logical_image_under (Some (master_in content)) g new (blocks_saved newest blocks content)).log
-

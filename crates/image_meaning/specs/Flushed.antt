@@ -30,4 +30,3 @@ pub record IsMasterOf (p : LogicalImage) (m : Master) : Type 0 where
   pub unfinished : AllByRecursion (λ pair. (is_loser p.log pair.begin ≡ true)
       × (pair.last ≡ last_lsn (entries_of pair.begin p.log))) m.active
   pub all : (t : ℕ) → is_loser p.log t ≡ true → list_any (λ pair. pair.begin == t) m.active ≡ true
-

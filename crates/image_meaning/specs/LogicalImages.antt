@@ -12,4 +12,3 @@ with_versions p versions = record p { pages = versions }
 pub record ReplaceAll (p : LogicalImage) (versions : List Version) : Type 0 where
   pub count : length versions ≡ length p.pages
   pub each : (page : ℕ) → page < length p.pages → Replaces p page (version_at versions page)
-

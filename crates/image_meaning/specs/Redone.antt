@@ -41,4 +41,3 @@ pub record Redoes (page : ℕ) (e : Entry) (number : ℕ) (old new : Version) : 
   pub lsn : new.lsn ≡ e.lsn
   pub slots : (slot : ℕ) → slot < 32
       → content_at new.slots slot ≡ (if 32 * page + slot == number then after_of e.rec else content_at old.slots slot)
-

@@ -4,7 +4,6 @@ use Rattle.log_records.specs.declared.log_record.LogRecord.{LogRecord}
 use Rattle.log_records.specs.Spelling.{spelling, HasForm, FitsFields, IsSpelledAt}
 use Rattle.log_records.specs.Writes.{Writes}
 
-
 -- no spelling begins another record's
 abbrev pub OneForm : Type 0
 OneForm =
@@ -22,4 +21,3 @@ abbrev pub OneSpelled : Type 0
 OneSpelled =
     (octets : List ℕ) (from limit : ℕ) (a b : LogRecord) (end stop : ℕ) →
     IsSpelledAt octets from limit a end → IsSpelledAt octets from limit b stop → (a ≡ b) × (end ≡ stop)
-

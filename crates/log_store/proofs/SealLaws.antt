@@ -6,7 +6,7 @@ use Rattle.site.specs.declared.geometry.Geometry.{Geometry}
 use Rattle.site.specs.State.{State, Image, Snapshot, IsSettled, IsQuiet}
 use Rattle.site.specs.Calls.{Preserves}
 use Rattle.site.specs.Moments.{Leaves, LeavesOnly, OnlyDevice}
-use Rattle.site.specs.Laws.{leaves_weaker, leaves_others_too, no_call, settled_leaves, told_is, unchanged}
+use Rattle.site.proofs.Laws.{leaves_weaker, leaves_others_too, no_call, settled_leaves, told_is, unchanged}
 use Rattle.sealed_ring.specs.declared.slots.Shape.{Shape}
 use Rattle.sealed_ring.specs.declared.ring.Ring.{Ring}
 use Rattle.sealed_ring.specs.Ring.{IsRing, SameOutside, units_of, appended}

@@ -6,7 +6,7 @@ use Rattle.site.specs.declared.outside.Stop.{Stop}
 use Rattle.site.specs.declared.outside.Stop.TheVariants.{Device, Worn}
 use Rattle.site.specs.State.{State}
 use Rattle.site.specs.Moments.{SameBut}
-use Rattle.site.specs.Laws.{no_call, goes_nowhere}
+use Rattle.site.proofs.Laws.{no_call, goes_nowhere}
 use Rattle.site.proofs.Working.{no_error, err_again, same_error}
 use Rattle.image_changes.proofs.Sequence.{reads_itself}
 use Rattle.log_store.specs.declared.store.LogStore.{LogStore}

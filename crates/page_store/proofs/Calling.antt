@@ -13,7 +13,7 @@ use Rattle.site.specs.State.{State, Image, IsQuiet, snapshot_of}
 use Rattle.site.specs.Calls.{IsUnchanged}
 use Rattle.site.specs.Work.{Calls}
 use Rattle.site.specs.Moments.{Leaves, LeavesOnly}
-use Rattle.site.specs.Laws.{unchanged_calm, in_sequence, leaves_weaker, stays_honest}
+use Rattle.site.proofs.Laws.{unchanged_calm, in_sequence, leaves_weaker, stays_honest}
 use Rattle.site.proofs.Working.{no_error, err_always, ok_as, ok_always, calls_then, calls_failed}
 use Rattle.image_changes.specs.Changes.{Change, Reaches}
 use Rattle.image_changes.specs.Reached.{IsReached, IsFrontOf, LeavesFront}

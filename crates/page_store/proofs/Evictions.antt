@@ -6,7 +6,7 @@ use Rattle.std.proofs.lemmas.List.{reverse-append}
 use Rattle.site.specs.declared.geometry.Geometry.{Geometry}
 use Rattle.site.specs.State.{State, IsQuiet, snapshot_of}
 use Rattle.site.specs.Moments.{Leaves, LeavesOnly}
-use Rattle.site.specs.Laws.{no_call, quiet_leaves}
+use Rattle.site.proofs.Laws.{no_call, quiet_leaves}
 use Rattle.buffer_pool.specs.declared.frame.Frame.{Frame}
 use Rattle.buffer_pool.specs.Frames.{AreDistinct}
 use Rattle.log_store.specs.declared.store.LogStore.{LogStore}

@@ -5,7 +5,7 @@ use Rattle.std.specs.List.{AllByRecursion}
 use Rattle.site.specs.declared.geometry.Geometry.{Geometry}
 use Rattle.site.specs.State.{State, Image, IsQuiet}
 use Rattle.site.specs.Moments.{Leaves, LeavesOnly}
-use Rattle.site.specs.Laws.{leaves_weaker, no_call, quiet_leaves}
+use Rattle.site.proofs.Laws.{leaves_weaker, no_call, quiet_leaves}
 use Rattle.slotted_page.specs.Layout.{IsSound}
 use Rattle.frame_group.specs.Groups.{Frame as Stored, group, IsGroup}
 use Rattle.sealed_ring.specs.Ring.{Units, hi_of}

@@ -7,7 +7,7 @@ use Rattle.image_changes.proofs.Sequence.{units_then}
 use Rattle.site.specs.declared.geometry.Geometry.{Geometry}
 use Rattle.site.specs.State.{State, Snapshot, snapshot_of}
 use Rattle.site.specs.Moments.{Leaves, LeavesOnly}
-use Rattle.site.specs.Laws.{in_sequence, leaves_weaker, holds_now}
+use Rattle.site.proofs.Laws.{in_sequence, leaves_weaker, holds_now}
 use Rattle.image_changes.specs.Rings.{master_shape}
 use Rattle.log_store.specs.LogList.{LogList, sealed_if}
 use Rattle.log_store.specs.Representation.{HasBlocks, LeavesLog}

@@ -13,7 +13,7 @@ use Rattle.site.specs.State.{State, Image, Moment, Snapshot, MayStand, loose_of,
 use Rattle.site.specs.Calls.{IsUnchanged}
 use Rattle.site.specs.Work.{Calls}
 use Rattle.site.specs.Moments.{Leaves, LeavesOnly, ChangesOnly, since}
-use Rattle.site.specs.Laws.{in_sequence, leaves_weaker, untouched_leaves, others_untouched, each_both, each_weaker, settled_is, quiet_settled, quiet_leaves, no_call, unchanged_calm, holds_now, stays_honest, unchanged}
+use Rattle.site.proofs.Laws.{in_sequence, leaves_weaker, untouched_leaves, others_untouched, each_both, each_weaker, settled_is, quiet_settled, quiet_leaves, no_call, unchanged_calm, holds_now, stays_honest, unchanged}
 use Rattle.site.proofs.Working.{ok_as, ok_always}
 use Rattle.sealed_ring.specs.Ring.{hi_of}
 use Rattle.image_changes.specs.Rings.{group_shape, segment_shape}

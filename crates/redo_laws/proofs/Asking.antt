@@ -5,7 +5,7 @@ use Rattle.site.specs.declared.outside.Dev.TheVariants.{Flash, Disk, Log}
 use Rattle.site.specs.declared.outside.Stop.{Stop}
 use Rattle.site.specs.State.{State, IsQuiet}
 use Rattle.site.specs.Calls.{SameReads, IsUnchanged, Preserves}
-use Rattle.site.specs.Laws.{stays_honest}
+use Rattle.site.proofs.Laws.{stays_honest}
 use Rattle.std.specs.List.{Contains}
 use Rattle.log_store.specs.declared.store.LogStore.{LogStore}
 use Rattle.page_store.specs.Staging.{pages_staged, HasQueueOn, Stages}

@@ -11,7 +11,7 @@ use Rattle.site.specs.declared.outside.Dev.TheVariants.{Log, Flash, Disk}
 use Rattle.site.specs.declared.geometry.Geometry.{Geometry}
 use Rattle.site.specs.State.{State, Image, IsQuiet}
 use Rattle.site.specs.Calls.{Preserves, IsUnchanged}
-use Rattle.site.specs.Laws.{in_sequence, holds_now, no_call, unchanged_calm, stays_honest, quiet_leaves}
+use Rattle.site.proofs.Laws.{in_sequence, holds_now, no_call, unchanged_calm, stays_honest, quiet_leaves}
 use Rattle.site.specs.Moments.{Leaves, LeavesOnly, SameBut, ChangesOnly}
 use Rattle.sealed_ring.specs.Ring.{IsRing, FitsIn, hi_of}
 use Rattle.image_changes.specs.Rings.{log_shape, KeepsUnits, master_shape}

@@ -7,7 +7,7 @@ use Rattle.site.specs.declared.outside.Stop.TheVariants.{Worn, Memory, Foreign}
 use Rattle.site.specs.declared.geometry.Geometry.{Geometry}
 use Rattle.site.specs.State.{State, Snapshot, IsQuiet}
 use Rattle.site.specs.Moments.{Leaves, LeavesOnly}
-use Rattle.site.specs.Laws.{in_sequence, leaves_weaker}
+use Rattle.site.proofs.Laws.{in_sequence, leaves_weaker}
 use Rattle.image_changes.specs.Changes.{Change}
 use Rattle.flash_cache.specs.Representation.{IsWorn}
 use Rattle.log_store.specs.declared.store.LogStore.{LogStore}

@@ -10,7 +10,7 @@ use Rattle.site.specs.State.{State, Image, Snapshot}
 use Rattle.site.specs.declared.outside.Dev.TheVariants.{Log}
 use Rattle.site.specs.declared.outside.Stop.{Stop}
 use Rattle.site.specs.Moments.{Leaves, LeavesOnly, ChangesOnly}
-use Rattle.site.specs.Laws.{each_both, each_weaker, leaves_weaker}
+use Rattle.site.proofs.Laws.{each_both, each_weaker, leaves_weaker}
 use Rattle.sealed_ring.specs.Ring.{hi_of, Units}
 use Rattle.image_changes.specs.Rings.{Masters, Blocks, log_shape, master_shape, KeepsUnits}
 use Rattle.image_changes.specs.Changes.{Change, AppendsMaster, Reaches, ring_of}

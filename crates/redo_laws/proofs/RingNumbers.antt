@@ -5,7 +5,7 @@ use Rattle.site.specs.declared.geometry.Geometry.{Geometry}
 use Rattle.site.specs.State.{State, Image, Snapshot, IsQuiet, snapshot_of}
 use Rattle.site.specs.Calls.{IsUnchanged}
 use Rattle.site.specs.Moments.{Leaves, LeavesOnly}
-use Rattle.site.specs.Laws.{holds_now, in_sequence, leaves_weaker, no_call, quiet_leaves, unchanged_calm}
+use Rattle.site.proofs.Laws.{holds_now, in_sequence, leaves_weaker, no_call, quiet_leaves, unchanged_calm}
 use Rattle.sealed_ring.specs.Ring.{hi_of}
 use Rattle.image_changes.specs.Rings.{log_shape, master_shape}
 use Rattle.image_changes.proofs.Counting.{calls_then, calls_unchanged}

@@ -7,7 +7,7 @@ use Rattle.std.proofs.lemmas.List.{length-append}
 use Rattle.site.specs.declared.geometry.Geometry.{Geometry}
 use Rattle.site.specs.State.{State, Snapshot, snapshot_of}
 use Rattle.site.specs.Moments.{Leaves, LeavesOnly}
-use Rattle.site.specs.Laws.{each_both, each_weaker}
+use Rattle.site.proofs.Laws.{each_both, each_weaker}
 use Rattle.record_model.specs.State.{Content}
 use Rattle.log_records.specs.declared.log_record.LogRecord.{LogRecord}
 use Rattle.log_records.specs.Spelling.{AreBlock, block_len}

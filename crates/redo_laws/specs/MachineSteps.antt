@@ -89,4 +89,3 @@ pub record StepsMachine {T : Type 0} (result : Result T Stop) (works : List Cach
 abbrev pub NumbersRise : Type 0
 NumbersRise = (rules : Rules) (works : List CacheOp) (cache : Cache) → 1 ≤ rules.groups
     → next_group cache ≤ next_group (after_works rules works cache)
-

@@ -10,7 +10,7 @@ use Rattle.site.specs.declared.outside.Stop.TheVariants.{Device, Worn, Foreign, 
 use Rattle.site.specs.State.{State, Snapshot, IsQuiet}
 use Rattle.site.specs.Moments.{LeavesOnly, ChangesOnly, SameBut}
 use Rattle.site.specs.Calls.{IsUnchanged, FaultRose}
-use Rattle.site.specs.Laws.{no_call, changes_in_sequence, stays_honest}
+use Rattle.site.proofs.Laws.{no_call, changes_in_sequence, stays_honest}
 use Rattle.record_model.specs.State.{Content}
 use Rattle.log_records.specs.Log.{Entry}
 use Rattle.sealed_ring.specs.Ring.{hi_of}

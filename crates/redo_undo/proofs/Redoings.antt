@@ -14,7 +14,7 @@ use Rattle.site.specs.declared.geometry.Geometry.{Geometry}
 use Rattle.site.specs.State.{State, Image, Snapshot, snapshot_of, IsQuiet}
 use Rattle.site.specs.Calls.{Preserves, IsUnchanged}
 use Rattle.site.specs.Moments.{Leaves, LeavesOnly}
-use Rattle.site.specs.Laws.{each_both, each_weaker, no_call, unchanged_calm, stays_honest, quiet_leaves}
+use Rattle.site.proofs.Laws.{each_both, each_weaker, no_call, unchanged_calm, stays_honest, quiet_leaves}
 use Rattle.sealed_ring.specs.Ring.{IsRing, hi_of}
 use Rattle.image_changes.specs.Rings.{log_shape, KeepsUnits, master_shape}
 use Rattle.record_model.specs.State.{Content}

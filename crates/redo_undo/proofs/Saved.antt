@@ -21,7 +21,7 @@ use Rattle.site.specs.declared.outside.Dev.TheVariants.{Log, Flash, Disk}
 use Rattle.site.specs.declared.geometry.Geometry.{Geometry}
 use Rattle.site.specs.State.{State, Image, content_of, IsQuiet}
 use Rattle.site.specs.Calls.{Preserves}
-use Rattle.site.specs.Laws.{stays_honest, holds_now, in_sequence}
+use Rattle.site.proofs.Laws.{stays_honest, holds_now, in_sequence}
 use Rattle.site.specs.Moments.{ChangesOnly, Leaves, LeavesOnly}
 use Rattle.record_model.specs.State.{Content}
 use Rattle.log_records.specs.declared.log_record.LogRecord.{LogRecord}

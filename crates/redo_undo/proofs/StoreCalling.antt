@@ -6,7 +6,7 @@ use Rattle.site.specs.declared.outside.Stop.TheVariants.{Memory}
 use Rattle.site.specs.declared.geometry.Geometry.{Geometry}
 use Rattle.site.specs.State.{State as Site, Snapshot, IsQuiet}
 use Rattle.site.specs.Moments.{LeavesOnly}
-use Rattle.site.specs.Laws.{holds_now, leaves_weaker, stays_honest}
+use Rattle.site.proofs.Laws.{holds_now, leaves_weaker, stays_honest}
 use Rattle.record_model.specs.State.{Content}
 use Rattle.image_meaning.specs.Moments.{LeavesFor}
 use Rattle.image_meaning.specs.Meaning.{StandsFor}

@@ -5,7 +5,7 @@ use Rattle.site.specs.declared.outside.Stop.{Stop}
 use Rattle.site.specs.declared.geometry.Geometry.{Geometry}
 use Rattle.site.specs.State.{State}
 use Rattle.site.specs.Moments.{LeavesOnly}
-use Rattle.site.specs.Laws.{leaves_weaker}
+use Rattle.site.proofs.Laws.{leaves_weaker}
 use Rattle.sealed_ring.specs.Ring.{hi_of}
 use Rattle.image_changes.specs.Rings.{master_shape}
 use Rattle.image_changes.specs.Costs.{CallsForUnits}

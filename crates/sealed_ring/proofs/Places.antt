@@ -3,7 +3,7 @@ use Rattle.std.proofs.Common.{◌≡◌, ◌≢◌, inl, inr, ⊎_elim, ℕ, ◌
 use Rattle.std.proofs.lemmas.Bool.{cases_lt, cases_order, or_from}
 use Rattle.site.specs.State.{MayStand, is_within}
 use Rattle.site.specs.Calls.{put, range}
-use Rattle.site.specs.Laws.{within_not, put_below, put_behind}
+use Rattle.site.proofs.Laws.{within_not, put_below, put_behind}
 use Rattle.sealed_ring.specs.declared.slots.Shape.{Shape}
 use Rattle.sealed_ring.specs.Ring.{FitsIn, place, IsBeside}
 use Rattle.sealed_ring.proofs.Rows.{rows_apart}

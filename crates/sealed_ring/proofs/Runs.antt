@@ -7,12 +7,12 @@ use Rattle.site.specs.declared.outside.Failed.{Failed}
 use Rattle.site.specs.State.{State, content_of, loose_of}
 use Rattle.site.specs.Calls.{put, Lies, Wrote, Synced}
 use Rattle.site.specs.Moments.{LeavesOnly}
-use Rattle.site.specs.Laws.{content_of-same, write_leaves_only, then_write, length-put}
+use Rattle.site.proofs.Laws.{content_of-same, write_leaves_only, then_write, length-put}
 use Rattle.sealed_ring.specs.declared.slots.Shape.{Shape}
 use Rattle.sealed_ring.specs.Ring.{FitsIn, place, IsStaged, Stages, Opens}
 use Rattle.sealed_ring.specs.Ready.{region, IsAtRest, LeavesKept, LeavesEither}
 use Rattle.sealed_ring.proofs.Places.{body_fits}
-pub use Rattle.site.specs.Laws.{wrote_changes, synced_changes, changes_in_sequence, synced_settles}
+pub use Rattle.site.proofs.Laws.{wrote_changes, synced_changes, changes_in_sequence, synced_settles}
 use Rattle.sealed_ring.proofs.Steps.{first_leaves, second_leaves, staged_by, open_leaves, opened_by}
 
 -- what stands in the device after a write

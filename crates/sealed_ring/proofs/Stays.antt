@@ -2,7 +2,7 @@
 use Rattle.std.proofs.Common.{sym, subst}
 use Rattle.sealed_ring.specs.Ring.{FitsIn}
 use Rattle.sealed_ring.specs.Ready.{IsUsable}
-pub use Rattle.site.specs.Laws.{quiet_again}
+pub use Rattle.site.proofs.Laws.{quiet_again}
 use Rattle.site.specs.State.{State}
 use Rattle.site.specs.Calls.{Preserves}
 use Rattle.sealed_ring.specs.declared.ring.Ring.{Ring}

@@ -7,7 +7,7 @@ use Rattle.site.specs.declared.outside.Dev.{Dev}
 use Rattle.site.specs.State.{State, Range, Snapshot, MayStand, MayLeave, content_of, loose_of}
 use Rattle.site.specs.Calls.{put, range, within_write, Lies}
 use Rattle.site.specs.Moments.{Leaves}
-use Rattle.site.specs.Laws.{content_of-same, loose_of-same, length-put, put_here}
+use Rattle.site.proofs.Laws.{content_of-same, loose_of-same, length-put, put_here}
 use Rattle.sealed_ring.specs.declared.slots.Shape.{Shape}
 use Rattle.sealed_ring.specs.Ring.{FitsIn, place, IsBeside, number, IsStaged, Stages, Opens}
 use Rattle.sealed_ring.specs.Ready.{region, region_left, IsAtRest, LeavesKept, LeavesEither}

@@ -9,7 +9,7 @@ use Rattle.site.specs.State.{State}
 use Rattle.site.specs.Calls.{Adds, Told, within_tell}
 use Rattle.site.specs.Moments.{EachMoment, works_in}
 use Rattle.site.proofs.Working.{works_join}
-use Rattle.site.specs.Laws.{one_call, in_sequence}
+use Rattle.site.proofs.Laws.{one_call, in_sequence}
 use Rattle.site.specs.Telling.{TellsPart, SameDevices}
 
 -- the octets that one tell told

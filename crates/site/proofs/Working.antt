@@ -1,5 +1,5 @@
 -- Work one after the other, known by its record; and what is said of a result.
-use Rattle.std.proofs.Common.{◌≡◌, ◌≢◌, ◌==◌, ℕ, ◌+◌, ◌≤◌, cond, List, ◌++◌, length, length-append, refl, sym, subst, ap, ◌∙◌, ◌⊎◌, inl, inr, arith}
+use Rattle.std.proofs.Common.{◌≡◌, ◌≢◌, ◌==◌, ◌+◌, ◌≤◌, cond, List, ◌++◌, length, length-append, refl, sym, subst, ap, ◌∙◌, ◌⊎◌, inl, inr, arith}
 use Rattle.std.proofs.lemmas.List.Sums.{sum_by-append, count_by-le-length}
 use Rattle.std.specs.Prelude.{Result, Ok, Err, OnOk, IfErr, IsErrOf}
 pub use Rattle.std_lemmas.proofs.Results.{on_ok as ok_always}
@@ -9,7 +9,7 @@ use Rattle.site.specs.declared.outside.Stop.TheVariants.{Device, Worn, Foreign, 
 use Rattle.site.specs.State.{State, Moment}
 use Rattle.site.specs.Moments.{since, works_in}
 use Rattle.site.specs.Faults.{Faults, faults_in, after_work, TellFaults, with_output_fault}
-use Rattle.site.specs.Laws.{stays_honest, fault_since, goes_in_sequence, goes_nowhere, unchanged_in_sequence}
+use Rattle.site.proofs.Laws.{stays_honest, fault_since, goes_in_sequence, goes_nowhere, unchanged_in_sequence}
 use Rattle.site.specs.Work.{Calls, OnlyReads}
 use Rattle.site.specs.declared.outside.Dev.TheVariants.{Log, Flash, Disk}
 use Rattle.site.specs.declared.outside.Failed.{Failed}

@@ -1,7 +1,6 @@
 pub mod Calls
 pub mod Faults
 pub mod Geometry
-pub mod Laws
 pub mod Moments
 pub mod State
 pub mod Telling

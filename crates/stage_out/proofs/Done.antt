@@ -7,7 +7,7 @@ use Rattle.site.specs.declared.geometry.Geometry.{Geometry}
 use Rattle.site.specs.Geometry.{HasLengths}
 use Rattle.site.specs.State.{State, Image, Snapshot, Range, MayStand, MayLeave, content_of, loose_of, is_loose, now_of, IsQuiet, IsSettled}
 use Rattle.site.specs.Moments.{LeavesOnly, ChangesOnly, Leaves}
-use Rattle.site.specs.Laws.{leaves_weaker, leaves_others_too, settled_is, quiet_settled, in_sequence, changes_in_sequence, unchanged}
+use Rattle.site.proofs.Laws.{leaves_weaker, leaves_others_too, settled_is, quiet_settled, in_sequence, changes_in_sequence, unchanged}
 use Rattle.sealed_ring.specs.Ring.{IsRing, units_of}
 use Rattle.disk_pages.specs.Pages.{LiesOn}
 use Rattle.image_changes.specs.Rings.{RingName, Masters, Blocks, Groups, Segments, shape_of, KeepsUnits}

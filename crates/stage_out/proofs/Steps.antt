@@ -7,7 +7,7 @@ use Rattle.site.specs.declared.outside.Dev.TheVariants.{Disk}
 use Rattle.site.specs.State.{State, Snapshot, Range, MayLeave, content_of, loose_of, is_loose, is_within, now_of}
 use Rattle.site.specs.Calls.{range, Lies, Adds}
 use Rattle.site.specs.Moments.{Leaves, LeavesOnly, ChangesOnly}
-use Rattle.site.specs.Laws.{in_sequence, leaves_weaker, no_call, within_not, changes_in_sequence}
+use Rattle.site.proofs.Laws.{in_sequence, leaves_weaker, no_call, within_not, changes_in_sequence}
 use Rattle.disk_pages.specs.Pages.{LiesOn, page_on, with_page, within_page}
 use Rattle.disk_pages.specs.Laws.{HasWritten as HasPage}
 use Rattle.disk_pages.proofs.PageLaws.{page_is_written, others_stay}

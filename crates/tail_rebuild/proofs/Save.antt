@@ -9,7 +9,7 @@ use Rattle.site.specs.Geometry.{HasLimits, HasLengths}
 use Rattle.site.specs.State.{State, Snapshot, IsQuiet}
 use Rattle.site.specs.Calls.{Preserves, IsUnchanged}
 use Rattle.site.specs.Moments.{Leaves, LeavesOnly, OnlyDevice, SameBut, ChangesOnly}
-use Rattle.site.specs.Laws.{in_sequence, holds_now, leaves_weaker, quiet_leaves, unchanged, unchanged_calm, no_call, quiet_settled}
+use Rattle.site.proofs.Laws.{in_sequence, holds_now, leaves_weaker, quiet_leaves, unchanged, unchanged_calm, no_call, quiet_settled}
 use Rattle.sealed_ring.specs.declared.slots.Shape.{Shape}
 use Rattle.sealed_ring.specs.declared.ring.Ring.{Ring}
 use Rattle.sealed_ring.specs.Ring.{Units, IsRing, SameOutside, appended, hi_of}

@@ -2,7 +2,7 @@
 use Rattle.std.proofs.Common.{ℕ, refl}
 use Rattle.std.specs.Prelude.{Result}
 use Rattle.site.specs.State.{State}
-use Rattle.site.specs.Laws.{goes_nowhere}
+use Rattle.site.proofs.Laws.{goes_nowhere}
 use Rattle.site.specs.declared.outside.Failed.{Failed}
 use Rattle.trace_report.specs.declared.halt.Halt.TheVariants as halt
 use Rattle.trace_report.specs.Contract.{SimulateContract, halt_line}

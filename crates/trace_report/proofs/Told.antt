@@ -6,7 +6,7 @@ use Rattle.site.specs.State.{State, Moment, now_of}
 use Rattle.site.specs.Calls.{Preserves, Rose, SameReads}
 use Rattle.site.specs.Moments.{EachMoment}
 use Rattle.site.specs.Telling.{TellsPart}
-use Rattle.site.specs.Laws.{no_call, calm, now_same, in_sequence, each_weaker, rose_since, rose_then, stays_honest}
+use Rattle.site.proofs.Laws.{no_call, calm, now_same, in_sequence, each_weaker, rose_since, rose_then, stays_honest}
 use Rattle.site.specs.declared.outside.Failed.{Failed}
 use Rattle.trace_report.specs.declared.halt.Halt.{Halt}
 use Rattle.trace_report.specs.declared.halt.Halt.TheVariants as halt

@@ -13,7 +13,7 @@ use Rattle.image_changes.specs.Rings.{log_shape, segment_shape}
 use Rattle.sealed_ring.specs.declared.slots.Shape.{Shape}
 use Rattle.sealed_ring.specs.Ready.{region}
 use Rattle.engine.specs.Image.{IsSound}
-use Rattle.site.specs.Laws.{stays_honest, unchanged_in_sequence, goes_in_sequence}
+use Rattle.site.proofs.Laws.{stays_honest, unchanged_in_sequence, goes_in_sequence}
 use Rattle.site.specs.declared.outside.Stop.TheVariants.{Foreign}
 use Rattle.image_meaning.specs.Meaning.{AreOctetsSoundUnder, kept_by, saved_by}
 use Rattle.flash_cache.specs.Representation.{groups_on}

@@ -36,7 +36,7 @@ use Rattle.engine.proofs.Recovers.{no_tail_still, kept_of, owed_found, commits_f
 use Rattle.engine.proofs.RingCounts.{opened_next, restart_failed, restart_done}
 use Rattle.redo_laws.proofs.RingNumbers.{skips_on, then_skips}
 use Rattle.std.specs.Prelude.{Ok, OnOk, Option, Result, IsTrue}
-use Rattle.site.specs.Laws.{stays_honest}
+use Rattle.site.proofs.Laws.{stays_honest}
 use Rattle.page_store.proofs.NextUnits.{next_then as next_pages}
 use Rattle.redo_undo.specs.StoreCalls.{KeepsNext}
 use Rattle.redo_undo.proofs.NextUnits.{store_next, next_then}

@@ -22,7 +22,7 @@ use Rattle.log_records.specs.Sound.{Means, commit_count, LogicalImage}
 use Rattle.image_meaning.specs.Meaning.{logical_image_under}
 use Rattle.engine.specs.Invariant.{sizes_of}
 use Rattle.engine.specs.Image.{IsSound}
-use Rattle.site.specs.Laws.{stays_honest}
+use Rattle.site.proofs.Laws.{stays_honest}
 use Rattle.engine.specs.Restarting.{IsReady, LeavesNext, RestartedAs}
 use Rattle.engine.specs.declared.restart.Opened.{Opened}
 use Rattle.engine.specs.Leaves.{LeavesTable}

@@ -1,5 +1,5 @@
 use Rattle.std.proofs.Common.{}
-use Rattle.site.specs.Laws.{stays_honest}
+use Rattle.site.proofs.Laws.{stays_honest}
 use Rattle.shell_text.specs.Texts.{reply_text}
 use Rattle.engine.specs.Invariant.{sizes_of}
 use Rattle.face.proofs.CallCounts.{calls_told}

@@ -2,7 +2,7 @@ use Rattle.std.proofs.Common.{◌∙◌, ap, ◌≡◌, List, [], arith, refl, s
 use Rattle.std.specs.Prelude.{Err}
 use Rattle.std.proofs.lemmas.List.{append-nil}
 use Rattle.site.specs.declared.outside.Stop.TheVariants.{Worn}
-use Rattle.site.specs.Laws.{stays_honest, goes_in_sequence, holds_now}
+use Rattle.site.proofs.Laws.{stays_honest, goes_in_sequence, holds_now}
 use Rattle.site.specs.Moments.{EachMoment}
 use Rattle.record_model.specs.Touches.{CacheOp}
 use Rattle.image_meaning.specs.Meaning.{logical_image_under}

@@ -2,7 +2,7 @@ use Rattle.std.proofs.Common.{◌≡◌, suc, List, [], ◌∷◌, ◌++◌, dro
 use Rattle.std.proofs.lemmas.List.{append-nil}
 use Rattle.std.specs.Prelude.{Err}
 use Rattle.site.specs.State.{Input, State as Site}
-use Rattle.site.specs.Laws.{stays_honest, goes_in_sequence}
+use Rattle.site.proofs.Laws.{stays_honest, goes_in_sequence}
 use Rattle.record_model.specs.Run.{Line}
 use Rattle.record_model.specs.declared.words.CacheLine.{CacheLine}
 use Rattle.engine.specs.Listings.{listing_of}

@@ -1,5 +1,5 @@
 use Rattle.std.proofs.Common.{refl}
-use Rattle.site.specs.Laws.{stays_honest}
+use Rattle.site.proofs.Laws.{stays_honest}
 use Rattle.face.proofs.CauseLaws.{cause_then, status_causes, no_causes}
 use Rattle.front_end.proofs.Endings.{refuses_devices}
 use Rattle.face.proofs.ToldFaults.{tells_fault, tells_none}

@@ -1,5 +1,5 @@
 use Rattle.std.proofs.Common.{◌∙◌, ◌++◌, ◌+◌, ℕ, List, refl, sym, ap, subst, arith, add-one, ◌<◌, length}
-use Rattle.site.specs.Laws.{stays_honest}
+use Rattle.site.proofs.Laws.{stays_honest}
 use Rattle.face.specs.Run.{IsFront}
 use Rattle.workload.specs.Scripts.{lives_of as lives_in}
 use Rattle.face.specs.Trial.{life_line}

@@ -1,5 +1,5 @@
 use Rattle.std.proofs.Common.{◌∙◌, List, ℕ, subst}
-use Rattle.site.specs.Laws.{stays_honest}
+use Rattle.site.proofs.Laws.{stays_honest}
 use Rattle.face.specs.Living.{Ends}
 use Rattle.face.specs.Trial.{numbers_of}
 use Rattle.face.proofs.Trials.{ends_since, keeps_heard, keeps_then}

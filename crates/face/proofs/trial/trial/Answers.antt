@@ -1,6 +1,6 @@
 use Rattle.std.proofs.Common.{◌∙◌, ap, inl, inr, subst, ⊎_elim}
 use Rattle.std.specs.Prelude.{Err, IfErr, Result}
-use Rattle.site.specs.Laws.{stays_honest}
+use Rattle.site.proofs.Laws.{stays_honest}
 use Rattle.front_end.specs.Faults.{RunFaults}
 use Rattle.face.specs.Living.{Ends, IsHaltOfTrial}
 use Rattle.front_end.specs.Texts.{fault_line}

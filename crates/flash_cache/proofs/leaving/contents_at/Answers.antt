@@ -1,7 +1,7 @@
 use Rattle.std.proofs.Common.{◌≡◌, ℕ, ◌+◌, List, length, ◌++◌, ◌∷◌, [], sym, ◌∙◌, ap, arith}
 use Rattle.std.proofs.lemmas.List.{length-append}
 use Rattle.site.specs.State.{State, Image}
-use Rattle.site.specs.Laws.{stays_honest}
+use Rattle.site.proofs.Laws.{stays_honest}
 use Rattle.site.specs.declared.outside.Dev.TheVariants.{Flash}
 use Rattle.sealed_ring.proofs.Lookups.{reads_then, reads_answered}
 use Rattle.sealed_ring.specs.Ring.{hi_of, unit_at}

@@ -1,7 +1,7 @@
 use Rattle.std.proofs.Common.{◌∙◌, ap, inl, inr, refl, rules}
 use Rattle.std.specs.Prelude.{Err}
 use Rattle.site.specs.Faults.{with_output_fault}
-use Rattle.site.specs.Laws.{fault_then, stays_honest}
+use Rattle.site.proofs.Laws.{fault_then, stays_honest}
 use Rattle.site.specs.declared.outside.Dev.{Dev}
 use Rattle.image_check.specs.declared.verdict.Verdict.{Verdict}
 use Rattle.front_end.specs.Check.{verdict_line}

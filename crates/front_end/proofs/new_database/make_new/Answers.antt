@@ -1,6 +1,6 @@
 use Rattle.std.proofs.Common.{ap, inl, inr, refl, ◌∙◌, sym, rules, arith}
 use Rattle.site.specs.Faults.{with_output_fault}
-use Rattle.site.specs.Laws.{stays_honest}
+use Rattle.site.proofs.Laws.{stays_honest}
 use Rattle.front_end.specs.New.{ready_line, unfit_line}
 use Rattle.front_end.proofs.NewLaws.{answered, unfit_stays, not_done}
 use Rattle.front_end.proofs.Firsts.{first_none, first_unfit, first_untold}

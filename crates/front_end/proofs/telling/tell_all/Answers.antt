@@ -1,6 +1,6 @@
 use Rattle.std.proofs.Common.{◌∙◌, ap, length, length-drop, arith}
 use Rattle.std.proofs.lemmas.List.{take_rest}
-use Rattle.site.specs.Laws.{stays_honest, goes_in_sequence, one_call_more}
+use Rattle.site.proofs.Laws.{stays_honest, goes_in_sequence, one_call_more}
 use Rattle.front_end.proofs.Handed.{hands_more, one_tell, told_more, tell_no_work}
 use Rattle.front_end.proofs.telling.tell_all.Goals as goal
 

@@ -2,7 +2,7 @@ use Rattle.std.proofs.Common.{inl, ◌≡◌, ◌+◌, ◌<◌, ◌++◌, [], Li
 use Rattle.std.proofs.lemmas.List.{append-nil}
 use Rattle.site.specs.Moments.{EachMoment}
 use Rattle.site.specs.Telling.{TellsPart}
-use Rattle.site.specs.Laws.{stays_honest, goes_nowhere, no_call, goes_in_sequence, devices_in_sequence}
+use Rattle.site.proofs.Laws.{stays_honest, goes_nowhere, no_call, goes_in_sequence, devices_in_sequence}
 use Rattle.shell_text.specs.Texts.{reply_text, reply_lines}
 use Rattle.front_end.specs.Tells.{HandsLines, HandsRest}
 use Rattle.front_end.proofs.Replies.{all_lines, first_of, line_more, lines_handed, piece_told, nothing_told}

@@ -1,7 +1,7 @@
 use Rattle.std.proofs.Common.{rules, ◌≡◌, inl, inr, ℕ, false, true≢false, refl, sym, ap, ◌∙◌, subst, arith}
 use Rattle.std.proofs.lemmas.Bool.{cases_eq}
 use Rattle.site.specs.State.{State, Image}
-use Rattle.site.specs.Laws.{stays_honest}
+use Rattle.site.proofs.Laws.{stays_honest}
 use Rattle.sealed_ring.specs.Ring.{IsLive, hi_of}
 use Rattle.image_changes.specs.Rings.{group_shape}
 use Rattle.frame_group.specs.Groups.{frames_in, IsGroup}

@@ -1,7 +1,7 @@
 use Rattle.std.proofs.Common.{inl, inr, ◌≡◌, ◌∙◌, ◌≤◌, ◌/◌, ℕ, sym, subst, arith, refl, ap, Err, List, false, [], ◌∷◌}
 use Rattle.site.specs.declared.outside.Dev.TheVariants.{Log}
 use Rattle.site.specs.State.{State, IsSettled, IsQuiet}
-use Rattle.site.specs.Laws.{quiet_settled}
+use Rattle.site.proofs.Laws.{quiet_settled}
 use Rattle.sealed_ring.specs.declared.ring.Ring.{Ring}
 use Rattle.sealed_ring.specs.declared.slots.Shape.{Shape}
 use Rattle.sealed_ring.specs.Ready.{region, IsReady, Finds}

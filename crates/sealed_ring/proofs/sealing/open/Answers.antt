@@ -1,7 +1,7 @@
 use Rattle.std.proofs.Common.{arith}
 use Rattle.std_lemmas.proofs.Results.{on_ok}
 use Rattle.site.proofs.Working.{ok_as}
-use Rattle.site.specs.Laws.{then_sync, stays_honest, one_call_more}
+use Rattle.site.proofs.Laws.{then_sync, stays_honest, one_call_more}
 use Rattle.sealed_ring.specs.Ring.{Opens}
 use Rattle.sealed_ring.specs.Ready.{region, LeavesEither}
 use Rattle.sealed_ring.proofs.Runs.{opening, opened, wrote_changes, synced_changes, changes_in_sequence}

@@ -3,7 +3,7 @@ use Rattle.std.proofs.lemmas.List.{length-append}
 use Rattle.std.specs.Int.{to_be_bytes, w64}
 use Rattle.std_lemmas.proofs.Results.{on_ok}
 use Rattle.site.proofs.Working.{ok_as}
-use Rattle.site.specs.Laws.{then_sync, stays_honest, one_call_more}
+use Rattle.site.proofs.Laws.{then_sync, stays_honest, one_call_more}
 use Rattle.sealed_ring.specs.Ring.{Stages}
 use Rattle.sealed_ring.specs.Ready.{region, LeavesKept}
 use Rattle.sealed_ring.proofs.Runs.{first, second, staged, wrote_changes, synced_changes, changes_in_sequence, synced_settles}

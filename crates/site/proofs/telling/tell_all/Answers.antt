@@ -1,6 +1,6 @@
 use Rattle.std.proofs.Common.{◌∙◌, ap, length, length-drop, arith}
 use Rattle.std.proofs.lemmas.List.{take_rest}
-use Rattle.site.specs.Laws.{stays_honest, goes_in_sequence, one_call_more}
+use Rattle.site.proofs.Laws.{stays_honest, goes_in_sequence, one_call_more}
 use Rattle.site.proofs.Tells.{one_tell, told_more, tell_no_work}
 use Rattle.site.proofs.telling.tell_all.Goals as goal
 

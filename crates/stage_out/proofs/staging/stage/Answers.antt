@@ -2,7 +2,7 @@ use Rattle.std.proofs.Common.{◌<◌, length, arith}
 use Rattle.std.proofs.lemmas.Result.{on_ok_weaker}
 use Rattle.std_lemmas.proofs.Results.{on_ok}
 use Rattle.site.specs.declared.outside.Dev.TheVariants.{Disk}
-use Rattle.site.specs.Laws.{stays_honest, changes_in_sequence, quiet_again}
+use Rattle.site.proofs.Laws.{stays_honest, changes_in_sequence, quiet_again}
 use Rattle.disk_pages.proofs.Calling.{writes_then}
 use Rattle.stage_out.proofs.Steps.{nothing_left}
 use Rattle.stage_out.proofs.Done.{left_staged, front, none_front, staged, staged_reaches, sync_left}

@@ -2,7 +2,7 @@ use Rattle.std.proofs.Common.{◌≡◌, ◌*◌, ℕ, List, [], length, get_or,
 use Rattle.std.specs.Prelude.{Ok}
 use Rattle.site.specs.declared.outside.Dev.TheVariants.{Disk}
 use Rattle.site.specs.Calls.{Lies}
-use Rattle.site.specs.Laws.{stays_honest}
+use Rattle.site.proofs.Laws.{stays_honest}
 use Rattle.disk_pages.proofs.Calling.{writes_then}
 use Rattle.stage_out.proofs.Steps.{nothing_left, nothing_written, write_leaves, write_done}
 use Rattle.stage_out.proofs.staging.write_all.Goals as goal

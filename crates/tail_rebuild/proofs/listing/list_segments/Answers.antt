@@ -1,5 +1,5 @@
 use Rattle.std.proofs.Common.{◌+◌, ◌-◌, ◌/◌, ◌≤◌, map, sym, subst, arith}
-use Rattle.site.specs.Laws.{stays_honest}
+use Rattle.site.proofs.Laws.{stays_honest}
 use Rattle.sealed_ring.specs.Ready.{Matches as RingFits}
 use Rattle.frame_group.specs.Groups.{heads_of}
 use Rattle.meta_segments.specs.Following.{heads_with}

@@ -5,7 +5,7 @@ use Rattle.site.specs.Geometry.{HasLengths}
 use Rattle.site.specs.Moments.{ChangesOnly}
 use Rattle.sealed_ring.specs.declared.slots.Shape.{Shape}
 use Rattle.byte_fields.specs.FrameHeads.{spelling_of_all}
-use Rattle.site.specs.Laws.{stays_honest, changes_in_sequence}
+use Rattle.site.proofs.Laws.{stays_honest, changes_in_sequence}
 use Rattle.site.proofs.Working.{err_again}
 use Rattle.meta_segments.proofs.Whole.{segment_form}
 use Rattle.tail_rebuild.specs.Saving.{is_due}

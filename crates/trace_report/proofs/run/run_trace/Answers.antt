@@ -1,5 +1,5 @@
 use Rattle.std.proofs.Common.{◌∙◌, sym, refl, arith}
-use Rattle.site.specs.Laws.{stays_honest, goes_nowhere, goes_in_sequence}
+use Rattle.site.proofs.Laws.{stays_honest, goes_nowhere, goes_in_sequence}
 use Rattle.trace_report.specs.declared.trace.Heard.TheVariants as heard
 use Rattle.trace_report.specs.Hearing.{to_hear}
 use Rattle.trace_report.proofs.Heard.{hears_then, hears_as, nothing_pending}

@@ -3,7 +3,7 @@ use Rattle.record_model.specs.State.{Session, writes_of}
 use Rattle.record_model.specs.Touches.{write_touch, CacheOp}
 use Rattle.redo_laws.proofs.Asking.{asks_same, asks_ok, asks_err}
 use Rattle.std.proofs.Common.{refl, sym, arith, ap, Option, Some, List, map, reverse, length}
-use Rattle.site.specs.Laws.{stays_honest}
+use Rattle.site.proofs.Laws.{stays_honest}
 use Rattle.engine.specs.declared.engine.Engine.{Engine}
 use Rattle.txn_table.proofs.Owing.{owes, entry_is}
 use Rattle.engine.proofs.Actives.{some_active}

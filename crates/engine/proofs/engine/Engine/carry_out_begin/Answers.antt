@@ -1,7 +1,7 @@
 use Rattle.site.specs.declared.outside.Dev.TheVariants.{Log}
 use Rattle.std.proofs.Common.{◌++◌, ◌∷◌, [], None, refl, arith}
 use Rattle.std.proofs.lemmas.Grind.{common_steps}
-use Rattle.site.specs.Laws.{stays_honest}
+use Rattle.site.proofs.Laws.{stays_honest}
 use Rattle.record_model.specs.State.{writes_of, reads_of}
 use Rattle.engine.proofs.Meanings.{begins_late, fresh_behind}
 use Rattle.engine.proofs.Settings.{begin_at, may_begin}

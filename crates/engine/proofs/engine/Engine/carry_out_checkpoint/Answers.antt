@@ -1,7 +1,7 @@
 use Rattle.std.specs.Prelude.{Ok, option_map}
 use Rattle.txn_table.specs.Entries.{counted_from}
 use Rattle.std.proofs.Common.{Err, ◌≤◌, ◌+◌, ◌∙◌, List, refl, sym, ap, subst, arith, ℕ}
-use Rattle.site.specs.Laws.{stays_honest}
+use Rattle.site.proofs.Laws.{stays_honest}
 use Rattle.checkpoint.specs.declared.pairs.Pair.{Pair}
 use Rattle.image_meaning.specs.Flushed.{first_block}
 use Rattle.redo_laws.specs.Holding as both

@@ -1,6 +1,6 @@
 use Rattle.redo_laws.specs.MachineSteps.{one_change}
 use Rattle.std.proofs.Common.{◌≡◌, ◌∷◌, sym, ap, ◌∙◌, arith, ◌/◌, []}
-use Rattle.site.specs.Laws.{stays_honest}
+use Rattle.site.proofs.Laws.{stays_honest}
 use Rattle.record_model.specs.Step.{making, committed}
 use Rattle.log_laws.specs.Follow.{writes_in}
 use Rattle.engine.specs.declared.engine.Engine.{Engine}

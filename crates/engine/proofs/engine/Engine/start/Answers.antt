@@ -1,6 +1,6 @@
 use Rattle.engine.proofs.Asking.{from_other, from_other_fails}
 use Rattle.std.proofs.Common.{◌∙◌, refl, ap, rules}
-use Rattle.site.specs.Laws.{stays_honest}
+use Rattle.site.proofs.Laws.{stays_honest}
 use Rattle.site.specs.declared.geometry.Geometry.{Geometry}
 use Rattle.redo_laws.proofs.Endings.{ends_failed, ends_answered, ends_no_memory}
 use Rattle.engine.proofs.Starts.{started}

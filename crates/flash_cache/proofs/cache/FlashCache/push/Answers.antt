@@ -8,7 +8,7 @@ use Rattle.site.specs.State.{State, Image, Loose}
 use Rattle.sealed_ring.specs.Ring.{unit_at}
 use Rattle.sealed_ring.specs.Ready.{units_in, Matches as RingFits}
 use Rattle.byte_fields.specs.FrameHeads.{AreGroupHeads}
-use Rattle.site.specs.Laws.{stays_honest, untouched_in_sequence}
+use Rattle.site.proofs.Laws.{stays_honest, untouched_in_sequence}
 use Rattle.site.specs.Moments.{LeavesOnly, SameAt}
 use Rattle.image_changes.specs.Changes.{Reaches}
 use Rattle.stage_out.specs.Staged.{HasStaged, calls_of}

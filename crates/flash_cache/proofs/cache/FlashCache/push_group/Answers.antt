@@ -1,7 +1,7 @@
 use Rattle.std.proofs.Common.{List, true, arith, refl, rules}
 use Rattle.site.specs.declared.outside.Dev.TheVariants.{Flash, Disk}
 use Rattle.site.specs.State.{State, IsQuiet}
-use Rattle.site.specs.Laws.{others_untouched, untouched_in_sequence, stays_honest}
+use Rattle.site.proofs.Laws.{others_untouched, untouched_in_sequence, stays_honest}
 use Rattle.site.proofs.Working.{err_again}
 use Rattle.frame_group.specs.Groups.{Frame, group}
 use Rattle.flash_cache.specs.declared.cache.FlashCache.{FlashCache}

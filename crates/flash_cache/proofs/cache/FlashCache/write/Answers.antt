@@ -6,7 +6,7 @@ use Rattle.site.specs.declared.outside.Dev.TheVariants.{Flash, Disk}
 use Rattle.site.specs.declared.geometry.Geometry.{Geometry}
 use Rattle.site.specs.State.{State, IsQuiet, MayStand}
 use Rattle.site.proofs.Working.{no_error}
-use Rattle.site.specs.Laws.{each_weaker, leaves_weaker, untouched_leaves, settled_is, stays_honest, others_untouched, quiet_settled}
+use Rattle.site.proofs.Laws.{each_weaker, leaves_weaker, untouched_leaves, settled_is, stays_honest, others_untouched, quiet_settled}
 use Rattle.site.specs.Moments.{OnlyDevice, SameAt, SameBut, Untouched}
 use Rattle.stage_out.specs.Staged.{HasStaged, calls_of}
 use Rattle.tail_rebuild.specs.Saving.{LeavesGaps}

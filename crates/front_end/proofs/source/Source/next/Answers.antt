@@ -1,5 +1,5 @@
 use Rattle.std.proofs.Common.{◌<◌, [], ◌∷◌, sym, ◌∙◌, ap, arith}
-use Rattle.site.specs.Laws.{stays_honest, goes_in_sequence}
+use Rattle.site.proofs.Laws.{stays_honest, goes_in_sequence}
 use Rattle.front_end.specs.Lines.{to_hear}
 use Rattle.front_end.proofs.LineOctets.{line_heard, last_heard, octet_more, octet_is, none_is, then_rest, cut_off, hears_then, over}
 use Rattle.front_end.proofs.Takes.{takes_then}

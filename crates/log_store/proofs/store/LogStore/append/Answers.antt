@@ -1,7 +1,7 @@
 use Rattle.std.proofs.Common.{rules, ◌≡◌, ◌+◌, ◌∙◌, ◌++◌, ◌∷◌, [], ℕ, List, Bool, ap, subst, arith, sym}
 use Rattle.std.specs.Prelude.{nat_lt, if◌then◌else◌, Result, Err}
 use Rattle.site.specs.declared.outside.Stop.{Stop}
-use Rattle.site.specs.Laws.{goes_nowhere}
+use Rattle.site.proofs.Laws.{goes_nowhere}
 use Rattle.log_records.specs.Spelling.{block_len}
 use Rattle.sealed_ring.specs.declared.ring.Ring.{Ring}
 use Rattle.sealed_ring.specs.Ready.{IsUsable}

@@ -2,7 +2,7 @@ use Rattle.std.proofs.Common.{rules, List, [], ◌≤◌, false, length, append-
 use Rattle.std.specs.Prelude.{if◌then◌else◌, OnOk}
 use Rattle.site.specs.declared.outside.Dev.TheVariants.{Disk}
 use Rattle.site.specs.State.{Image}
-use Rattle.site.specs.Laws.{stays_honest}
+use Rattle.site.proofs.Laws.{stays_honest}
 use Rattle.site.proofs.Working.{calls_then}
 use Rattle.image_changes.specs.Changes.{Reaches}
 use Rattle.second_chance.specs.Queue.{has_frame}

@@ -5,7 +5,7 @@ use Rattle.site.specs.declared.outside.Dev.TheVariants.{Log, Flash}
 use Rattle.site.specs.declared.geometry.Geometry.{Geometry}
 use Rattle.site.specs.State.{IsQuiet, snapshot_of}
 use Rattle.site.specs.Moments.{Leaves, LeavesOnly}
-use Rattle.site.specs.Laws.{leaves_weaker, in_sequence, quiet_settled, holds_now, stays_honest}
+use Rattle.site.proofs.Laws.{leaves_weaker, in_sequence, quiet_settled, holds_now, stays_honest}
 use Rattle.log_store.specs.LogList.{LogList, sealed_if, changes_if}
 use Rattle.flash_cache.specs.Pushed.{pushed_groups, frames_pushed, changes_of_group}
 use Rattle.slotted_page.specs.Layout.{IsSound}

@@ -8,7 +8,7 @@ use Rattle.site.specs.declared.outside.Stop.TheVariants.{Foreign}
 use Rattle.site.specs.State.{Image}
 use Rattle.disk_pages.specs.Pages.{page_on}
 use Rattle.slotted_page.specs.Layout.{IsSound}
-use Rattle.site.specs.Laws.{unchanged_in_sequence, stays_honest}
+use Rattle.site.proofs.Laws.{unchanged_in_sequence, stays_honest}
 use Rattle.site.proofs.Working.{ok_as, ok_always}
 use Rattle.second_chance.specs.Queue.{has_frame, with_read}
 use Rattle.flash_cache.specs.declared.cache.FlashCache.{FlashCache}

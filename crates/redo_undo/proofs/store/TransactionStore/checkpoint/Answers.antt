@@ -17,7 +17,7 @@ use Rattle.redo_undo.proofs.Calling.{log_stops, keeps_answered, keeps_failed, ke
 use Rattle.redo_undo.proofs.StoreCalling.{keeps_of}
 use Rattle.site.proofs.Working.{no_error, calls_then, err_again}
 use Rattle.std.specs.Prelude.{Ok, IsTrue, Option, ⊤, Result}
-use Rattle.site.specs.Laws.{stays_honest}
+use Rattle.site.proofs.Laws.{stays_honest}
 use Rattle.page_store.proofs.NextUnits.{next_logged, next_then}
 use Rattle.redo_undo.specs.declared.store.TransactionStore.{TransactionStore}
 use Rattle.redo_undo.specs.StoreCalls.{KeepsNext}

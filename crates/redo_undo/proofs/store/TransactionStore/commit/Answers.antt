@@ -21,7 +21,7 @@ use Rattle.redo_laws.proofs.Asking.{asks_nothing, stages_log, stages_alone}
 use Rattle.redo_laws.proofs.AskingFlush.{never_worn_flash}
 use Rattle.redo_undo.proofs.Calling.{appends_foreign, keeps_appended, log_stops}
 use Rattle.site.proofs.Working.{no_error}
-use Rattle.site.specs.Laws.{stays_honest, changes_in_sequence}
+use Rattle.site.proofs.Laws.{stays_honest, changes_in_sequence}
 use Rattle.log_store.proofs.NextBlocks as blocks
 use Rattle.page_store.proofs.NextUnits.{next_logged}
 use Rattle.redo_undo.specs.StoreCalls.{KeepsNext}

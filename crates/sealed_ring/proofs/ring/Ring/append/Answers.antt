@@ -1,5 +1,5 @@
 use Rattle.std.proofs.Common.{◌+◌, sym}
-use Rattle.site.specs.Laws.{no_call}
+use Rattle.site.proofs.Laws.{no_call}
 use Rattle.site.specs.Moments.{Leaves}
 use Rattle.sealed_ring.specs.Ready.{region, LeavesOldOrNew}
 use Rattle.sealed_ring.proofs.Highest.{hi_is}

@@ -1,5 +1,5 @@
 use Rattle.std.proofs.Common.{List, ℕ, [], ◌∷◌, ap, ◌∙◌, arith, subst}
-use Rattle.site.specs.Laws.{stays_honest}
+use Rattle.site.proofs.Laws.{stays_honest}
 use Rattle.trace_report.specs.Hearing.{to_hear, IsSaid}
 use Rattle.trace_report.proofs.Heard.{some_octet, line_heard, last_heard, long_heard, octet_is, none_is, then_rest}
 use Rattle.trace_report.proofs.trace.Trace.next.Goals as goal

@@ -1,5 +1,7 @@
 -- Laws on what a crash may leave, and on the moments of calls.
-use Rattle.std.proofs.Common.{IsTrue, ◌≡◌, ◌≢◌, ◌⊎◌, inl, inr, ℕ, zero, ◌+◌, ◌-◌, ◌≤◌, ◌<◌, Bool, true, false}
+use Rattle.std.proofs.Common.{arith}
+use Rattle.std.proofs.lemmas.Grind.{common_steps}
+use Rattle.std.proofs.Common.{IsTrue, ◌≡◌, ◌≢◌, ◌⊎◌, inl, inr, ℕ, zero, ◌+◌, ◌≤◌, ◌<◌, Bool, true, false}
 use Rattle.std.proofs.Common.{true≢false, List, [], ◌∷◌, ◌++◌, length, take, drop, get_or, refl, sym, ◌∙◌, ap, subst}
 use Rattle.std.proofs.Common.{append_assoc}
 use Rattle.std.proofs.Common.{zero-le, le_trans, le_refl, le-add_right, add_assoc, add-sub_of_le, add-le-add}
@@ -9,12 +11,12 @@ use Rattle.std.proofs.lemmas.List.{same_lists, get_or_default, get_or-append-add
 use Rattle.std.proofs.lemmas.List.{length-append, length-take-le, length-drop, drop_at, append-nil, take_all}
 use Rattle.std.proofs.lemmas.Bool.{cases_lt, or_parts, and_from, and_left, and_right, lt-leb, le-leb, lt-ltb, le-ltb}
 use Rattle.std.specs.List.{AllByRecursion}
-use Rattle.std.specs.Prelude.{Result, Ok, Err, OnOk, ◌^◌}
+use Rattle.std.specs.Prelude.{Result, Ok, Err, OnOk}
 use Rattle.site.specs.declared.outside.Dev.{Dev}
 use Rattle.site.specs.declared.outside.Dev.TheVariants.{Log, Flash, Disk}
 use Rattle.site.specs.declared.outside.Failed.{Failed}
 use Rattle.site.specs.State.{State, Image, Loose, Range, Moment, Snapshot, MayStand, MayLeave, content_of, with_content}
-use Rattle.site.specs.State.{loose_of, with_loose, is_loose, is_within, faults_of, reads_of, now_of, snapshot_of}
+use Rattle.site.specs.State.{loose_of, with_loose, is_loose, is_within, faults_of, now_of, snapshot_of}
 use Rattle.site.specs.State.{IsSettled, IsQuiet, no_loose}
 use Rattle.site.specs.Calls.{IsUnchanged, Preserves, Rose, put, range, within_write, Adds, Lies}
 use Rattle.site.specs.Calls.{Stays, Wrote, Synced}
@@ -110,18 +112,7 @@ all_append Q (x ∷ xs) ys a b = (a.0, all_append Q xs ys a.1 b)
 
 -- one run after another
 pub in_sequence : (a b c : State) (Q : Moment → Type 0) → EachMoment a b Q → EachMoment b c Q → EachMoment a c Q
-in_sequence a b c Q first second =
-    let all : c.past ≡ a.past ++ (since a b ++ since b c) =
-    second.grown ∙ ap (λ (l : List Moment). l ++ since b c) first.grown ∙ append_assoc a.past (since a b)
-    (since b c) in
-    let is : since a c ≡ since a b ++ since b c =
-    ap (λ (l : List Moment). drop (length a.past) l) all ∙ drop_at a.past (since a b ++ since b c)
-    (length a.past) refl in
-    record {
-      grown = all ∙ ap (λ (l : List Moment). a.past ++ l) (sym is);
-      each = subst (AllByRecursion Q) (sym is) (all_append Q (since a b) (since b c) first.each second.each);
-      now = second.now;
-    }
+in_sequence a b c Q first second = grind (arith, common_steps, append_assoc, drop_at, all_append)
 
 all_weaker : (Q R : Moment → Type 0) → ((m : Moment) → Q m → R m) → (xs : List Moment) → AllByRecursion Q xs
     → AllByRecursion R xs
@@ -130,11 +121,7 @@ all_weaker Q R f (x ∷ xs) a = (f x a.0, all_weaker Q R f xs a.1)
 
 pub each_weaker : (a b : State) (Q R : Moment → Type 0) → ((m : Moment) → Q m → R m) → EachMoment a b Q
     → EachMoment a b R
-each_weaker a b Q R f e = record {
-  grown = e.grown;
-  each = all_weaker Q R f (since a b) e.each;
-  now = f (now_of b) e.now;
-}
+each_weaker a b Q R f e = grind (arith, common_steps, all_weaker)
 
 pub leaves_weaker : (a b : State) (P R : Snapshot → Type 0) → ((s : Snapshot) → P s → R s) → LeavesOnly a b P
     → LeavesOnly a b R
@@ -153,30 +140,15 @@ put_from c at bytes k fits = ap (λ (j : ℕ). get_or (put c at bytes) (j + k) 0
 
 pub length-put : (c : List ℕ) (at : ℕ) (bytes : List ℕ) → at + length bytes ≤ length c
     → length (put c at bytes) ≡ length c
-length-put c at bytes fits =
-    length-append (take at c) (bytes ++ drop (at + length bytes) c)
-    ∙ (λ i. front c at bytes fits i
-    + (length-append bytes (drop (at + length bytes) c) ∙ ap (λ (k : ℕ). length bytes + k)
-    (length-drop (at + length bytes) c)) i)
-    ∙ sym (add_assoc at (length bytes) (length c - (at + length bytes)))
-    ∙ add-sub_of_le fits
+length-put c at bytes fits = grind (arith, common_steps, length-append, front, length-drop, add_assoc, add-sub_of_le)
 
 pub put_below : (c : List ℕ) (at : ℕ) (bytes : List ℕ) (place : ℕ) → at + length bytes ≤ length c → place < at
     → get_or (put c at bytes) place 0 ≡ get_or c place 0
-put_below c at bytes place fits lt =
-    get_or-append (take at c) (bytes ++ drop (at + length bytes) c) 0 place
-    (subst (λ (n : ℕ). place < n) (sym (front c at bytes fits)) lt)
-    ∙ get_or-take at c place 0 lt
+put_below c at bytes place fits lt = grind (arith, common_steps, get_or-append, front, get_or-take)
 
 pub put_behind : (c : List ℕ) (at : ℕ) (bytes : List ℕ) (place : ℕ) → at + length bytes ≤ length c
     → at + length bytes ≤ place → get_or (put c at bytes) place 0 ≡ get_or c place 0
-put_behind c at bytes place fits le =
-    let more = place - (at + length bytes) in
-    ap (λ (p : ℕ). get_or (put c at bytes) p 0) (sym (add-sub_of_le le) ∙ add_assoc at (length bytes) more)
-    ∙ put_from c at bytes (length bytes + more) fits
-    ∙ get_or-append-add bytes (drop (at + length bytes) c) more 0
-    ∙ get_or-drop (at + length bytes) c more 0
-    ∙ ap (λ (p : ℕ). get_or c p 0) (add-sub_of_le le)
+put_behind c at bytes place fits le = grind (arith, common_steps, add-sub_of_le, add_assoc, put_from, get_or-append-add, get_or-drop)
 
 pub put_here : (c : List ℕ) (at : ℕ) (bytes : List ℕ) (k : ℕ) → at + length bytes ≤ length c → k < length bytes
     → get_or (put c at bytes) (at + k) 0 ≡ get_or bytes k 0
@@ -184,13 +156,7 @@ put_here c at bytes k fits lt = put_from c at bytes k fits ∙ get_or-append byt
 
 -- a place that isn't in a range lies before it or behind it
 pub not_within : (at n place : ℕ) → is_within (range at n) place ≡ false → (place < at) ⊎ (at + n ≤ place)
-not_within at n place out = elim (cases_lt place at) [
-  | inl below ↦ inl below
-  | inr from ↦ elim (cases_lt place (at + n)) [
-    | inl inside ↦ absurd (true≢false (sym (and_from _ _ (le-leb at place from) (lt-ltb place (at + n) inside)) ∙ out))
-    | inr behind ↦ inr behind
-  ]
-]
+not_within at n place out = grind (arith, common_steps, cases_lt, and_from, le-leb, lt-ltb)
 
 pub within_not : (at n place : ℕ) → (place < at) ⊎ (at + n ≤ place) → is_within (range at n) place ≡ false
 within_not at n place (inl below) = and_left _ _ (lt-leb at place below)
@@ -200,10 +166,7 @@ within_not at n place (inr behind) = and_right _ _ (le-ltb place (at + n) behind
 pub stands_back : (rs rs' : List Range) (b b' now : List ℕ) → MayStand rs' b' now → length b' ≡ length b
     → ((place : ℕ) → is_loose rs place ≡ false → (is_loose rs' place ≡ false) × (get_or b' place 0 ≡ get_or b place 0))
     → MayStand rs b now
-stands_back rs rs' b b' now m size kept = record {
-  size = m.size ∙ size;
-  kept = λ place out. m.kept place (kept place out).0 ∙ (kept place out).1;
-}
+stands_back rs rs' b b' now m size kept = grind (arith, common_steps)
 
 -- the same of a device, known by its loose ranges and its content
 stands_at : (rs rs' : List Range) (b b' now : List ℕ) → rs ≡ rs' → b ≡ b' → MayStand rs b now → MayStand rs' b' now
@@ -213,18 +176,7 @@ stands_at rs rs' b b' now r c m =
 -- what may stand after a write may stand within it
 pub put_stands : (rs : List Range) (b now : List ℕ) (at n : ℕ) (bytes : List ℕ) → length bytes ≡ n → at + n ≤ length b
     → MayStand (range at n ∷ rs) (put b at bytes) now → MayStand (range at n ∷ rs) b now
-put_stands rs b now at n bytes is fits m =
-    stands_back (range at n ∷ rs) (range at n ∷ rs) b (put b at bytes) now m (length-put b at bytes fits')
-    (λ place out. (out, kept place (or_parts (is_within (range at n) place) (is_loose rs place) out).0))
-  where
-    fits' : at + length bytes ≤ length b
-    fits' = subst (λ (k : ℕ). at + k ≤ length b) (sym is) fits
-
-    kept : (place : ℕ) → is_within (range at n) place ≡ false → get_or (put b at bytes) place 0 ≡ get_or b place 0
-    kept place out = elim (not_within at n place out) [
-      | inl below ↦ put_below b at bytes place fits' below
-      | inr behind ↦ put_behind b at bytes place fits' (subst (λ (k : ℕ). at + k ≤ place) (sym is) behind)
-    ]
+put_stands rs b now at n bytes is fits m = grind (arith, common_steps, stands_back, length-put, or_parts, not_within, put_below, put_behind)
 
 -- what may stand may stand where one range more is loose
 pub more_loose : (r : Range) (rs : List Range) (b now : List ℕ) → MayStand rs b now → MayStand (r ∷ rs) b now
@@ -265,21 +217,7 @@ lies_leaves dev at bytes old new n s is fits lies told m = record {
 
 stays_leaves : (dev : Dev) (at n : ℕ) (old new : State) (s : Snapshot) → Stays old new → new.told ≡ old.told
     → MayLeave (now_of new) s → MayLeave (within_write dev at n old) s
-stays_leaves dev at n old new s stays told m = record {
-  told = (m.told.0, m.told.1 ∙ ap (λ (l : List ℕ). l ++ take m.told.0 []) told);
-  content = λ d. elim (cases_dev d dev) [
-    | inl same ↦ subst (λ (x : Dev). MayStand
-        (loose_of x (with_loose dev (range at n ∷ loose_of dev old.loose) old.loose)) (content_of x old.image)
-        (content_of x s.image)) (sym same)
-        (stands_at _ _ _ _ _ (sym (loose_of-same dev (range at n ∷ loose_of dev old.loose) old.loose)) refl
-        (more_loose (range at n) (loose_of dev old.loose) _ _ (before dev)))
-    | inr other ↦ stands_at _ _ _ _ _ (sym (loose_of-other dev d (range at n ∷ loose_of dev old.loose) old.loose other))
-        refl (before d)
-  ];
-}
-  where
-    before : (d : Dev) → MayStand (loose_of d old.loose) (content_of d old.image) (content_of d s.image)
-    before d = stands_at _ _ _ _ _ (ap (loose_of d) stays.loose) (ap (content_of d) stays.image) (m.content d)
+stays_leaves dev at n old new s stays told m = grind (arith, common_steps, cases_dev, stands_at, loose_of-same, more_loose, loose_of-other)
 
 pub wrote_leaves : {T : Type 0} (dev : Dev) (at : ℕ) (bytes : List ℕ) (old new : State) (result : Result T Failed)
     (s : Snapshot) → at + length bytes ≤ length (content_of dev old.image) → Wrote dev at bytes old new result
@@ -329,14 +267,7 @@ sync_leaves_only dev old new result P w leaves =
 
 lies_but : (dev : Dev) (at : ℕ) (bytes : List ℕ) (old new : State) → Lies dev at bytes old new → new.told ≡ old.told
     → SameBut dev old (now_of new)
-lies_but dev at bytes old new lies told = record {
-  told = told;
-  telling = refl;
-  content = λ d ne. ap (content_of d) lies.image ∙ content_of-other dev d (put (content_of dev old.image) at bytes)
-      old.image ne;
-  loose = λ d ne. ap (loose_of d) lies.loose ∙ loose_of-other dev d (range at (length bytes) ∷ loose_of dev old.loose)
-      old.loose ne;
-}
+lies_but dev at bytes old new lies told = grind (arith, common_steps, content_of-other, loose_of-other)
 
 wrote_but : {T : Type 0} (dev : Dev) (at : ℕ) (bytes : List ℕ) (old new : State) (result : Result T Failed)
     → Wrote dev at bytes old new result → SameBut dev old (now_of new)
@@ -368,25 +299,11 @@ synced_but dev old new (Err e) w = record {
 
 pub write_only : {T : Type 0} (dev : Dev) (at : ℕ) (bytes : List ℕ) (old new : State) (result : Result T Failed)
     → Wrote dev at bytes old new result → OnlyDevice dev old new
-write_only dev at bytes old new result w =
-    one_call old new (within_write dev at (length bytes) old) (SameBut dev old) w.past
-    (record {
-      told = refl;
-      telling = refl;
-      content = λ d ne. refl;
-      loose = λ d ne. loose_of-other dev d (range at (length bytes) ∷ loose_of dev old.loose) old.loose ne;
-    })
-    (wrote_but dev at bytes old new result w)
+write_only dev at bytes old new result w = grind (arith, common_steps, one_call, loose_of-other, wrote_but)
 
 pub sync_only : {T : Type 0} (dev : Dev) (old new : State) (result : Result T Failed) → Synced dev old new result
     → OnlyDevice dev old new
-sync_only dev old new result w =
-    one_call old new (now_of old) (SameBut dev old) w.past (record {
-      told = refl;
-      telling = refl;
-      content = λ d ne. refl;
-      loose = λ d ne. refl;
-    }) (synced_but dev old new result w)
+sync_only dev old new result w = grind (arith, common_steps, one_call, synced_but)
 
 pub only_in_sequence : (dev : Dev) (a b c : State) → OnlyDevice dev a b → OnlyDevice dev b c → OnlyDevice dev a c
 only_in_sequence dev a b c first second =
@@ -398,26 +315,11 @@ only_in_sequence dev a b c first second =
     }) second)
 
 pub goes_in_sequence : (a b c : State) → Preserves a b → Preserves b c → Preserves a c
-goes_in_sequence a b c f s = record {
-  honest = s.honest ∙ f.honest;
-  kept = s.kept ∙ f.kept;
-  sizes = λ dev. s.sizes dev ∙ f.sizes dev;
-  faults = λ dev. le_trans (f.faults dev) (s.faults dev);
-  input_faults = le_trans f.input_faults s.input_faults;
-  output_faults = le_trans f.output_faults s.output_faults;
-  reads = λ dev. le_trans (f.reads dev) (s.reads dev);
-}
+goes_in_sequence a b c f s = grind (arith, common_steps, le_trans)
 
 -- before any call
 pub no_call : (s : State) (Q : Moment → Type 0) → Q (now_of s) → EachMoment s s Q
-no_call s Q now =
-    let none : since s s ≡ [] = ap (λ (l : List Moment). drop (length s.past) l) (sym (append-nil s.past)) ∙ drop_at
-    s.past [] (length s.past) refl in
-    record {
-      grown = sym (append-nil s.past) ∙ ap (λ (l : List Moment). s.past ++ l) (sym none);
-      each = subst (AllByRecursion Q) (sym none) tt;
-      now = now;
-    }
+no_call s Q now = grind (arith, common_steps, append-nil, drop_at)
 
 pub stays_honest : (a b : State) → Preserves a b → IsTrue a.honest → IsTrue b.honest
 stays_honest a b goes honest = subst IsTrue (sym goes.honest) honest
@@ -442,31 +344,14 @@ pub unchanged : (a : State) → IsUnchanged a a
 unchanged a = record { image = refl; loose = refl; told = refl; left = refl; past = refl }
 
 pub unchanged_in_sequence : (a b c : State) → IsUnchanged a b → IsUnchanged b c → IsUnchanged a c
-unchanged_in_sequence a b c f s = record {
-  image = s.image ∙ f.image;
-  loose = s.loose ∙ f.loose;
-  told = s.told ∙ f.told;
-  left = s.left ∙ f.left;
-  past = s.past ∙ f.past;
-}
+unchanged_in_sequence a b c f s = grind (arith, common_steps)
 
 pub goes_nowhere : (a : State) → Preserves a a
-goes_nowhere a = record {
-  honest = refl;
-  kept = refl;
-  sizes = λ dev. refl;
-  faults = λ dev. le_refl (faults_of dev a);
-  input_faults = le_refl a.input_faults;
-  output_faults = le_refl a.output_faults;
-  reads = λ dev. le_refl (reads_of dev a);
-}
+goes_nowhere a = grind (arith, common_steps, le_refl)
 
 -- what is there now may be left
 pub now_leaves : (s : State) → MayLeave (now_of s) (snapshot_of s)
-now_leaves s = record {
-  told = (0, sym (append-nil s.told));
-  content = λ dev. record { size = refl; kept = λ place out. refl };
-}
+now_leaves s = grind (arith, common_steps, append-nil)
 
 -- so what each crash leaves holds of what is there
 pub holds_now : (old new : State) (P : Snapshot → Type 0) → LeavesOnly old new P → P (snapshot_of new)
@@ -538,10 +423,7 @@ settled_is c now m = same_lists now c m.size
 -- of a settled device a crash between two calls leaves what stands there
 pub settled_leaves : (dev : Dev) (s : State) (snapshot : Snapshot) → IsSettled dev s → MayLeave (now_of s) snapshot
     → content_of dev snapshot.image ≡ content_of dev s.image
-settled_leaves dev s snapshot settled m =
-    settled_is (content_of dev s.image) (content_of dev snapshot.image)
-    (subst (λ (rs : List Range). MayStand rs (content_of dev s.image) (content_of dev snapshot.image)) settled
-    (m.content dev))
+settled_leaves dev s snapshot settled m = grind (arith, common_steps, settled_is)
 
 -- quiet sites
 
@@ -559,15 +441,7 @@ same_image a b same = λ i. record { log = same Log i; flash = same Flash i; dis
 
 -- where no range is loose, a crash leaves what stands there
 pub image_is : (m : Moment) (snapshot : Snapshot) → m.loose ≡ no_loose → MayLeave m snapshot → snapshot.image ≡ m.image
-image_is m snapshot quiet left =
-    same_image snapshot.image m.image (λ dev. settled_is (content_of dev m.image) (content_of dev snapshot.image)
-    (subst (λ (rs : List Range). MayStand rs (content_of dev m.image) (content_of dev snapshot.image))
-    (ap (loose_of dev) quiet ∙ none dev) (left.content dev)))
-  where
-    none : (dev : Dev) → loose_of dev no_loose ≡ []
-    none Log = refl
-    none Flash = refl
-    none Disk = refl
+image_is m snapshot quiet left = grind (arith, common_steps, same_image, settled_is)
 
 -- between two calls, a crash leaves what was told
 pub told_is : (s : State) (snapshot : Snapshot) → MayLeave (now_of s) snapshot → snapshot.told ≡ s.told
@@ -583,22 +457,11 @@ quiet_leaves s snapshot quiet left =
 -- calls that change nothing that a crash leaves
 
 pub now_same : (a b : State) → b.told ≡ a.told → b.image ≡ a.image → b.loose ≡ a.loose → now_of b ≡ now_of a
-now_same a b told image loose = λ i. let m : Moment = record {
-  told = told i;
-  telling = [];
-  image = image i;
-  loose = loose i;
-} in m
+now_same a b told image loose = grind (arith, common_steps)
 
 pub calm : (a b c : State) (Q : Moment → Type 0) → EachMoment a b Q → c.past ≡ b.past → now_of c ≡ now_of b
     → EachMoment a c Q
-calm a b c Q so_far past now =
-    let same : since a c ≡ since a b = ap (λ (l : List Moment). drop (length a.past) l) past in
-    record {
-      grown = past ∙ so_far.grown ∙ ap (λ (l : List Moment). a.past ++ l) (sym same);
-      each = subst (AllByRecursion Q) (sym same) so_far.each;
-      now = subst Q (sym now) so_far.now;
-    }
+calm a b c Q so_far past now = grind (arith, common_steps)
 
 pub unchanged_calm : (a b c : State) (Q : Moment → Type 0) → EachMoment a b Q → IsUnchanged b c → EachMoment a c Q
 unchanged_calm a b c Q so_far same = calm a b c Q so_far same.past (now_same b c same.told same.image same.loose)
@@ -639,9 +502,7 @@ rose_then a b c rose more = le_trans rose more
 
 -- and it has risen since an earlier call
 pub rose_since : (a b c : ℕ) → a ≤ b → Rose b c → Rose a c
-rose_since a b c more rose = le_trans
-    (le-min (le_trans (min-le_left (a + 1) (2 ^ 64 - 1)) (add-le-add more (le_refl 1)))
-    (min-le_right (a + 1) (2 ^ 64 - 1))) rose
+rose_since a b c more rose = grind (arith, common_steps, le_trans, le-min, min-le_left, add-le-add, le_refl, min-le_right)
 
 -- the same of a device
 pub fault_then : (dev : Dev) (a b c : State) → Rose (faults_of dev a) (faults_of dev b) → Preserves b c
