@@ -196,10 +196,12 @@ static void *work(void *data) {
             if (error == VULZHORN_OK) error = vulzhorn_commit(teller->database, session);
             else vulzhorn_abort(teller->database, session);
         }
+        /* where a thread sleeps in the middle of a transfer, the log has to keep all that the others do meanwhile */
+        bool again = error == VULZHORN_BUSY || error == VULZHORN_FULL;
         tries = error == VULZHORN_OK ? 0 : tries + 1;
         done += error == VULZHORN_OK;
         teller->busy += error == VULZHORN_BUSY;
-        teller->wrong += error != VULZHORN_OK && error != VULZHORN_BUSY;
+        teller->wrong += error != VULZHORN_OK && !again;
         if (teller->wrong > 0 || tries > 1000) break;
         nanosleep(&(struct timespec){.tv_nsec = tries * random_below(&teller->seed, 100000)}, NULL);
     }
