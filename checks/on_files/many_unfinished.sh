@@ -47,6 +47,7 @@ costs() {
     cost=$((10#${out/./}))
 }
 
+cd "$folder" || exit 1
 log sound 400
 costs check
 [ "$(cat replies)" = 'sound records 0 commits 0' ]
