@@ -45,6 +45,8 @@ def counted(face, groups, power):
             call = CALL.search(line) if is_open else None
             if call:
                 found[call[1], call[2]] += 1
+                # no unit of another ring is as long as a group's content
+                found["groups"] += call[1] == "pwrite64" and int(line.rsplit("=", 1)[1].split()[0]) > 4096
     for name in ("face.log", "face.flash", "face.disk", "trace"):
         os.remove(name)
     return found
@@ -62,8 +64,7 @@ def main():
             for groups in GROUPS:
                 for face in programs:
                     calls = counted(face, groups, power)
-                    # a group is appended by two syncs
-                    figures = [calls["fdatasync", "flash"] / 2, calls["pread64", "flash"], calls["pread64", "disk"]]
+                    figures = [calls["groups"], calls["pread64", "flash"], calls["pread64", "disk"]]
                     figures += [calls["pwrite64", "disk"], calls["fdatasync", "disk"]]
                     cells = " | ".join(f"{1000 * figure / COUNT:.0f}" for figure in figures)
                     print(f"| {os.path.basename(face)} | {choice} | {groups} | {cells} |", flush=True)
