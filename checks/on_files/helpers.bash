@@ -52,6 +52,18 @@ told() {
 }
 prefix=()
 
+# says NAME STATUS PATTERN WORDS..: the program ends with this status, and standard error has a line of this pattern
+says() {
+    local name=$1 status=$2 pattern=$3 got
+    shift 3
+    "${prefix[@]}" "$face" "$@" >"$folder/out" 2>"$folder/said" </dev/null
+    got=$?
+    [ "$got" -eq "$status" ] && grep -q -x -e "$pattern" "$folder/said"
+    local ok=$?
+    [ $ok -eq 0 ] || echo "  $name: status $got, said: $(cat "$folder/said")"
+    verdict "$name" $ok
+}
+
 # awaits WORD FILE: until the file has the word, for five seconds at most
 awaits() {
     for _ in $(seq 100); do

@@ -8,17 +8,8 @@ fi
 as_user=(setpriv --reuid 65534 --regid 65534 --clear-groups)
 as_other=(setpriv --reuid 65533 --regid 65533 --clear-groups)
 
-# says NAME STATUS PATTERN WORDS..: a user's program ends with this status, and standard error has a line of this pattern
-says() {
-    local name=$1 status=$2 pattern=$3 got
-    shift 3
-    "${as_user[@]}" "$face" "$@" >"$folder/out" 2>"$folder/said" </dev/null
-    got=$?
-    [ "$got" -eq "$status" ] && grep -q -x -e "$pattern" "$folder/said"
-    local ok=$?
-    [ $ok -eq 0 ] || echo "  $name: status $got, said: $(cat "$folder/said")"
-    verdict "$name" $ok
-}
+# the programs are those of a user, where nothing else is said
+prefix=("${as_user[@]}")
 
 # a folder where everybody may make files, and nobody removes those of others
 shared() {
@@ -45,17 +36,13 @@ rm face.disk
 for file in face.log:34304 face.flash:271360 face.disk:65536; do
     "${as_user[@]}" truncate -s "${file#*:}" "${file%:*}"
 done
-prefix=("${as_user[@]}")
 told 'blank files of its own' 0 'ready 16 8 64' '' new 16 8 64
 chown 65533 face.flash
 chmod 666 face.flash
 says 'one of another user beside two' 9 "face: face.flash is another user's, .*" new 16 8 64
-prefix=()
 chmod 755 .
 chown 65534 face.*
-prefix=("${as_user[@]}")
 told 'blank files in a folder that takes no more' 0 'ready 16 8 64' '' new 16 8 64
-prefix=()
 
 # --- what has the name of a draft
 for file in face.log.new face.flash.new face.disk.new; do
@@ -90,9 +77,7 @@ if has flock; then
     chown 65534 own
     cd own || exit 1
     says 'a folder of its own, under it' 9 'face: this folder has no database: .*' run 1
-    prefix=("${as_user[@]}")
     told 'new in it' 0 'ready 16 8 64' '' new 16 8 64
-    prefix=()
 else
     skip 'locks of others: need flock'
 fi
@@ -102,20 +87,18 @@ cd "$folder/shared/own" || exit 1
 chmod 755 .
 for mode in 400 444; do
     chmod "$mode" face.*
-    prefix=("${as_user[@]}")
     told "a check of files with mode $mode" 0 'sound records 0 commits 0' '' check
     says "a run over files with mode $mode" 9 "face: face.log can't be opened to be read and written: Permission denied .*" run 1
 done
 prefix=("${as_other[@]}")
 told 'a check by another user who may read' 0 'sound records 0 commits 0' '' check
-prefix=()
+prefix=("${as_user[@]}")
 chmod 000 face.flash
 says 'a check of a file that is closed' 11 "face: face.flash can't be opened to be read: Permission denied .*" check
 chmod 600 face.*
 chmod 311 .
 says 'a run in a folder that cannot be read' 9 "face: this folder can't be opened to be read: Permission denied .*" run 1
 chmod 700 .
-prefix=("${as_user[@]}")
 told 'nothing was lost by these' 0 'open 0/none' 'get 5/' run 1
 
 finish

@@ -3,18 +3,6 @@
 # of the other scripts.
 . "$(dirname "$(readlink -f "$0")")/helpers.bash"
 
-# says NAME STATUS PATTERN WORDS..: the program ends with this status, and standard error has a line of this pattern
-says() {
-    local name=$1 status=$2 pattern=$3 got
-    shift 3
-    "${prefix[@]}" "$face" "$@" >"$folder/out" 2>"$folder/said" </dev/null
-    got=$?
-    [ "$got" -eq "$status" ] && grep -q -x -e "$pattern" "$folder/said"
-    local ok=$?
-    [ $ok -eq 0 ] || echo "  $name: status $got, said: $(cat "$folder/said")"
-    verdict "$name" $ok
-}
-
 # --- words that are wrong
 mkdir "$folder/db"
 cd "$folder/db" || exit 1
