@@ -9,9 +9,9 @@ bin/face runs. It prints one table of all figures: commits, gets and pairs of a 
 which one is changed at a time; the rate of the commits to that of the bare calls; the time of a restart; and the instructions of
 a set with its get, where valgrind is installed. Two more tables have the time of a restart by the blocks of the live log and by the
 groups of the queue on flash, each the median of five. The next one is of pools all of whose pages are in memory: a set of each page and
-the checkpoint that then finds all of them changed, beside the very calls that these make, and what a page takes in memory. The last two,
-where valgrind is installed, have the instructions of one command by the pool, all pages of which are in memory, and by the groups of a
-queue from which each page is read."""
+the checkpoint that then finds all of them changed, beside the very calls that these make, and what a page takes in memory. The last three,
+where valgrind is installed, have the instructions of one command by the pool, all pages of which are in memory, by the pool where each
+command makes a page leave it, and by the groups of a queue from which each page is read."""
 import os
 import random
 import re
@@ -189,6 +189,19 @@ def steps_by_pool(face, pool):
     return steps
 
 
+def steps_of_a_miss(face, pool):
+    """Instructions of a command whose page makes another leave the pool: of 8,192 pages in their order, each of which has a frame, where
+    every fiftieth command is a set; what 4,000 of them take behind 10,000."""
+    totals = []
+    for count in (10000, 14000):
+        made(face, (8192, 2048, 65536, pool))
+        lines = "".join(f"get {32 * (n % 8192)}\n" if n % 50 else f"set {32 * (n % 8192)} 0102030405060708\n" for n in range(count))
+        words = ["valgrind", "--tool=callgrind", "--callgrind-out-file=/dev/null", face, "run", str(pool)]
+        done = subprocess.run(words, input=lines, capture_output=True, text=True)
+        totals.append(int(re.search(r"Collected : (\d+)", done.stderr)[1]))
+    return (totals[1] - totals[0]) // 4000
+
+
 def get_by_groups(face, groups):
     """Instructions of a get that reads its page from a queue of so many groups but one, each with one page, with one in memory."""
     made(face, (16384, groups, 64, 1))
@@ -253,6 +266,9 @@ def main():
         for pool in POOLS:
             get, put = steps_by_pool(face, pool)
             print(f"| {pool} | {get} | {put} |", flush=True)
+        print("\n| pool | instructions of a command that evicts |\n|---|---|")
+        for pool in (64, 4096):
+            print(f"| {pool} | {steps_of_a_miss(face, pool)} |", flush=True)
         print("\n| groups in the queue | instructions of a get from it |\n|---|---|")
         for groups in QUEUES:
             print(f"| {groups - 1} | {get_by_groups(face, groups)} |", flush=True)
