@@ -191,9 +191,9 @@ def steps_by_pool(face, pool):
 
 def steps_of_a_miss(face, pool):
     """Instructions of a command whose page makes another leave the pool: of 8,192 pages in their order, each of which has a frame, where
-    every fiftieth command is a set; what 4,000 of them take behind 10,000."""
+    every fiftieth command is a set; what 4,000 of them take behind 20,000."""
     totals = []
-    for count in (10000, 14000):
+    for count in (20000, 24000):
         made(face, (8192, 2048, 65536, pool))
         lines = "".join(f"get {32 * (n % 8192)}\n" if n % 50 else f"set {32 * (n % 8192)} 0102030405060708\n" for n in range(count))
         words = ["valgrind", "--tool=callgrind", "--callgrind-out-file=/dev/null", face, "run", str(pool)]
