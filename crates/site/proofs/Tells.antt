@@ -1,16 +1,16 @@
 -- One tell more.
-use Rattle.std.proofs.Common.{◌≡◌, ◌==◌, ℕ, ◌+◌, ◌≤◌, Bool, false, cond, List, [], ◌∷◌, ◌++◌, length, take, drop, sym, ◌∙◌, ap, arith, append_assoc, inl, inr}
+use Rattle.std.proofs.Common.{◌≡◌, ◌==◌, ◌⊎◌, ℕ, ◌+◌, ◌≤◌, Bool, false, cond, List, [], ◌∷◌, ◌++◌, length, take, drop, refl, sym, ◌∙◌, ap, arith, append_assoc, inl, inr}
 use Rattle.std.proofs.lemmas.Bool.Decides.{eqb_tells}
 use Rattle.std.proofs.lemmas.List.{append-nil, take_all}
 use Rattle.std.proofs.Math.Seq.{take-add}
 use Rattle.std.specs.Prelude.{Result, Ok, Err}
 use Rattle.site.specs.declared.outside.Failed.{Failed}
 use Rattle.site.specs.State.{State}
-use Rattle.site.specs.Calls.{Adds, Told, within_tell}
+use Rattle.site.specs.Calls.{Adds, Stays, Told, within_tell}
 use Rattle.site.specs.Moments.{EachMoment, works_in}
 use Rattle.site.proofs.Working.{works_join}
 use Rattle.site.proofs.Laws.{one_call, in_sequence}
-use Rattle.site.specs.Telling.{TellsPart, SameDevices}
+use Rattle.site.specs.Telling.{HandsRest, TellsPart, SameDevices}
 
 -- the octets that one tell told
 pub told_some : (piece : List ℕ) (old new : State) (result : Result ℕ Failed) → Told piece old new result → (n : ℕ) × (new.told ≡ old.told ++ take n piece)
@@ -28,6 +28,11 @@ one_tell piece at rest old mid new result is same told so_far t =
   where
     more : (j : ℕ) → mid.told ++ take j rest ≡ old.told ++ take (at + j) piece
     more j = (λ i. told i ++ take j (is i)) ∙ append_assoc old.told (take at piece) (take j (drop at piece)) ∙ ap (λ (l : List ℕ). old.told ++ l) (sym (take-add at j piece))
+
+-- the rest was handed to it
+pub hands_more : (piece : List ℕ) (at : ℕ) (rest : List ℕ) (old mid new : State) → rest ≡ drop at piece → mid.told ≡ old.told ++ take at piece → EachMoment old mid (HandsRest piece old) → Adds (within_tell rest mid) mid new ⊎ Stays mid new → EachMoment old new (HandsRest piece old)
+hands_more piece at rest old mid new is told so_far past =
+    in_sequence old mid new (HandsRest piece old) so_far (one_call mid new (within_tell rest mid) (HandsRest piece old) past (inr (record { part = at; told = told; telling = is })) (inl refl))
 
 pub told_more : (piece : List ℕ) (at : ℕ) (rest : List ℕ) (old mid new : State) (n : ℕ) → rest ≡ drop at piece → mid.told ≡ old.told ++ take at piece → new.told ≡ mid.told ++ take n rest → new.told ≡ old.told ++ take (at + n) piece
 told_more piece at rest old mid new n is told more =

@@ -1,7 +1,7 @@
 use Rattle.std.proofs.Common.{◌∙◌, ap, length, length-drop, arith}
 use Rattle.std.proofs.lemmas.List.{take_rest}
 use Rattle.site.proofs.Laws.{stays_honest, goes_in_sequence, one_call_more}
-use Rattle.site.proofs.Tells.{one_tell, told_more, tell_no_work}
+use Rattle.site.proofs.Tells.{hands_more, one_tell, told_more, tell_no_work}
 use Rattle.site.proofs.telling.tell_all.Goals as goal
 
 pub returns-in-Err-clause-any_moment : goal.returns-in-Err-clause-any_moment
@@ -12,6 +12,13 @@ returns-in-Err-clause-any_moment g c honest =
     let i = c.loop-at.invariant in
     let rest = take_rest c.args.piece.now c.loop-at.at in
     one_tell c.args.piece.now c.loop-at.at _ old mid new c.tell.result rest (i.same honest) (i.told honest) (i.any_moment honest) (c.tell.ensures.told (stays_honest old mid i.preserves honest))
+
+pub returns-in-Err-clause-hands : goal.returns-in-Err-clause-hands
+returns-in-Err-clause-hands g c honest =
+    let old = g.S.Site.state c.args.site.now in
+    let mid = g.S.Site.state c.loop-at.site in
+    let i = c.loop-at.invariant in
+    hands_more c.args.piece.now c.loop-at.at _ old mid (g.S.Site.state c.tell.new.self) (take_rest c.args.piece.now c.loop-at.at) (i.told honest) (i.hands honest) (c.tell.ensures.told (stays_honest old mid i.preserves honest)).past
 
 pub loop-at-preserved : goal.loop-at-preserved
 loop-at-preserved g c =
@@ -36,4 +43,5 @@ loop-at-preserved g c =
             works = tell_no_work _ mid new (omega (arith, some, c.loop-at-test.true)) adds ∙ (i.tells_only honest).works;
           };
       any_moment = λ honest. one_tell c.args.piece.now c.loop-at.at _ old mid new c.tell.result rest (i.same honest) (i.told honest) (i.any_moment honest) (c.tell.ensures.told (stays_honest old mid i.preserves honest));
+      hands = λ honest. hands_more c.args.piece.now c.loop-at.at _ old mid new rest (i.told honest) (i.hands honest) (c.tell.ensures.told (stays_honest old mid i.preserves honest)).past;
     }
