@@ -8,7 +8,7 @@ use Rattle.site.specs.State.{State as Site, Moment, Snapshot, now_of}
 use Rattle.site.specs.Calls.{Preserves, SameReads}
 use Rattle.site.specs.Moments.{EachMoment, Leaves, LeavesOnly}
 use Rattle.site.proofs.Laws.{each_both, each_weaker, image_is, in_sequence, leaves_weaker, stays_honest, tell_leaves, told_is}
-use Rattle.site.specs.Telling.{SameDevices, TellsOnly, TellsPart}
+use Rattle.site.specs.Telling.{HandsLine, HandsRest, SameDevices, TellsOnly, TellsPart}
 use Rattle.site.specs.declared.outside.Failed.{Failed}
 use Rattle.record_model.specs.State.{State}
 use Rattle.record_model.specs.Run.{commit_marks, commits_among}
@@ -26,11 +26,10 @@ use Rattle.face.specs.RunMeaning.{StandsAfter, all_commits}
 use Rattle.face.specs.Worn.{WearsFirst, WearsNone}
 use Rattle.face.specs.Run.{IsFront, Run, first_lines, turns_of}
 use Rattle.front_end.specs.Texts.{fault_line, status_of}
-use Rattle.front_end.specs.Tells.{EndsBehind, HandsRest, Tells}
+use Rattle.front_end.specs.Tells.{EndsBehind, Tells}
 use Rattle.face.specs.Workload.{load_run, load_texts, opening_text, summary_text}
 use Rattle.face.proofs.CallCounts.{calls_told}
 use Rattle.front_end.proofs.Endings.{ends_whole, ends_with}
-use Rattle.front_end.proofs.Replies.{handed_whole}
 use Rattle.face.proofs.Dones.{none_behind}
 use Rattle.face.proofs.Demanded.{asked_done, asked_halted, done_whole, demands_done, demands_err, demands_failed, demands_lost}
 use Rattle.face.proofs.Statuses.{not_zero, of_five, of_seven, output_or_not, worn_by}
@@ -149,7 +148,7 @@ module _ (pool : ℕ) (run : Run) (summary : List ℕ) (old mid new : Site) wher
       in_sequence old mid new (LoadTellsDone pool run summary [] old) (tells_opening opening)
       (each_weaker mid new (λ m. TellsPart summary mid m × HandsRest summary mid m) (LoadTellsDone pool run summary [] old)
       (λ (m : Moment) both. ⊎_elim (λ none. inl (inl none)) (λ rest. inr (inl (record {
-        told = handed_whole summary mid m rest.0 rest.1 rest.2 ∙ ap (λ (l : List ℕ). l ++ summary) told ∙ append_assoc old.told (opening_text run) summary;
+        line = (0, subst (λ (t : List ℕ). HandsLine summary t m) (told ∙ sym (append-nil (old.told ++ opening_text run))) rest);
         done = subst (HasDone pool run old.image) (sym both.0.image) (done_whole pool run works.begun works.all old.image mid.image works.demands.done);
       }))) both.1) (each_both mid new (TellsPart summary mid) (HandsRest summary mid) tells hands))
 
@@ -158,11 +157,11 @@ module _ (pool : ℕ) (run : Run) (summary : List ℕ) (old mid new : Site) wher
   tells_fault_line h stops tells hands =
       in_sequence old mid new (LoadTellsDone pool run summary (fault_line h) old)
       (each_weaker old mid (LoadTellsDone pool run summary [] old) (LoadTellsDone pool run summary (fault_line h) old)
-      (λ (m : Moment) d. ⊎_elim (λ o. inl o) (λ some. ⊎_elim (λ s. inr (inl s)) (λ f. inl (inl (f.3 ∙ none_behind f.1))) some) d) tells)
+      (λ (m : Moment) d. ⊎_elim (λ o. inl o) (λ some. ⊎_elim (λ s. inr (inl s)) (λ f. inl (inl (f.1.telling ∙ none_behind f.1.part))) some) d) tells)
       (each_weaker mid new (HandsRest (fault_line h) mid) (LoadTellsDone pool run summary (fault_line h) old)
       (λ (m : Moment) h'. ⊎_elim (λ none. inl (inl none)) (λ rest. ⊎_elim
-      (λ output. inl (inl (rest.2 ∙ ap (λ (x : Halt). drop rest.0 (fault_line x)) output ∙ none_behind rest.0)))
-      (λ ne. let w = whole ne in inr (inr (w.0, rest.0, rest.1 ∙ ap (λ (l : List ℕ). l ++ take rest.0 (fault_line h)) w.1, rest.2)))
+      (λ output. inl (inl (rest.telling ∙ ap (λ (x : Halt). drop rest.part (fault_line x)) output ∙ none_behind rest.part)))
+      (λ ne. let w = whole ne in inr (inr (w.0, subst (λ (t : List ℕ). HandsLine (fault_line h) t m) w.1 rest)))
       (output_or_not h)) h') hands)
     where
       whole : h ≢ halt.Output → (n : ℕ) × (mid.told ≡ old.told ++ flat_map (λ (x : List ℕ). x) (take n (opening_text run ∷ summary ∷ [])))

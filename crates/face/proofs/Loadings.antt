@@ -4,7 +4,6 @@ use Rattle.std.specs.Prelude.{Result, Ok, Err, count_by}
 use Rattle.std.proofs.lemmas.List.{append-nil, drop_at, length-map, take-take}
 use Rattle.std_lemmas.proofs.AllOf.{all_append}
 use Rattle.site.specs.declared.geometry.Geometry.{Geometry}
-use Rattle.std.specs.List.{concat}
 use Rattle.site.specs.State.{State as Site, Image, Moment, Snapshot, MayLeave, now_of}
 use Rattle.site.specs.Moments.{EachMoment, Leaves, LeavesOnly}
 use Rattle.site.proofs.Laws.{each_weaker, holds_now, image_is, in_sequence, leaves_weaker}
@@ -165,9 +164,10 @@ module _ (g : Geometry) (opening : State) (load : Load) where
     opens_only : (now : Site) → EachMoment old now (TellsDone load.pool run 0 [] old) → EachMoment old now (TellsOpening load.pool run old)
     opens_only now tells = each_weaker old now (TellsDone load.pool run 0 [] old) (TellsOpening load.pool run old)
         (λ (m : Moment) d. ⊎_elim (λ none. inl none) (λ some. ⊎_elim
-        (λ t. let none : t.0 ≡ 0 = (let few = t.2 in omega (arith, few)) in
-        inr (t.1, subst (λ (n : ℕ). TellsWhenDone load.pool (first_lines run n) (first_texts run n ++ concat (take t.1 (lines_at (first_lines run n) n))) old m) none t.3))
-        (λ f. inl (f.3 ∙ none_behind f.1)) some) d) tells
+        (λ t. let none : t.0 ≡ 0 = (let few = t.1 in omega (arith, few)) in
+        inr (subst (λ (l : List ℕ). TellsWhenDone load.pool (first_lines run 0) (opening_text run ∷ []) l old m) (append-nil old.told)
+        (subst (λ (n : ℕ). TellsWhenDone load.pool (first_lines run n) (lines_at (first_lines run n) n) (old.told ++ first_texts run n) old m) none t.2)))
+        (λ f. inl (f.1.telling ∙ none_behind f.1.part)) some) d) tells
 
     pub opens_never : (new : Site) (h : Halt) → NeverOpens load.pool run old new h → EachMoment old new (TellsOpening load.pool run old)
     opens_never new h never = opens_only new never.tells

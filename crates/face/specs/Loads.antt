@@ -1,7 +1,6 @@
 -- What a load does, and what a crash at any moment leaves of it.
-use Rattle.std.specs.Prelude.{◌≡◌, ◌≢◌, ◌⊎◌, ℕ, ◌-◌, ◌≤◌, List, [], ◌∷◌, ◌++◌, length, take}
+use Rattle.std.specs.Prelude.{◌≡◌, ◌≢◌, ◌⊎◌, ℕ, ◌-◌, ◌≤◌, List, [], ◌∷◌, ◌++◌, length}
 use Rattle.std.specs.Prelude.{Result, IfErr, OnOk}
-use Rattle.std.specs.List.{concat}
 use Rattle.site.specs.State.{State as Site, Moment, Snapshot, MayLeave, now_of, no_loose}
 use Rattle.site.specs.Moments.{EachMoment, LeavesOnly}
 use Rattle.site.specs.declared.geometry.Geometry.{Geometry}
@@ -52,15 +51,16 @@ pub record HasBegunLoad (run : Run) (begun : ℕ) (old now : Site) : Type 0 wher
   pub stands : (s : Snapshot) → MayLeave (now_of now) s →
       (k : ℕ) × (commits_among (begun - 1) (commit_marks (turns_of run)) ≤ k) × StandsAfter run k s.image
 
--- within a tell the opening is told, and restart is done
+-- within a tell the opening is being told, and restart is done
 abbrev pub TellsOpening : ℕ → Run → Site → Moment → Type 0
 TellsOpening pool run old moment = (moment.telling ≡ [])
-    ⊎ ((whole : ℕ) × TellsWhenDone pool (first_lines run 0) (concat (take whole (opening_text run ∷ []))) old moment)
+    ⊎ TellsWhenDone pool (first_lines run 0) (opening_text run ∷ []) old.told old moment
 
 -- or the summary, and all lines are done; or the fault line
 abbrev pub LoadTellsDone : ℕ → Run → List ℕ → List ℕ → Site → Moment → Type 0
 LoadTellsDone pool run summary fault old moment =
-    TellsOpening pool run old moment ⊎ (TellsWhenDone pool run (opening_text run ++ summary) old moment
+    TellsOpening pool run old moment
+    ⊎ (TellsWhenDone pool run (summary ∷ []) (old.told ++ opening_text run) old moment
     ⊎ TellsFaultLine (opening_text run ∷ summary ∷ []) fault old moment)
 
 -- What a load leaves that opens with this state, and what a crash at any moment of it leaves.

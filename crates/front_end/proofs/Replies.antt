@@ -6,7 +6,7 @@ use Rattle.site.specs.State.{State, Moment}
 use Rattle.site.specs.Moments.{EachMoment}
 use Rattle.site.proofs.Laws.{in_sequence, each_weaker}
 use Rattle.site.specs.Telling.{HandsLine, HandsRest, TellsPart, SameDevices}
-use Rattle.front_end.specs.Tells.{HandsLines}
+use Rattle.front_end.specs.Tells.{HandsLines, HandsOneOf}
 
 -- the first of the lines, one after the other
 abbrev pub first_of : ℕ → List (List ℕ) → List ℕ
@@ -48,6 +48,10 @@ pub lines_handed : (lines : List (List ℕ)) (place : ℕ) (old mid new : State)
 lines_handed lines place old mid new told so_far hands =
     in_sequence old mid new (HandsLines lines old.told) so_far (each_weaker mid new (HandsRest (get_or lines place []) mid) (HandsLines lines old.told)
     (λ (m : Moment) h. ⊎_elim (λ none. inl none) (λ rest. inr (place, subst (λ (t : List ℕ). HandsLine (get_or lines place []) t m) told rest)) h) hands)
+
+-- of the same lines, behind the same octets
+pub hands_as : {lines lines' : List (List ℕ)} {so_far so_far' : List ℕ} (m : Moment) → lines ≡ lines' → so_far ≡ so_far' → HandsOneOf lines so_far m → HandsOneOf lines' so_far' m
+hands_as {lines} {lines'} {so_far} {so_far'} m is same hands = subst (λ (t : List ℕ). HandsOneOf lines' t m) same (subst (λ (l : List (List ℕ)). HandsOneOf l so_far m) is hands)
 
 -- before the first line
 pub nothing_told : (text : List ℕ) (old : State) → TellsPart text old (record { told = old.told; telling = []; image = old.image; loose = old.loose })

@@ -8,11 +8,14 @@ use Rattle.site.specs.Moments.{EachMoment}
 use Rattle.site.specs.Telling.{HandsLine, HandsRest, TellsPart, SameDevices}
 use Rattle.site.specs.declared.outside.Failed.{Failed}
 
--- Within a tell one of these lines is being told: those before it are told whole, and all that is left of it is handed
--- on.
+-- one of these lines is being told behind these octets: those before it are told whole
+abbrev pub HandsOneOf : List (List ℕ) → List ℕ → Moment → Type 0
+HandsOneOf lines so_far moment =
+    (whole : ℕ) × HandsLine (slice_index_or lines whole []) (so_far ++ concat (take whole lines)) moment
+
+-- within a tell it is
 abbrev pub HandsLines : List (List ℕ) → List ℕ → Moment → Type 0
-HandsLines lines so_far moment = (moment.telling ≡ [])
-    ⊎ ((whole : ℕ) × HandsLine (slice_index_or lines whole []) (so_far ++ concat (take whole lines)) moment)
+HandsLines lines so_far moment = (moment.telling ≡ []) ⊎ HandsOneOf lines so_far moment
 
 -- the text is told, or after an error a front of it, and nothing else is done
 pub record TellsText {T : Type 0} (text : List ℕ) (old new : State) (result : Result T Failed) : Type 0 where
