@@ -37,6 +37,6 @@ TellsFaultLine texts fault old moment =
 -- behind the texts of those before it; or it is the fault line.
 abbrev pub TellsDone : ℕ → Run → ℕ → List ℕ → Site → Moment → Type 0
 TellsDone pool run begun fault old moment = (moment.telling ≡ [])
-    ⊎ (((lines : ℕ) × (lines ≤ begun) × TellsWhenDone pool (first_lines run lines) (lines_at (first_lines run lines) lines)
-    (old.told ++ first_texts run lines) old moment)
+    ⊎ (((lines : ℕ) × (lines ≤ begun) × TellsWhenDone pool (first_lines run lines)
+    (lines_at (first_lines run lines) lines) (old.told ++ first_texts run lines) old moment)
     ⊎ TellsFaultLine (texts run) fault old moment)

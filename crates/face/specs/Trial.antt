@@ -72,8 +72,8 @@ pub record GoesOn (run : Run) (text : List ℕ) (table : List Content) (commits 
 abbrev pub kept_by : Option (ℕ × ℕ) → List ℕ → List ℕ
 kept_by stop changes = code_of (option_map (λ s. s.0) stop) ∷ 0 ∷ changes
 
--- A life is a run with a pool of so many pages, over a site in memory with these octets on its input: it begins with what
--- was found, and that fuse, and ends with this status. `over` is the site as the life leaves it.
+-- A life is a run with a pool of so many pages, over a site in memory with these octets on its input: it begins with
+-- what was found, and that fuse, and ends with this status. `over` is the site as the life leaves it.
 pub record IsLived (pool : ℕ) (octets : List ℕ) (stop : Option (ℕ × ℕ)) (before : Between) (status : ℕ) (over : Site)
     : Type 0 where
   pub begun : Site
