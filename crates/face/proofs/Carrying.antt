@@ -1,5 +1,5 @@
 -- A line is carried out: a command of the database, one that asks for nothing, and one whose reply is told.
-use Rattle.std.proofs.Common.{◌≡◌, inl, inr, ⊎_elim, ℕ, ◌+◌, ◌++◌, ◌≤◌, take, true, false, List, [], IsTrue, IfErr, IfOk, OnOk, IsErrOf, refl, sym, ◌∙◌, ap, subst, arith, ◌≢◌}
+use Rattle.std.proofs.Common.{◌≡◌, inl, inr, ⊎_elim, ℕ, ◌+◌, ◌++◌, ◌≤◌, true, false, List, [], IsTrue, IfErr, IfOk, OnOk, IsErrOf, refl, sym, ◌∙◌, ap, subst, arith, ◌≢◌}
 use Rattle.std.specs.Prelude.{Result, Ok, Err, Some, None, ⊤}
 use Rattle.site.specs.declared.outside.Dev.{Dev}
 use Rattle.site.specs.declared.outside.Dev.TheVariants.{Log}
@@ -9,7 +9,6 @@ use Rattle.site.specs.declared.outside.Stop.TheVariants.{Device, Memory, Worn, F
 use Rattle.site.specs.declared.geometry.Geometry.{Geometry}
 use Rattle.site.specs.Calls.{Rose}
 use Rattle.site.specs.Faults.{WorkFaults, faults_in, with_output_fault}
-use Rattle.std.specs.List.{concat}
 use Rattle.site.specs.State.{State as Site, Image, Moment, Snapshot, IsQuiet}
 use Rattle.site.specs.Moments.{EachMoment, LeavesOnly}
 use Rattle.site.proofs.Laws.{each_both, each_weaker, goes_in_sequence, goes_nowhere, holds_now, in_sequence, leaves_weaker, rose_since, stays_honest, stays_quiet}
@@ -43,6 +42,7 @@ use Rattle.front_end.specs.declared.halt.Halt.{Halt}
 use Rattle.front_end.specs.declared.halt.Halt.TheVariants as halt
 use Rattle.front_end.specs.Faults.{RunFaults}
 use Rattle.front_end.specs.Tells.{HandsLines, TellsText}
+use Rattle.front_end.proofs.Replies.{hands_as}
 use Rattle.face.specs.Carrying.{CarriesOut, CarriesUntold, DoesLine, HandsReply, LineStepsMachine, TellsAnswer, halted}
 use Rattle.face.specs.Causes.{AnswerFailsBy}
 use Rattle.face.specs.Run.{IsAsked, StandsFor, line_checkpoints, line_log_reads, step, LeavesAnswer}
@@ -339,8 +339,7 @@ module _ (line : Line) (a b : Engine) (old mid new : Site) (reply : Reply) (c : 
       in_sequence old mid new (HandsReply line a b lines old) first
       (each_weaker mid new (λ m. TellsPart (reply_text reply) mid m × HandsLines (reply_lines reply) mid.told m) (HandsReply line a b lines old)
       (λ (m : Moment) both. ⊎_elim (λ none. inl none) (λ w. inr (record {
-        whole = w.0;
-        told = w.1 ∙ (λ i. same i ++ concat (take w.0 (is i)));
+        told = hands_as m is same w;
         reply = reply;
         mid = mid;
         course = c.course;

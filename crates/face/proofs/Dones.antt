@@ -1,19 +1,17 @@
 -- What is done when something is told, one line after the other.
-use Rattle.std.proofs.Common.{◌≡◌, ◌⊎◌, inl, inr, ⊎_elim, ℕ, zero, suc, ◌+◌, ◌≤◌, List, [], ◌∷◌, ◌++◌, take, drop, refl, sym, ◌∙◌, ap, subst, arith, append_assoc, add-one}
-use Rattle.std.specs.List.{concat}
+use Rattle.std.proofs.Common.{◌≡◌, ◌⊎◌, inl, inr, ⊎_elim, ℕ, zero, suc, ◌+◌, ◌≤◌, List, [], ◌∷◌, ◌++◌, take, drop, refl, sym, ◌∙◌, ap, subst, arith, add-one}
 use Rattle.std.proofs.lemmas.List.{append-nil, take-take}
 use Rattle.site.specs.State.{State as Site, Moment}
 use Rattle.site.specs.Moments.{EachMoment, LeavesOnly}
 use Rattle.site.proofs.Laws.{each_both, each_weaker, in_sequence}
-use Rattle.site.specs.Telling.{TellsPart}
+use Rattle.site.specs.Telling.{HandsLine, HandsRest, TellsPart}
 use Rattle.record_model.specs.Run.{Line}
 use Rattle.engine.specs.declared.engine.Engine.{Engine}
 use Rattle.engine.specs.Leaves.{LeavesTable}
 use Rattle.engine.specs.Listings.{QueueIsOnFlash}
 use Rattle.engine.specs.SeenVersions.{WhereItFits}
 use Rattle.shell_text.specs.Texts.{open_text, reply_lines}
-use Rattle.front_end.specs.Tells.{HandsRest}
-use Rattle.front_end.proofs.Replies.{handed_whole}
+use Rattle.front_end.proofs.Replies.{hands_as}
 use Rattle.face.specs.Carrying.{HandsReply}
 use Rattle.face.specs.Done.{HasDone, TellsDone, lines_at}
 use Rattle.face.specs.Run.{Run, answered, first_lines, listing_at, state_at, step}
@@ -43,10 +41,12 @@ module _ (pool : ℕ) (run : Run) (entry : Site) where
       (each_weaker mid new (λ m. TellsPart text mid m × HandsRest text mid m) (TellsDone pool run 0 [] entry)
       (λ (m : Moment) both. ⊎_elim (λ none. inl none) (λ rest. inr (inl (
         0,
-        1,
         omega arith,
         record {
-          told = handed_whole text mid m rest.0 rest.1 rest.2 ∙ (λ i. untold i ++ is i) ∙ ap (λ (l : List ℕ). entry.told ++ l) (sym (append-nil (open_text run.opening.commits)));
+          line = (
+            0,
+            subst (λ (t : List ℕ). HandsLine (open_text run.opening.commits) t m) (untold ∙ sym (append-nil entry.told) ∙ sym (append-nil (entry.told ++ []))) (subst (λ (l : List ℕ). HandsLine l mid.told m) is rest),
+          );
           done = subst (HasDone pool (first_lines run 0) entry.image) (sym both.0.image) done;
         },
       ))) both.1) (each_both mid new (TellsPart text mid) (HandsRest text mid) tells hands))
@@ -55,7 +55,7 @@ module _ (pool : ℕ) (run : Run) (entry : Site) where
   pub done_more : (i n : ℕ) → i ≤ n → (mid : Site) → EachMoment entry mid (TellsDone pool run i [] entry) → EachMoment entry mid (TellsDone pool run n [] entry)
   done_more i n le mid so_far =
       each_weaker entry mid (TellsDone pool run i [] entry) (TellsDone pool run n [] entry)
-      (λ (m : Moment) d. ⊎_elim (λ none. inl none) (λ some. inr (⊎_elim (λ t. let few = t.2 in inl (t.0, t.1, omega (arith, few, le), t.3)) (λ f. inr f) some)) d) so_far
+      (λ (m : Moment) d. ⊎_elim (λ none. inl none) (λ some. inr (⊎_elim (λ t. let few = t.1 in inl (t.0, omega (arith, few, le), t.2)) (λ f. inr f) some)) d) so_far
 
   -- a line is answered, however that ends
   pub done_next : (mid new : Site) (engine engine' : Engine) (i : ℕ) (line : Line) (rest : List Line) → drop i (answered run) ≡ line ∷ rest → HasServed pool run entry mid engine i → QueueIsOnFlash → WhereItFits → mid.told ≡ entry.told ++ first_texts run (i + 1)
@@ -66,12 +66,9 @@ module _ (pool : ℕ) (run : Run) (entry : Site) where
       (each_weaker mid new (HandsReply line engine engine' lines mid) (TellsDone pool run (suc i) [] entry)
       (λ (m : Moment) h. ⊎_elim (λ none. inl none) (λ w. inr (inl (
         suc i,
-        w.whole,
         omega arith,
         record {
-          told = w.told ∙ ap (λ (l : List ℕ). l ++ concat (take w.whole lines)) (told ∙ ap (λ (n : ℕ). entry.told ++ first_texts run n) (add-one i))
-              ∙ append_assoc entry.told (first_texts run (suc i)) (concat (take w.whole lines))
-              ∙ ap (λ (l : List (List ℕ)). entry.told ++ (first_texts run (suc i) ++ concat (take w.whole l))) (sym (lines_next run i line rest is));
+          line = hands_as m (sym (lines_next run i line rest is)) (told ∙ ap (λ (n : ℕ). entry.told ++ first_texts run n) (add-one i)) w.told;
           done = subst (HasDone pool (first_lines run (suc i)) entry.image) (sym w.image)
               (served_done pool run entry w.mid engine' (suc i) (served_next pool run entry mid engine i so_far line rest is engine' w.mid w.reply w.course) queue seen);
         },
@@ -84,23 +81,22 @@ done_same pool run lines n same fault old new each =
     (λ (m : Moment) d. ⊎_elim (λ none. inl none) (λ some. ⊎_elim
     (λ t.
     let l = t.0 in
-    let few = t.2 in
+    let few = t.1 in
     let front : take l lines ≡ take l run.lines = sym (take-take l n lines few) ∙ ap (take l) same ∙ take-take l n run.lines few in
     let eq : first_lines (other run lines n same) l ≡ first_lines run l = first_same run lines l front in
     let texts : first_texts run l ≡ first_texts (other run lines n same) l = sym (told_same run lines n same l (omega (arith, few))) in
     inr (inl (
       l,
-      t.1,
       few,
       record {
-        told = t.3.told ∙ (λ i. old.told ++ (texts i ++ concat (take t.1 (lines_at (sym eq i) l))));
-        done = subst (λ (r : Run). HasDone pool r old.image m.image) (sym eq) t.3.done;
+        line = hands_as m (ap (λ (r : Run). lines_at r l) (sym eq)) (ap (λ (x : List ℕ). old.told ++ x) texts) t.2.line;
+        done = subst (λ (r : Run). HasDone pool r old.image m.image) (sym eq) t.2.done;
       },
     )))
-    (λ f. inl (f.3 ∙ none_behind f.1)) some) d) each
+    (λ f. inl (f.1.telling ∙ none_behind f.1.part)) some) d) each
 
 -- and the fault line is told behind whole texts
 pub done_fault : (pool : ℕ) (run : Run) (n : ℕ) (fault : List ℕ) (old mid new : Site) → (fault ≡ []) ⊎ ((whole : ℕ) × (mid.told ≡ old.told ++ first_texts run whole)) → EachMoment old mid (TellsDone pool run n fault old) → EachMoment mid new (HandsRest fault mid) → EachMoment old new (TellsDone pool run n fault old)
 done_fault pool run n fault old mid new behind so_far hands =
     in_sequence old mid new (TellsDone pool run n fault old) so_far (each_weaker mid new (HandsRest fault mid) (TellsDone pool run n fault old)
-    (λ (m : Moment) h. ⊎_elim (λ none. inl none) (λ rest. ⊎_elim (λ empty. inl (rest.2 ∙ ap (drop rest.0) empty ∙ none_behind rest.0)) (λ w. inr (inr (w.0, rest.0, rest.1 ∙ ap (λ (l : List ℕ). l ++ take rest.0 fault) w.1, rest.2))) behind) h) hands)
+    (λ (m : Moment) h. ⊎_elim (λ none. inl none) (λ rest. ⊎_elim (λ empty. inl (rest.telling ∙ ap (drop rest.part) empty ∙ none_behind rest.part)) (λ w. inr (inr (w.0, subst (λ (t : List ℕ). HandsLine fault t m) w.1 rest))) behind) h) hands)

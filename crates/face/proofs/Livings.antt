@@ -96,13 +96,10 @@ fed_site g before entry lit fed kept octets is_lit is_fed finds told left = (
   ap (λ (s : Site). s.told) is_fed ∙ ap (λ (s : Site). s.told) is_lit ∙ told,
 )
 
-pub with_status : (g : Geometry) (before : Between) (octets : List ℕ) (site : Site) (A : ℕ → Type 0) (o : Option ℕ) (status : ℕ) → IfSome o (λ told. (told ≡ status) × A told) → HasLivedOne g before octets status site → IfSome o (λ told. HasLivedOne g before octets told site)
-with_status g before octets site A (Some told) status is lived = subst (λ (n : ℕ). HasLivedOne g before octets n site) (sym is.0) lived
-with_status g before octets site A None status is lived = is
-
-pub if_some : {T : Type 0} (o : Option T) (P : Type 0) → P → IfSome o (λ x. P)
-if_some (Some x) P p = p
-if_some None P p = tt
+-- what holds with the status holds with the one that is told
+pub with_status : (A P : ℕ → Type 0) (o : Option ℕ) (status : ℕ) → IfSome o (λ told. (told ≡ status) × A told) → P status → IfSome o P
+with_status A P (Some told) status is holds = subst P (sym is.0) holds
+with_status A P None status is holds = is
 
 -- A site in memory on which a life begins.
 pub begun_so : (stop : Option (ℕ × ℕ)) (before : Between) (octets : List ℕ) (inner : MemSite) (lit begun : Site) → state_of inner ≡ started (0 ∷ 0 ∷ before.changes) before.image → lit ≡ record (state_of inner) { kept = lit.kept } → lit.kept ≡ kept_by stop (lives_of inner)

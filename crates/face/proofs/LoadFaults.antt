@@ -7,11 +7,10 @@ use Rattle.site.specs.declared.outside.Dev.{Dev}
 use Rattle.site.specs.State.{State as Site, Moment, Snapshot, now_of}
 use Rattle.site.specs.Calls.{Preserves, SameReads}
 use Rattle.site.specs.Moments.{EachMoment, Leaves, LeavesOnly}
-use Rattle.site.proofs.Laws.{each_both, each_weaker, image_is, in_sequence, leaves_weaker, stays_honest, tell_leaves, told_is}
-use Rattle.site.specs.Telling.{SameDevices, TellsOnly, TellsPart}
+use Rattle.site.proofs.Laws.{each_both, each_weaker, image_is, in_sequence, leaves_weaker, no_call, stays_honest, tell_leaves, told_is}
+use Rattle.site.specs.Telling.{HandsLine, HandsRest, SameDevices, TellsOnly, TellsPart}
 use Rattle.site.specs.declared.outside.Failed.{Failed}
 use Rattle.record_model.specs.State.{State}
-use Rattle.record_model.specs.Run.{commit_marks, commits_among}
 use Rattle.front_end.specs.declared.halt.Halt.{Halt}
 use Rattle.front_end.specs.declared.halt.Halt.TheVariants as halt
 use Rattle.command_line.specs.declared.request.Load.{Load}
@@ -21,20 +20,20 @@ use Rattle.face.proofs.WornFronts.{never_worn_within}
 use Rattle.face.specs.TopCall.{LoadContract}
 use Rattle.face.specs.Headline.{IsGood, TellsFault}
 use Rattle.face.specs.Done.{HasDone}
-use Rattle.face.specs.Loads.{Allows, HasBegunLoad, IsLeftOf, IsOpened, IsUntold, LoadHeadline, LoadStops, LoadTellsDone, LoadWorks, TellsOpening}
-use Rattle.face.specs.RunMeaning.{StandsAfter, all_commits}
+use Rattle.face.specs.Loads.{Allows, HasBegunLoad, HasMadeBefore, IsLeftOf, IsOpened, IsUntold, LoadHeadline, LoadStops, LoadTellsDone, LoadWorks, TellsOpening}
+use Rattle.face.specs.RunMeaning.{StandsAfter, WritesAsBegun, all_commits}
 use Rattle.face.specs.Worn.{WearsFirst, WearsNone}
-use Rattle.face.specs.Run.{IsFront, Run, first_lines, turns_of}
+use Rattle.face.specs.Run.{IsFront, Run, first_lines}
 use Rattle.front_end.specs.Texts.{fault_line, status_of}
-use Rattle.front_end.specs.Tells.{EndsBehind, HandsRest, Tells}
+use Rattle.front_end.specs.Tells.{EndsBehind, Tells}
 use Rattle.face.specs.Workload.{load_run, load_texts, opening_text, summary_text}
 use Rattle.face.proofs.CallCounts.{calls_told}
 use Rattle.front_end.proofs.Endings.{ends_whole, ends_with}
-use Rattle.front_end.proofs.Replies.{handed_whole}
 use Rattle.face.proofs.Dones.{none_behind}
 use Rattle.face.proofs.Demanded.{asked_done, asked_halted, done_whole, demands_done, demands_err, demands_failed, demands_lost}
 use Rattle.face.proofs.Statuses.{not_zero, of_five, of_seven, output_or_not, worn_by}
 use Rattle.face.proofs.Meanings.{stands_by}
+use Rattle.face.proofs.Written.{leaves_told, made_behind, written_behind}
 
 no_text : (rest text : List ℕ) → IsFront rest [] → IsFront rest text
 no_text rest text front = (0, front.1 ∙ take_all front.0 [] (omega arith))
@@ -59,17 +58,13 @@ fault_left run summary fault so_far s l = record { told = l.told; told_is = l.to
 
 -- more is told behind the lines that were begun
 still_begun : (run : Run) (begun : ℕ) (text : List ℕ) (old mid new : Site) → EachMoment mid new (TellsPart text mid) → HasBegunLoad run begun old mid → HasBegunLoad run begun old new
-still_begun run begun text old mid new tells b =
-    let now = tells.now.told 0 in
-    let more = take now.0 text in
-    record {
-      few = b.few;
-      opened = λ some. let o = b.opened some in (
-        o.0 ++ more,
-        sym (append-nil new.told) ∙ now.1 ∙ ap (λ (l : List ℕ). l ++ more) o.1 ∙ append_assoc old.told (opening_text run ++ o.0) more ∙ ap (λ (l : List ℕ). old.told ++ l) (append_assoc (opening_text run) o.0 more),
-      );
-      stands = λ s left. ((tell_leaves (λ image. (k : ℕ) × (commits_among (begun - 1) (commit_marks (turns_of run)) ≤ k) × StandsAfter run k image) text mid new b.stands tells).now s left).1;
-    }
+still_begun run begun text old mid new tells b = record {
+  few = b.few;
+  by = (leaves_told (HasMadeBefore run old.told begun) (made_behind run old.told begun) text mid mid new (no_call mid (Leaves (HasMadeBefore run old.told begun)) b.by) tells).now;
+}
+
+still_written : (pool : ℕ) (run : Run) (begun : ℕ) (text : List ℕ) (old mid new : Site) → EachMoment mid new (TellsPart text mid) → WritesAsBegun pool run (HasMadeBefore run old.told) begun old mid → WritesAsBegun pool run (HasMadeBefore run old.told) begun old new
+still_written pool run begun text old = written_behind pool run (HasMadeBefore run old.told) (made_behind run old.told) begun text old
 
 module _ (pool : ℕ) (run : Run) (summary : List ℕ) (old : Site) where
   -- it stops before its summary
@@ -83,6 +78,7 @@ module _ (pool : ℕ) (run : Run) (summary : List ℕ) (old : Site) where
     done = tt;
     begun = works.begun;
     has_begun = works.has_begun;
+    written = works.written;
     all = tt;
     demands = demands_err pool (first_lines run works.begun) old new h (λ dev e. works.demands.worn dev (ap Err e)) works.demands.numbers works.demands.reads;
     earlier = works.earlier;
@@ -118,6 +114,7 @@ module _ (pool : ℕ) (run : Run) (summary : List ℕ) (old : Site) where
       };
       begun = works.begun;
       has_begun = still_begun run works.begun summary old mid new tells works.has_begun;
+      written = still_written pool run works.begun summary old mid new tells works.written;
       all = works.all;
       demands = demands_done pool (first_lines run works.begun) old mid new same.image read tells x y (calls_told run.geometry summary mid new same.image told few) works.demands;
       earlier = works.earlier;
@@ -131,6 +128,7 @@ module _ (pool : ℕ) (run : Run) (summary : List ℕ) (old : Site) where
       done = tt;
       begun = works.begun;
       has_begun = still_begun run works.begun summary old mid new tells works.has_begun;
+      written = still_written pool run works.begun summary old mid new tells works.written;
       all = tt;
       demands = demands_lost pool (first_lines run works.begun) old mid new same.image read tells x works.demands;
       earlier = works.earlier;
@@ -149,7 +147,7 @@ module _ (pool : ℕ) (run : Run) (summary : List ℕ) (old mid new : Site) wher
       in_sequence old mid new (LoadTellsDone pool run summary [] old) (tells_opening opening)
       (each_weaker mid new (λ m. TellsPart summary mid m × HandsRest summary mid m) (LoadTellsDone pool run summary [] old)
       (λ (m : Moment) both. ⊎_elim (λ none. inl (inl none)) (λ rest. inr (inl (record {
-        told = handed_whole summary mid m rest.0 rest.1 rest.2 ∙ ap (λ (l : List ℕ). l ++ summary) told ∙ append_assoc old.told (opening_text run) summary;
+        line = (0, subst (λ (t : List ℕ). HandsLine summary t m) (told ∙ sym (append-nil (old.told ++ opening_text run))) rest);
         done = subst (HasDone pool run old.image) (sym both.0.image) (done_whole pool run works.begun works.all old.image mid.image works.demands.done);
       }))) both.1) (each_both mid new (TellsPart summary mid) (HandsRest summary mid) tells hands))
 
@@ -158,11 +156,11 @@ module _ (pool : ℕ) (run : Run) (summary : List ℕ) (old mid new : Site) wher
   tells_fault_line h stops tells hands =
       in_sequence old mid new (LoadTellsDone pool run summary (fault_line h) old)
       (each_weaker old mid (LoadTellsDone pool run summary [] old) (LoadTellsDone pool run summary (fault_line h) old)
-      (λ (m : Moment) d. ⊎_elim (λ o. inl o) (λ some. ⊎_elim (λ s. inr (inl s)) (λ f. inl (inl (f.3 ∙ none_behind f.1))) some) d) tells)
+      (λ (m : Moment) d. ⊎_elim (λ o. inl o) (λ some. ⊎_elim (λ s. inr (inl s)) (λ f. inl (inl (f.1.telling ∙ none_behind f.1.part))) some) d) tells)
       (each_weaker mid new (HandsRest (fault_line h) mid) (LoadTellsDone pool run summary (fault_line h) old)
       (λ (m : Moment) h'. ⊎_elim (λ none. inl (inl none)) (λ rest. ⊎_elim
-      (λ output. inl (inl (rest.2 ∙ ap (λ (x : Halt). drop rest.0 (fault_line x)) output ∙ none_behind rest.0)))
-      (λ ne. let w = whole ne in inr (inr (w.0, rest.0, rest.1 ∙ ap (λ (l : List ℕ). l ++ take rest.0 (fault_line h)) w.1, rest.2)))
+      (λ output. inl (inl (rest.telling ∙ ap (λ (x : Halt). drop rest.part (fault_line x)) output ∙ none_behind rest.part)))
+      (λ ne. let w = whole ne in inr (inr (w.0, subst (λ (t : List ℕ). HandsLine (fault_line h) t m) w.1 rest)))
       (output_or_not h)) h') hands)
     where
       whole : h ≢ halt.Output → (n : ℕ) × (mid.told ≡ old.told ++ flat_map (λ (x : List ℕ). x) (take n (opening_text run ∷ summary ∷ [])))
@@ -242,6 +240,7 @@ module _ (load : Load) (g : Geometry) (opening : State) (old : Site) (good : IsG
         resources = record {
           begun = works.begun;
           has_begun = still_begun run' works.begun (fault_line h) old mid new tells works.has_begun;
+          written = still_written load.pool run' works.begun (fault_line h) old mid new tells works.written;
           asked = asked_halted load.pool run' works.begun old new {T = T} h status (λ zero. not_zero h (sym is ∙ zero)) (λ eight. worn_by h (sym is ∙ eight)) works.earlier
               (demands_failed load.pool (first_lines run' works.begun) old mid new same.image read tells h works.demands);
         };
@@ -265,6 +264,7 @@ module _ (load : Load) (g : Geometry) (opening : State) (old : Site) (good : IsG
     resources = record {
       begun = works.begun;
       has_begun = works.has_begun;
+      written = works.written;
       asked = asked_done load.pool run' works.begun old new x works.all works.earlier works.demands;
     };
   }

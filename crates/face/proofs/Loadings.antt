@@ -4,10 +4,9 @@ use Rattle.std.specs.Prelude.{Result, Ok, Err, count_by}
 use Rattle.std.proofs.lemmas.List.{append-nil, drop_at, length-map, take-take}
 use Rattle.std_lemmas.proofs.AllOf.{all_append}
 use Rattle.site.specs.declared.geometry.Geometry.{Geometry}
-use Rattle.std.specs.List.{concat}
 use Rattle.site.specs.State.{State as Site, Image, Moment, Snapshot, MayLeave, now_of}
 use Rattle.site.specs.Moments.{EachMoment, Leaves, LeavesOnly}
-use Rattle.site.proofs.Laws.{each_weaker, holds_now, image_is, in_sequence, leaves_weaker}
+use Rattle.site.proofs.Laws.{each_weaker, holds_now, image_is, in_sequence, leaves_weaker, told_is}
 use Rattle.record_model.specs.declared.words.Reply.{Reply}
 use Rattle.record_model.specs.State.{State}
 use Rattle.record_model.specs.Run.{Line, commit_marks, commits_among, is_quit}
@@ -23,8 +22,8 @@ use Rattle.command_line.specs.declared.request.Load.{Load}
 use Rattle.face.specs.Carrying.{CarriesUntold}
 use Rattle.face.specs.RunInProgress.{NeverOpens, RunInProgress}
 use Rattle.face.specs.Done.{TellsDone, TellsWhenDone, lines_at}
-use Rattle.face.specs.Loads.{HasBegunLoad, IsLeftOf, IsOpened, IsUntold, LoadInProgress, LoadStops, LoadWorks, TellsOpening}
-use Rattle.face.specs.RunMeaning.{IsLeft, StandsAfter, first_texts, texts}
+use Rattle.face.specs.Loads.{HasBegunLoad, HasMadeBefore, IsLeftOf, IsOpened, IsUntold, LoadInProgress, LoadStops, LoadWorks, TellsOpening}
+use Rattle.face.specs.RunMeaning.{AsksNoMore, IsLeft, StandsAfter, WritesAsBegun, first_texts, texts}
 use Rattle.face.specs.Run.{Run, StandsFor, answered, first_lines, listing_at, state_at, step, turns_of}
 use Rattle.face.specs.Working.{StandsNear, Stops}
 use Rattle.face.specs.Workload.{get_line, get_lines, load_run, numbers_of, opening_text, set_line, set_lines}
@@ -37,8 +36,9 @@ use Rattle.face.proofs.Pagings.{after_same}
 use Rattle.face.proofs.Ranges.{all_among, stands_after}
 use Rattle.face.proofs.Runs.{state_next}
 use Rattle.face.proofs.RunsSoFar.{going_stands}
-use Rattle.face.proofs.Serving.{line_fails, none_before, served_all, served_next}
+use Rattle.face.proofs.Serving.{line_asks, line_fails, none_before, served_all, served_next}
 use Rattle.face.proofs.Turns.{turns_count}
+use Rattle.face.proofs.Written.{written_more, written_none}
 
 -- Its lines.
 
@@ -138,6 +138,12 @@ module _ (g : Geometry) (opening : State) (load : Load) where
     })
     opening_between (suc (suc n)) new few told stands = let one : length (texts (first_lines run 0)) ≡ 1 = refl in absurd (omega (arith, few, one))
 
+    none_made : (s : Snapshot) → IsLeftOf run [] [] old.told s → HasMadeBefore run old.told 0 s
+    none_made s l = record { opened = λ any. absurd (omega (arith, any)); k = l.k; made = omega arith; stands = l.stands }
+
+    none_written : (new : Site) → LeavesOnly old new (IsLeftOf run [] [] old.told) → AsksNoMore load.pool (first_lines run 0) old new → WritesAsBegun load.pool run (HasMadeBefore run old.told) 0 old new
+    none_written new left asks = written_none load.pool run (HasMadeBefore run old.told) old new (leaves_weaker old new (IsLeftOf run [] [] old.told) (HasMadeBefore run old.told 0) none_made left) asks
+
     never_opened : (new : Site) (h : Halt) → Stops run 0 old new h → LoadStops run [] old new h
     never_opened new h stops = record {
       any_moment = leaves_weaker old new (IsLeft (first_lines run 0) old.told []) (IsLeftOf run [] [] old.told) opening_left stops.any_moment;
@@ -152,9 +158,9 @@ module _ (g : Geometry) (opening : State) (load : Load) where
       begun = 0;
       has_begun = record {
         few = omega arith;
-        opened = λ some. absurd (omega (arith, some));
-        stands = λ s left. let l = never.stops.any_moment.now s left in (0, omega arith, stands_none l.k s.image (left_none run old.told [] s l) l.stands);
+        by = λ s left. none_made s (opening_left s (never.stops.any_moment.now s left));
       };
+      written = none_written new (leaves_weaker old new (IsLeft (first_lines run 0) old.told []) (IsLeftOf run [] [] old.told) opening_left never.stops.any_moment) never.demands.reads;
       all = tt;
       demands = demands_as load.pool (first_lines run 0) old new h never.demands;
       earlier = λ lines less. absurd (omega (arith, less));
@@ -165,9 +171,10 @@ module _ (g : Geometry) (opening : State) (load : Load) where
     opens_only : (now : Site) → EachMoment old now (TellsDone load.pool run 0 [] old) → EachMoment old now (TellsOpening load.pool run old)
     opens_only now tells = each_weaker old now (TellsDone load.pool run 0 [] old) (TellsOpening load.pool run old)
         (λ (m : Moment) d. ⊎_elim (λ none. inl none) (λ some. ⊎_elim
-        (λ t. let none : t.0 ≡ 0 = (let few = t.2 in omega (arith, few)) in
-        inr (t.1, subst (λ (n : ℕ). TellsWhenDone load.pool (first_lines run n) (first_texts run n ++ concat (take t.1 (lines_at (first_lines run n) n))) old m) none t.3))
-        (λ f. inl (f.3 ∙ none_behind f.1)) some) d) tells
+        (λ t. let none : t.0 ≡ 0 = (let few = t.1 in omega (arith, few)) in
+        inr (subst (λ (l : List ℕ). TellsWhenDone load.pool (first_lines run 0) (opening_text run ∷ []) l old m) (append-nil old.told)
+        (subst (λ (n : ℕ). TellsWhenDone load.pool (first_lines run n) (lines_at (first_lines run n) n) (old.told ++ first_texts run n) old m) none t.2)))
+        (λ f. inl (f.1.telling ∙ none_behind f.1.part)) some) d) tells
 
     pub opens_never : (new : Site) (h : Halt) → NeverOpens load.pool run old new h → EachMoment old new (TellsOpening load.pool run old)
     opens_never new h never = opens_only new never.tells
@@ -177,17 +184,22 @@ module _ (g : Geometry) (opening : State) (load : Load) where
       served = going.served;
       told = going.told ∙ ap (λ (l : List ℕ). old.told ++ l) (append-nil (opening_text run));
       moments = leaves_weaker old new (IsLeft (first_lines run 0) old.told []) (IsLeftOf run [] [] old.told) opening_left going.moments;
+      written = none_written new (leaves_weaker old new (IsLeft (first_lines run 0) old.told []) (IsLeftOf run [] [] old.told) opening_left going.moments) going.reads;
       tells = opens_only new going.tells;
       left = left;
     }
 
     -- so many lines were begun where all but one of them, or all, count
-    has_begun : (n : ℕ) (now : Site) → n ≤ length (answered run) → now.told ≡ old.told ++ opening_text run → ((s : Snapshot) → MayLeave (now_of now) s → (k : ℕ) × (n ≤ k + 1) × StandsAfter run (commits_among k marks) s.image) → HasBegunLoad run n old now
-    has_begun n now few told stands = record {
-      few = let count = turns_count opening run.lines [] in omega (arith, count, few);
+    made_before : (n k : ℕ) (s : Snapshot) → s.told ≡ old.told ++ opening_text run → n ≤ k + 1 → StandsAfter run (commits_among k marks) s.image → HasMadeBefore run old.told n s
+    made_before n k s told most stands = record {
       opened = λ any. ([], told ∙ ap (λ (l : List ℕ). old.told ++ l) (sym (append-nil (opening_text run))));
-      stands = λ s left. let k = stands s left in let most = k.1 in (commits_among k.0 marks, more_among (n - 1) k.0 marks (omega (arith, most)), k.2);
+      k = commits_among k marks;
+      made = more_among (n - 1) k marks (omega (arith, most));
+      stands = stands;
     }
+
+    has_begun : (n : ℕ) (now : Site) → n ≤ length (answered run) → Leaves (HasMadeBefore run old.told n) (now_of now) → HasBegunLoad run n old now
+    has_begun n now few by = record { few = let count = turns_count opening run.lines [] in omega (arith, count, few); by = by }
 
     -- So many lines were carried out.
     module _ (mid : Site) (engine : Engine) (i : ℕ) (so_far : LoadInProgress load.pool run old mid engine i) where
@@ -207,7 +219,8 @@ module _ (g : Geometry) (opening : State) (load : Load) where
               quiet = so_far.quiet;
             };
             begun = i;
-            has_begun = has_begun i mid so_far.few so_far.told (λ s left. (i, omega arith, subst (StandsAfter run (commits_among i marks)) (sym (image_is (now_of mid) s so_far.quiet left)) stands));
+            has_begun = has_begun i mid so_far.few (λ s left. made_before i i s (told_is mid s left ∙ so_far.told) (omega arith) (subst (StandsAfter run (commits_among i marks)) (sym (image_is (now_of mid) s so_far.quiet left)) stands));
+            written = so_far.written;
             all = omega (arith, all);
             demands = served_all load.pool run old mid engine i so_far.served queue seen x;
             earlier = none_before load.pool run old mid engine i so_far.served i (omega arith);
@@ -231,6 +244,13 @@ module _ (g : Geometry) (opening : State) (load : Load) where
               stands_after run (suc i) s.image (subst (λ (x : Geometry). StandsFor x s.image (state_at run (suc i))) so_far.geometry
                   (subst (λ (b : State). StandsFor (sizes_of engine.store) s.image b) (after_same (state_at run i) line [] (listing_at run i) ∙ sym (state_next run i line rest is)) after)),
             )) e.stands
+
+        begun_here : LeavesOnly mid new (HasMadeBefore run old.told (suc i))
+        begun_here = leaves_weaker mid new Left (HasMadeBefore run old.told (suc i)) (λ s e. (let k = near s e in made_before (suc i) k.0 s (e.told ∙ so_far.told) k.1 k.2)) leaves
+
+        -- it writes no more than lines that were begun
+        written' : WritesAsBegun load.pool run (HasMadeBefore run old.told) (suc i) old new
+        written' = written_more load.pool run (HasMadeBefore run old.told) i old mid new begun_here (line_asks load.pool run old mid engine i so_far.served line rest is engine' new result c.course) so_far.written
 
         told' : new.told ≡ old.told ++ opening_text run
         told' = (holds_now mid new Left leaves).told ∙ so_far.told
@@ -256,6 +276,7 @@ module _ (g : Geometry) (opening : State) (load : Load) where
         served = served_next load.pool run old mid engine i so_far.served line rest is engine' new reply c.course;
         told = told' line rest is engine' new (Ok reply) c;
         moments = moments' line rest is engine' new (Ok reply) c;
+        written = written' line rest is engine' new (Ok reply) c;
         tells = opens_still line rest is engine' new (Ok reply) c;
         left = c.left so_far.fits.honest ∙ so_far.left;
       }
@@ -273,7 +294,8 @@ module _ (g : Geometry) (opening : State) (load : Load) where
         };
         done = tt;
         begun = suc i;
-        has_begun = has_begun (suc i) new less (told' line rest is engine' new (Err h) c) (λ s left. near line rest is engine' new (Err h) c s ((leaves line rest is engine' new (Err h) c).now s left));
+        has_begun = has_begun (suc i) new less (begun_here line rest is engine' new (Err h) c).now;
+        written = written' line rest is engine' new (Err h) c;
         all = tt;
         demands = line_fails load.pool run old mid engine i so_far.served line rest is engine' new (Err h) c.course h refl;
         earlier = none_before load.pool run old mid engine i so_far.served (suc i) (omega arith);

@@ -138,40 +138,40 @@ on_err P (Err e) p = p
 -- One life more.
 
 -- What stands behind a life that is over, where this is what it leaves.
-pub record Behind (g : Geometry) (number : ℕ) (octets : List ℕ) (stop : Option (ℕ × ℕ)) (before : Between) (site : Site) (status changes : ℕ) (image : Image) : Type 0 where
+pub record Behind (g : Geometry) (pool number : ℕ) (octets : List ℕ) (stop : Option (ℕ × ℕ)) (before : Between) (site : Site) (status changes : ℕ) (image : Image) : Type 0 where
   pub after : Between
-  pub life : IsLife g number octets stop before after
+  pub life : IsLife g pool number octets stop before after
   pub over : life.over ≡ site
   pub found : after.image ≡ image
   pub told : after.told ≡ before.told ++ (site.told ++ life_line number status)
   pub counted : after.changes ≡ before.changes ++ changes ∷ []
   pub finds : (site : Site) → IsTrue site.honest → site.loose ≡ no_loose → site.image ≡ image → Finds g after.table after.commits site
 
-pub behind : (g : Geometry) (number : ℕ) (octets : List ℕ) (stop : Option (ℕ × ℕ)) (before : Between) (status changes : ℕ) (site : Site) (image : Image) → HasLivedOne g before octets status site → IsLived octets stop before site →
-    IsStatus (is_within stop changes) status → MayLeave (now_of site) (record { told = site.told; image = image }) → Behind g number octets stop before site status changes image
-behind g number octets stop before status changes site image lived ran is_status may =
+pub behind : (g : Geometry) (pool number : ℕ) (octets : List ℕ) (stop : Option (ℕ × ℕ)) (before : Between) (status changes : ℕ) (site : Site) (image : Image) → HasLivedOne g before octets status site → IsLived pool octets stop before status site →
+    IsStatus (is_within stop changes) status → MayLeave (now_of site) (record { told = site.told; image = image }) → Behind g pool number octets stop before site status changes image
+behind g pool number octets stop before status changes site image lived ran is_status may =
     let found = lived.left image may in
     record {
       after = record { told = before.told ++ (site.told ++ life_line number status); changes = before.changes ++ changes ∷ []; image = image; table = found.table; commits = found.commits };
       over = refl;
       found = refl;
-      life = record { listings = lived.listings; over = site; lived = ran; text = site.told; text_is = refl; status = status; is_text = lived.is_text; told = refl; changes = changes; is_status = is_status; counted = refl; goes_on = found.goes_on };
+      life = record { listings = lived.listings; status = status; over = site; lived = ran; text = site.told; text_is = refl; is_text = lived.is_text; told = refl; changes = changes; is_status = is_status; counted = refl; goes_on = found.goes_on };
       told = refl;
       counted = refl;
       finds = found.finds;
     }
 
 -- So many lives were told, and the next one may begin on the site in memory.
-pub record Reached (g : Geometry) (script : List ℕ) (lives : ℕ) (old now : Site) (inner : MemSite) : Type 0 where
+pub record Reached (g : Geometry) (pool : ℕ) (script : List ℕ) (lives : ℕ) (old now : Site) (inner : MemSite) : Type 0 where
   pub before : Between
-  pub lived : HaveLived g script lives before
+  pub lived : HaveLived g pool script lives before
   pub ready : IsReady g before inner
   pub numbers : lives_of inner ≡ before.changes
   pub count : length before.changes ≡ lives
   pub told : now.told ≡ old.told ++ before.told
 
-pub none_yet : BlankLaw → (g : Geometry) (script : List ℕ) (old : Site) (inner : MemSite) → IsNewSite g inner → Reached g script 0 old old inner
-none_yet blank g script old inner new =
+pub none_yet : BlankLaw → (g : Geometry) (pool : ℕ) (script : List ℕ) (old : Site) (inner : MemSite) → IsNewSite g inner → Reached g pool script 0 old old inner
+none_yet blank g pool script old inner new =
     let state = new.state in
     record {
       before = at_first g;
@@ -187,18 +187,18 @@ none_yet blank g script old inner new =
     }
 
 -- the site of the life that is over, and how it ended
-module _ (g : Geometry) (script : List ℕ) (place : ℕ) (old mid : Site) (inner lived : MemSite) (r : Reached g script place old mid inner) (numbers : lives_of lived ≡ lives_of inner) where
-  module _ (life : Life) (is_life : slice_get (lives_in script) place ≡ Some life) (status : ℕ) (one : HasLivedOne g r.before (slice_range script life.start life.end) status (state_of lived)) (ran : IsLived (slice_range script life.start life.end) life.stop r.before (state_of lived)) (is_status : IsStatus (is_within life.stop (limits_of lived).changes) status) where
+module _ (g : Geometry) (pool : ℕ) (script : List ℕ) (place : ℕ) (old mid : Site) (inner lived : MemSite) (r : Reached g pool script place old mid inner) (numbers : lives_of lived ≡ lives_of inner) where
+  module _ (life : Life) (is_life : slice_get (lives_in script) place ≡ Some life) (status : ℕ) (one : HasLivedOne g r.before (slice_range script life.start life.end) status (state_of lived)) (ran : IsLived pool (slice_range script life.start life.end) life.stop r.before status (state_of lived)) (is_status : IsStatus (is_within life.stop (limits_of lived).changes) status) where
     abbrev text : List ℕ
     text = (state_of lived).told
 
     abbrev changes : ℕ
     changes = (limits_of lived).changes
 
-    here : Behind g (place + 1) (slice_range script life.start life.end) life.stop r.before (state_of lived) status changes (state_of lived).image
-    here = behind g (place + 1) (slice_range script life.start life.end) life.stop r.before status changes (state_of lived) (state_of lived).image one ran is_status (now_leaves (state_of lived))
+    here : Behind g pool (place + 1) (slice_range script life.start life.end) life.stop r.before (state_of lived) status changes (state_of lived).image
+    here = behind g pool (place + 1) (slice_range script life.start life.end) life.stop r.before status changes (state_of lived) (state_of lived).image one ran is_status (now_leaves (state_of lived))
 
-    pub told_in_part : (new : Site) (rest : List ℕ) → new.told ≡ mid.told ++ rest → IsFront rest (text ++ life_line (place + 1) status) → TellsSome g script old new (numbers_of lived)
+    pub told_in_part : (new : Site) (rest : List ℕ) → new.told ≡ mid.told ++ rest → IsFront rest (text ++ life_line (place + 1) status) → TellsSome g pool script old new (numbers_of lived)
     told_in_part new rest told front = record {
       lives = place;
       before = r.before;
@@ -211,10 +211,10 @@ module _ (g : Geometry) (script : List ℕ) (place : ℕ) (old mid : Site) (inne
       numbers_are = ap (λ (l : List ℕ). l ++ changes ∷ []) (numbers ∙ r.numbers) ∙ sym here.counted;
     }
 
-    pub told_last : (new : Site) → new.told ≡ mid.told ++ (text ++ life_line (place + 1) status) → life.stop ≡ None → TellsAll g script old new (numbers_of lived)
+    pub told_last : (new : Site) → new.told ≡ mid.told ++ (text ++ life_line (place + 1) status) → life.stop ≡ None → TellsAll g pool script old new (numbers_of lived)
     told_last new told none = record {
       last = here.after;
-      lived = subst (λ (n : ℕ). HaveLived g script n here.after) (last_life script place life is_life none) (r.before, r.lived, (life, is_life, here.life), subst (λ (o : Option (ℕ × ℕ)). IsCut o here.life.over here.after.image) (sym none) tt);
+      lived = subst (λ (n : ℕ). HaveLived g pool script n here.after) (last_life script place life is_life none) (r.before, r.lived, (life, is_life, here.life), subst (λ (o : Option (ℕ × ℕ)). IsCut o here.life.over here.after.image) (sym none) tt);
       told = told ∙ ap (λ (l : List ℕ). l ++ (text ++ life_line (place + 1) status)) r.told ∙ append_assoc old.told r.before.told _ ∙ ap (λ (l : List ℕ). old.told ++ l) (sym here.told);
       numbers_are = ap (λ (l : List ℕ). l ++ changes ∷ []) (numbers ∙ r.numbers) ∙ sym here.counted;
     }
@@ -224,8 +224,8 @@ module _ (g : Geometry) (script : List ℕ) (place : ℕ) (old mid : Site) (inne
         (fresh : IsFresh cut)
         (left : MayLeave (now_of (state_of lived)) (record { told = (state_of lived).told; image = (state_of cut).image }))
         (all : lives_of cut ≡ drop (length (lives_of lived ++ changes ∷ []) - 31) (lives_of lived ++ changes ∷ [])) where
-      next : Behind g (place + 1) (slice_range script life.start life.end) life.stop r.before (state_of lived) status changes (state_of cut).image
-      next = behind g (place + 1) (slice_range script life.start life.end) life.stop r.before status changes (state_of lived) (state_of cut).image one ran is_status left
+      next : Behind g pool (place + 1) (slice_range script life.start life.end) life.stop r.before (state_of lived) status changes (state_of cut).image
+      next = behind g pool (place + 1) (slice_range script life.start life.end) life.stop r.before status changes (state_of lived) (state_of cut).image one ran is_status left
 
       more : suc place < length (lives_in script)
       more = more_lives script place life stop is_life some
@@ -238,8 +238,8 @@ module _ (g : Geometry) (script : List ℕ) (place : ℕ) (old mid : Site) (inne
           let none : length (lives_of lived ++ changes ∷ []) - 31 ≡ 0 = let less = more in omega (arith, count, few, less) in
           all ∙ ap (λ (n : ℕ). drop n (lives_of lived ++ changes ∷ [])) none ∙ ap (λ (l : List ℕ). l ++ changes ∷ []) same
 
-      pub goes_on : (new : Site) → new.told ≡ mid.told ++ (text ++ life_line (place + 1) status) → Reached g script (place + 1) old new cut
-      goes_on new told = subst (λ (n : ℕ). Reached g script n old new cut) (sym (add-one place)) (record {
+      pub goes_on : (new : Site) → new.told ≡ mid.told ++ (text ++ life_line (place + 1) status) → Reached g pool script (place + 1) old new cut
+      goes_on new told = subst (λ (n : ℕ). Reached g pool script n old new cut) (sym (add-one place)) (record {
         before = next.after;
         lived = (
           r.before,
@@ -260,12 +260,12 @@ module _ (g : Geometry) (script : List ℕ) (place : ℕ) (old mid : Site) (inne
 
 -- The script is read, and nothing is told meanwhile.
 
-given_up_since : (g : Geometry) (script : List ℕ) (old mid new : Site) (numbers : List ℕ) → mid.told ≡ old.told → IsGivenUp g script mid new numbers → IsGivenUp g script old new numbers
-given_up_since g script old mid new numbers same e = record { lives = e.lives; before = e.before; lived = e.lived; told = e.told ∙ ap (λ (l : List ℕ). l ++ e.before.told) same; changes = e.changes; numbers_are = e.numbers_are }
+given_up_since : (g : Geometry) (pool : ℕ) (script : List ℕ) (old mid new : Site) (numbers : List ℕ) → mid.told ≡ old.told → IsGivenUp g pool script mid new numbers → IsGivenUp g pool script old new numbers
+given_up_since g pool script old mid new numbers same e = record { lives = e.lives; before = e.before; lived = e.lived; told = e.told ∙ ap (λ (l : List ℕ). l ++ e.before.told) same; changes = e.changes; numbers_are = e.numbers_are }
 
-pub ends_since : {T : Type 0} (g : Geometry) (script : List ℕ) (r : Result T Halt) (old mid new : Site) (numbers : List ℕ) → mid.told ≡ old.told → Ends g script r mid new numbers → Ends g script r old new numbers
-ends_since g script (Ok x) old mid new numbers same e = record { last = e.last; lived = e.lived; told = e.told ∙ ap (λ (l : List ℕ). l ++ e.last.told) same; numbers_are = e.numbers_are }
-ends_since g script (Err halt.Output) old mid new numbers same e = record {
+pub ends_since : {T : Type 0} (g : Geometry) (pool : ℕ) (script : List ℕ) (r : Result T Halt) (old mid new : Site) (numbers : List ℕ) → mid.told ≡ old.told → Ends g pool script r mid new numbers → Ends g pool script r old new numbers
+ends_since g pool script (Ok x) old mid new numbers same e = record { last = e.last; lived = e.lived; told = e.told ∙ ap (λ (l : List ℕ). l ++ e.last.told) same; numbers_are = e.numbers_are }
+ends_since g pool script (Err halt.Output) old mid new numbers same e = record {
   lives = e.lives;
   before = e.before;
   lived = e.lived;
@@ -276,9 +276,9 @@ ends_since g script (Err halt.Output) old mid new numbers same e = record {
   front = e.front;
   numbers_are = e.numbers_are;
 }
-ends_since g script (Err (halt.Stop stop)) old mid new numbers same e = given_up_since g script old mid new numbers same e
-ends_since g script (Err halt.Input) old mid new numbers same e = given_up_since g script old mid new numbers same e
-ends_since g script (Err halt.Limit) old mid new numbers same e = given_up_since g script old mid new numbers same e
+ends_since g pool script (Err (halt.Stop stop)) old mid new numbers same e = given_up_since g pool script old mid new numbers same e
+ends_since g pool script (Err halt.Input) old mid new numbers same e = given_up_since g pool script old mid new numbers same e
+ends_since g pool script (Err halt.Limit) old mid new numbers same e = given_up_since g pool script old mid new numbers same e
 
 -- Before the first life.
 
@@ -287,8 +287,8 @@ numbers_unbegun g inner is = ap (λ (l : List ℕ). l ++ (limits_of inner).chang
 
 -- A trial as a whole.
 
-module _ {T : Type 0} (g : Geometry) (script : List ℕ) (old mid new : Site) (numbers : List ℕ) (status : ℕ) (result : Result T Failed) (goes : Preserves old mid) (honest : IsTrue mid.honest) where
-  told_first : (h : Halt) → status ≡ status_of h → (status_of h ≢ 0) → (status_of h ≢ 6) → ((status_of h ≡ 5) ⊎ (status_of h ≡ 7) → numbers ≡ 0 ∷ []) → IsGivenUp g script old mid numbers → Tells (fault_line h) mid new result → Lives g script old new status numbers
+module _ {T : Type 0} (g : Geometry) (pool : ℕ) (script : List ℕ) (old mid new : Site) (numbers : List ℕ) (status : ℕ) (result : Result T Failed) (goes : Preserves old mid) (honest : IsTrue mid.honest) where
+  told_first : (h : Halt) → status ≡ status_of h → (status_of h ≢ 0) → (status_of h ≢ 6) → ((status_of h ≡ 5) ⊎ (status_of h ≡ 7) → numbers ≡ 0 ∷ []) → IsGivenUp g pool script old mid numbers → Tells (fault_line h) mid new result → Lives g pool script old new status numbers
   told_first h is nonzero nonsix none u tells = record {
     all = λ e. absurd (nonzero (sym is ∙ e));
     some = λ e. absurd (nonsix (sym is ∙ e));
@@ -307,7 +307,7 @@ module _ {T : Type 0} (g : Geometry) (script : List ℕ) (old mid new : Site) (n
     none = λ which. none (⊎_elim (λ e. inl (sym is ∙ e)) (λ e. inr (sym is ∙ e)) which);
   }
 
-  told_some : status ≡ 6 → TellsSome g script old mid numbers → Tells (fault_line halt.Output) mid new result → Lives g script old new status numbers
+  told_some : status ≡ 6 → TellsSome g pool script old mid numbers → Tells (fault_line halt.Output) mid new result → Lives g pool script old new status numbers
   told_some is some tells = record {
     all = λ e. let other = sym is ∙ e in absurd (omega (arith, other));
     some = λ e. record {
@@ -328,7 +328,7 @@ module _ {T : Type 0} (g : Geometry) (script : List ℕ) (old mid new : Site) (n
       nothing : new.told ≡ mid.told
       nothing = let part = (tells.any_moment honest).now.told 0 in sym (append-nil new.told) ∙ part.1 ∙ ap (λ (l : List ℕ). mid.told ++ l) (take_all part.0 [] (omega arith)) ∙ append-nil mid.told
 
-  pub told_and_fault : (h : Halt) → status ≡ status_of h → Ends {T = T} g script (Err h) old mid numbers → ((h ≡ halt.Input) ⊎ (h ≡ halt.Limit) → numbers ≡ 0 ∷ []) → Tells (fault_line h) mid new result → Lives g script old new status numbers
+  pub told_and_fault : (h : Halt) → status ≡ status_of h → Ends {T = T} g pool script (Err h) old mid numbers → ((h ≡ halt.Input) ⊎ (h ≡ halt.Limit) → numbers ≡ 0 ∷ []) → Tells (fault_line h) mid new result → Lives g pool script old new status numbers
   told_and_fault (halt.Stop (Device dev)) is u none tells = told_first (halt.Stop (Device dev)) is (λ e. omega (arith, e)) (λ e. omega (arith, e)) (λ which. ⊎_elim (λ e. absurd (omega (arith, e))) (λ e. absurd (omega (arith, e))) which) u tells
   told_and_fault (halt.Stop Memory) is u none tells = told_first (halt.Stop Memory) is (λ e. omega (arith, e)) (λ e. omega (arith, e)) (λ which. ⊎_elim (λ e. absurd (omega (arith, e))) (λ e. absurd (omega (arith, e))) which) u tells
   told_and_fault (halt.Stop (Worn dev)) is u none tells = told_first (halt.Stop (Worn dev)) is (λ e. omega (arith, e)) (λ e. omega (arith, e)) (λ which. ⊎_elim (λ e. absurd (omega (arith, e))) (λ e. absurd (omega (arith, e))) which) u tells
@@ -401,9 +401,9 @@ caused_by h status old mid new is t goes left = ⊎_elim memory (⊎_elim input 
         }
 
 -- where memory was wanted before the script was read
-pub lacked_trial : {T : Type 0} (g : Geometry) (old new : Site) (result : Result T Failed) → Tells (fault_line (halt.Stop Memory)) old new result → TrialContract g old new 4 (0 ∷ [])
-lacked_trial {T} g old new result tells = record {
-  lives = λ honest. told_and_fault {T = T} g old.input.left old old new (0 ∷ []) 4 result (goes_nowhere old) honest (halt.Stop Memory) refl
+pub lacked_trial : {T : Type 0} (g : Geometry) (pool : ℕ) (old new : Site) (result : Result T Failed) → Tells (fault_line (halt.Stop Memory)) old new result → TrialContract g pool old new 4 (0 ∷ [])
+lacked_trial {T} g pool old new result tells = record {
+  lives = λ honest. told_and_fault {T = T} g pool old.input.left old old new (0 ∷ []) 4 result (goes_nowhere old) honest (halt.Stop Memory) refl
       (record { lives = 0; before = at_first g; lived = refl; told = sym (append-nil old.told); changes = 0; numbers_are = refl }) (λ which. refl) tells;
   causes = caused_by (halt.Stop Memory) 4 old old new refl (record {
     is = inl refl;

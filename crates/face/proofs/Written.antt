@@ -1,4 +1,4 @@
--- What each snapshot has on the disk, by the lines that were begun by what it has told.
+-- What each snapshot has on flash and disk, by the lines that were begun by what it has.
 use Rattle.std.proofs.Common.{◌≡◌, ℕ, suc, ◌+◌, List, [], ◌∷◌, ◌++◌, length, take, drop, Option, refl, sym, ◌∙◌, ap, subst, arith, append_assoc, add-one}
 use Rattle.std.specs.List.{AllByRecursion}
 use Rattle.std.proofs.lemmas.List.{drop_at, take-take}
@@ -14,7 +14,9 @@ use Rattle.page_store.specs.Staging.{WritesOnly}
 use Rattle.record_model.specs.Run.{Line}
 use Rattle.record_model.specs.State.{State}
 use Rattle.front_end.specs.Lines.{HearsOnly}
-use Rattle.face.specs.RunMeaning.{AsksNoMore, IsLeft, WritesAsTold, WritesSoFar, cache_by, first_texts, staged_by_run}
+use Rattle.face.specs.Loads.{HasMadeBefore}
+use Rattle.face.specs.RunMeaning.{AsksNoMore, HasToldBefore, IsLeft, WritesAsBegun, WritesAsTold, WritesSoFar, cache_by, first_texts, staged_by_run}
+use Rattle.face.specs.Workload.{opening_text}
 use Rattle.face.specs.Run.{LeavesAnswer, Run, first_lines, turns_of}
 use Rattle.face.proofs.Fronts.{first_same, other, told_same}
 
@@ -29,76 +31,101 @@ later_moments a b c Q R S first second all =
     let is : since a c ≡ since a b ++ since b c = ap (λ (l : List Moment). drop (length a.past) l) joined ∙ drop_at a.past (since a b ++ since b c) (length a.past) refl in
     record { grown = second.grown; each = all_later Q (since a b) (since b c) (subst (AllByRecursion Q) is all.each); now = all.now }
 
+-- what holds of each snapshot, whatever is told behind what it has told, holds still where something is told
+pub leaves_told : (P : Snapshot → Type 0) → ((told more : List ℕ) (image : Image) → P (record { told = told; image = image }) → P (record { told = told ++ more; image = image })) → (piece : List ℕ) (old mid new : Site) → LeavesOnly old mid P → EachMoment mid new (TellsPart piece mid) → LeavesOnly old new P
+leaves_told P more piece old mid new first tells =
+    let Q = λ (image : Image). P (record { told = mid.told; image = image }) in
+    in_sequence old mid new (Leaves P) first
+    (leaves_weaker mid new (λ s. ((k : ℕ) × (s.told ≡ mid.told ++ take k piece)) × Q s.image) P
+    (λ s p. subst (λ (t : List ℕ). P (record { told = t; image = s.image })) (sym p.0.1) (more mid.told (take p.0.0 piece) s.image p.1))
+    (tell_leaves Q piece mid new (λ s left. subst (λ (t : List ℕ). P (record { told = t; image = s.image })) (told_is mid s left) (first.now s left)) tells))
+
+-- of octets that were told, with more behind them
+more_behind : (so_far text told more : List ℕ) → (rest : List ℕ) × (told ≡ so_far ++ (text ++ rest)) → (rest : List ℕ) × (told ++ more ≡ so_far ++ (text ++ rest))
+more_behind so_far text told more is =
+    (is.0 ++ more, ap (λ (l : List ℕ). l ++ more) is.1 ∙ append_assoc so_far (text ++ is.0) more ∙ ap (λ (l : List ℕ). so_far ++ l) (append_assoc text is.0 more))
+
+-- more is told behind what was told of a load
+pub made_behind : (run : Run) (so_far : List ℕ) (begun : ℕ) (told more : List ℕ) (image : Image) → HasMadeBefore run so_far begun (record { told = told; image = image }) → HasMadeBefore run so_far begun (record { told = told ++ more; image = image })
+made_behind run so_far begun told more image m = record { opened = λ any. more_behind so_far (opening_text run) told more (m.opened any); k = m.k; made = m.made; stands = m.stands }
+
 -- the pages of a snapshot by the first lines of a run
 abbrev OnlyBy : ℕ → Run → ℕ → Option Master → List (List LogRecord) → Site → Snapshot → Type 0
 OnlyBy pool run n newest blocks old s = WritesOnly run.geometry (staged_by_run pool run (turns_of (first_lines run n)) newest old.image blocks) (next_group (cache_by pool run (turns_of (first_lines run n)) newest old.image blocks)) old.image s.image
 
+-- by whatever it is told how many lines were begun
+module _ (pool : ℕ) (run : Run) (HasBegunBy : ℕ → Snapshot → Type 0) where
+  -- none
+  pub written_none : (old new : Site) → LeavesOnly old new (HasBegunBy 0) → AsksNoMore pool (first_lines run 0) old new → WritesAsBegun pool run HasBegunBy 0 old new
+  written_none old new begun asks newest blocks sound =
+      let Q = OnlyBy pool run 0 newest blocks old in
+      each_weaker old new (λ m. Leaves (HasBegunBy 0) m × Leaves Q m) (Leaves (WritesSoFar pool run HasBegunBy 0 newest blocks old.image)) (λ m both s may. record {
+        begun = 0;
+        few = omega arith;
+        by = both.0 s may;
+        only = both.1 s may;
+      }) (each_both old new (Leaves (HasBegunBy 0)) (Leaves Q) begun (asks newest blocks sound).writes)
+
+  -- one more, however it ends
+  pub written_more : (i : ℕ) (old mid new : Site) → LeavesOnly mid new (HasBegunBy (suc i)) → AsksNoMore pool (first_lines run (suc i)) old new → WritesAsBegun pool run HasBegunBy i old mid → WritesAsBegun pool run HasBegunBy (suc i) old new
+  written_more i old mid new begun asks so_far newest blocks sound =
+      let O = WritesSoFar pool run HasBegunBy i newest blocks old.image in
+      let P = WritesSoFar pool run HasBegunBy (suc i) newest blocks old.image in
+      let B = HasBegunBy (suc i) in
+      let Q = OnlyBy pool run (suc i) newest blocks old in
+      let first = so_far newest blocks sound in
+      let all : LeavesOnly old new Q = (asks newest blocks sound).writes in
+      in_sequence old mid new (Leaves P)
+      (leaves_weaker old mid O P (λ s w. (let few = w.few in record { begun = w.begun; few = omega (arith, few); by = w.by; only = w.only })) first)
+      (each_weaker mid new (λ m. Leaves B m × Leaves Q m) (Leaves P) (λ m both s may. record {
+        begun = suc i;
+        few = omega arith;
+        by = both.0 s may;
+        only = both.1 s may;
+      }) (each_both mid new (Leaves B) (Leaves Q) begun (later_moments old mid new (Leaves Q) (Leaves O) (Leaves B) first begun all)))
+
+  -- something is told, while nothing is written
+  pub written_behind : ((begun : ℕ) (told more : List ℕ) (image : Image) → HasBegunBy begun (record { told = told; image = image }) → HasBegunBy begun (record { told = told ++ more; image = image })) → (n : ℕ) (piece : List ℕ) (old mid new : Site) → EachMoment mid new (TellsPart piece mid)
+      → WritesAsBegun pool run HasBegunBy n old mid → WritesAsBegun pool run HasBegunBy n old new
+  written_behind behind n piece old mid new tells so_far newest blocks sound =
+      leaves_told (WritesSoFar pool run HasBegunBy n newest blocks old.image) (λ told more image w. record { begun = w.begun; few = w.few; by = behind w.begun told more image w.by; only = w.only }) piece old mid new (so_far newest blocks sound) tells
+
 module _ (pool : ℕ) (run : Run) where
   -- restart, and the opening
   pub written_opened : (old new : Site) → LeavesOnly old new (IsLeft (first_lines run 0) old.told []) → AsksNoMore pool (first_lines run 0) old new → WritesAsTold pool run 0 old new
-  written_opened old new left asks newest blocks sound =
+  written_opened old new left asks =
       let P = IsLeft (first_lines run 0) old.told [] in
-      let Q = OnlyBy pool run 0 newest blocks old in
-      each_weaker old new (λ m. Leaves P m × Leaves Q m) (Leaves (WritesSoFar pool run 0 newest blocks old)) (λ m both s may. (let l = both.0 s may in record {
-        begun = 0;
-        few = omega arith;
-        rest = l.told;
-        told = l.told_is;
-        only = both.1 s may;
-      })) (each_both old new (Leaves P) (Leaves Q) left (asks newest blocks sound).writes)
+      written_none pool run (HasToldBefore run old.told) old new (leaves_weaker old new P (HasToldBefore run old.told 0) (λ s l. (l.told, l.told_is)) left) asks
 
   -- something is heard
   pub written_heard : (n : ℕ) (old mid new : Site) → HearsOnly mid new → WritesAsTold pool run n old mid → WritesAsTold pool run n old new
   written_heard n old mid new same so_far newest blocks sound =
-      calm old mid new (Leaves (WritesSoFar pool run n newest blocks old)) (so_far newest blocks sound) same.past (now_same mid new same.told same.image same.loose)
+      calm old mid new (Leaves (WritesSoFar pool run (HasToldBefore run old.told) n newest blocks old.image)) (so_far newest blocks sound) same.past (now_same mid new same.told same.image same.loose)
 
   -- or told, while nothing is written
   pub written_told : (n : ℕ) (piece : List ℕ) (old mid new : Site) → EachMoment mid new (TellsPart piece mid) → WritesAsTold pool run n old mid → WritesAsTold pool run n old new
-  written_told n piece old mid new tells so_far newest blocks sound =
-      let P = WritesSoFar pool run n newest blocks old in
-      let first = so_far newest blocks sound in
-      let Q = λ (image : Image). P (record { told = mid.told; image = image }) in
-      in_sequence old mid new (Leaves P) first
-      (leaves_weaker mid new (λ s. ((k : ℕ) × (s.told ≡ mid.told ++ take k piece)) × Q s.image) P (λ s p. (let w = p.1 in let more = take p.0.0 piece in record {
-        begun = w.begun;
-        few = w.few;
-        rest = w.rest ++ more;
-        told = p.0.1 ∙ ap (λ (l : List ℕ). l ++ more) w.told ∙ append_assoc old.told (first_texts run w.begun ++ w.rest) more ∙ ap (λ (l : List ℕ). old.told ++ l) (append_assoc (first_texts run w.begun) w.rest more);
-        only = w.only;
-      })) (tell_leaves Q piece mid new (λ s left. subst (λ (t : List ℕ). P (record { told = t; image = s.image })) (told_is mid s left) (first.now s left)) tells))
+  written_told n piece old mid new = written_behind pool run (HasToldBefore run old.told) (λ begun told more image is. more_behind old.told (first_texts run begun) told more is) n piece old mid new
 
   -- a line more, however its answer ends
   pub written_answered : {g : Geometry} {before after : State} {text : List ℕ} (i : ℕ) (old mid new : Site) → mid.told ≡ old.told ++ first_texts run (i + 1) → LeavesOnly mid new (LeavesAnswer g before after text mid.told) → AsksNoMore pool (first_lines run (suc i)) old new → WritesAsTold pool run i old mid →
       WritesAsTold pool run (suc i) old new
-  written_answered {g} {before} {after} {text} i old mid new told leaves asks so_far newest blocks sound =
-      let O = WritesSoFar pool run i newest blocks old in
-      let P = WritesSoFar pool run (suc i) newest blocks old in
-      let A = LeavesAnswer g before after text mid.told in
-      let Q = OnlyBy pool run (suc i) newest blocks old in
-      let first = so_far newest blocks sound in
-      let all : LeavesOnly old new Q = (asks newest blocks sound).writes in
+  written_answered {g} {before} {after} {text} i old mid new told leaves asks so_far =
       let told_suc : mid.told ≡ old.told ++ first_texts run (suc i) = told ∙ ap (λ (n : ℕ). old.told ++ first_texts run n) (add-one i) in
-      in_sequence old mid new (Leaves P)
-      (leaves_weaker old mid O P (λ s w. (let few = w.few in record { begun = w.begun; few = omega (arith, few); rest = w.rest; told = w.told; only = w.only })) first)
-      (each_weaker mid new (λ m. Leaves A m × Leaves Q m) (Leaves P) (λ m both s may. (let front = (both.0 s may).front in record {
-        begun = suc i;
-        few = omega arith;
-        rest = take front.0 text;
-        told = front.1 ∙ ap (λ (l : List ℕ). l ++ take front.0 text) told_suc ∙ append_assoc old.told (first_texts run (suc i)) (take front.0 text);
-        only = both.1 s may;
-      })) (each_both mid new (Leaves A) (Leaves Q) leaves (later_moments old mid new (Leaves Q) (Leaves O) (Leaves A) first leaves all)))
+      written_more pool run (HasToldBefore run old.told) i old mid new (leaves_weaker mid new (LeavesAnswer g before after text mid.told) (HasToldBefore run old.told (suc i)) (λ s a. (
+        take a.front.0 text,
+        a.front.1 ∙ ap (λ (l : List ℕ). l ++ take a.front.0 text) told_suc ∙ append_assoc old.told (first_texts run (suc i)) (take a.front.0 text),
+      )) leaves) asks so_far
 
   -- of another run with the same first lines
   pub written_same : (lines : List Line) (n : ℕ) (same : take n lines ≡ take n run.lines) (old new : Site) → WritesAsTold pool run n old new → WritesAsTold pool (other run lines n same) n old new
   written_same lines n same old new w newest blocks sound =
-      leaves_weaker old new (WritesSoFar pool run n newest blocks old) (WritesSoFar pool (other run lines n same) n newest blocks old) (λ s w.
+      leaves_weaker old new (WritesSoFar pool run (HasToldBefore run old.told) n newest blocks old.image) (WritesSoFar pool (other run lines n same) (HasToldBefore (other run lines n same) old.told) n newest blocks old.image) (λ s w.
       (let few = w.few in
       let b = w.begun in
       let front : take b lines ≡ take b run.lines = sym (take-take b n lines few) ∙ ap (take b) same ∙ take-take b n run.lines few in
       record {
         begun = b;
         few = few;
-        rest = w.rest;
-        told = w.told ∙ ap (λ (l : List ℕ). old.told ++ (l ++ w.rest)) (sym (told_same run lines n same b (omega (arith, few))));
+        by = (w.by.0, w.by.1 ∙ ap (λ (l : List ℕ). old.told ++ (l ++ w.by.0)) (sym (told_same run lines n same b (omega (arith, few)))));
         only = subst (λ (r : Run). WritesOnly run.geometry (staged_by_run pool run (turns_of r) newest old.image blocks) (next_group (cache_by pool run (turns_of r) newest old.image blocks)) old.image s.image) (sym (first_same run lines b front)) w.only;
       })) (w newest blocks sound)

@@ -1,7 +1,6 @@
 -- What carrying out a line says.
 use Rattle.std.specs.Prelude.{◌≡◌, ◌≢◌, ◌⊎◌, ℕ, ◌+◌, ◌++◌, ◌≤◌, List, [], IsTrue, Result, Ok, Err, IfOk, IfErr, OnOk}
-use Rattle.std.specs.Prelude.{IsErrOf, Some, ⊤, take}
-use Rattle.std.specs.List.{concat}
+use Rattle.std.specs.Prelude.{IsErrOf, Some, ⊤}
 use Rattle.site.specs.declared.outside.Dev.{Dev}
 use Rattle.site.specs.declared.outside.Stop.{Stop}
 use Rattle.site.specs.declared.outside.Stop.TheVariants.{Device, Worn}
@@ -36,6 +35,7 @@ use Rattle.shell_text.specs.Texts.{reply_text}
 use Rattle.front_end.specs.declared.halt.Halt.{Halt}
 use Rattle.front_end.specs.declared.halt.Halt.TheVariants as halt
 use Rattle.front_end.specs.Faults.{RunFaults}
+use Rattle.front_end.specs.Tells.{HandsOneOf}
 use Rattle.face.specs.Causes.{AnswerFailsBy}
 use Rattle.face.specs.Run.{IsAsked, LeavesAnswer, line_checkpoints, line_log_reads, step}
 
@@ -107,12 +107,11 @@ pub record TellsAnswer {T : Type 0} (result : Result T Halt) (g : Geometry) (s :
   pub told : OnOk result (new.told ≡ old.told ++ reply_text o.reply)
   pub untold : IfErr result (λ h. h ≢ halt.Output → new.told ≡ old.told)
 
--- Within a tell the line is carried out, and the devices are as it has left them. Of its reply, which has these lines,
--- some are told whole, with what is being told.
+-- Within a tell the line is carried out, and the devices are as it has left them. One line of its reply, which has
+-- these, is being told.
 pub record TellsCarried (line : Line) (before after : Engine) (lines : List (List ℕ)) (old : Site) (moment : Moment)
     : Type 0 where
-  pub whole : ℕ
-  pub told : moment.told ++ moment.telling ≡ old.told ++ concat (take whole lines)
+  pub told : HandsOneOf lines old.told moment
   pub reply : Reply
   pub mid : Site
   pub course : CarriesOut (Ok reply) line before after old mid

@@ -1,9 +1,10 @@
 -- What is done when something is told.
-use Rattle.std.specs.Prelude.{◌≡◌, ◌⊎◌, ℕ, ◌≤◌, List, [], ◌∷◌, ◌++◌, take, drop, map, flat_map, slice_index_or}
-use Rattle.std.specs.List.{concat}
+use Rattle.std.specs.Prelude.{◌≡◌, ◌⊎◌, ℕ, ◌≤◌, List, [], ◌∷◌, ◌++◌, take, map, flat_map, slice_index_or}
 use Rattle.site.specs.State.{State as Site, Image, Moment}
+use Rattle.site.specs.Telling.{HandsLine}
 use Rattle.record_model.specs.Run.{replies}
 use Rattle.shell_text.specs.Texts.{open_text, reply_lines}
+use Rattle.front_end.specs.Tells.{HandsOneOf}
 use Rattle.face.specs.Run.{Run, first_lines, turns_of}
 use Rattle.face.specs.RunMeaning.{LeavesItsQueue, LeavesVersions, first_texts, texts}
 use Rattle.face.specs.Worn.{LeavesItsRings}
@@ -21,21 +22,21 @@ abbrev pub lines_at : Run → ℕ → List (List ℕ)
 lines_at run text =
     slice_index_or ((open_text run.opening.commits ∷ []) ∷ map reply_lines (replies (turns_of run))) text []
 
--- within a tell this text is told, with what is being told, and what the run asks is done
-pub record TellsWhenDone (pool : ℕ) (run : Run) (text : List ℕ) (old : Site) (moment : Moment) : Type 0 where
-  pub told : moment.told ++ moment.telling ≡ old.told ++ text
+-- within a tell one of these lines is being told behind these octets, and what the run asks is done
+pub record TellsWhenDone (pool : ℕ) (run : Run) (lines : List (List ℕ)) (so_far : List ℕ) (old : Site) (moment : Moment)
+    : Type 0 where
+  pub line : HandsOneOf lines so_far moment
   pub done : HasDone pool run old.image moment.image
 
--- behind some of these texts the fault line is told: all that is left of it
+-- the fault line is being told behind some of these texts
 abbrev pub TellsFaultLine : List (List ℕ) → List ℕ → Site → Moment → Type 0
-TellsFaultLine texts fault old moment = (whole : ℕ) × (k : ℕ)
-    × (moment.told ≡ (old.told ++ flat_map (λ text. text) (take whole texts)) ++ take k fault)
-    × (moment.telling ≡ drop k fault)
+TellsFaultLine texts fault old moment =
+    (whole : ℕ) × HandsLine fault (old.told ++ flat_map (λ text. text) (take whole texts)) moment
 
--- Within a tell so many lines are done, of those that were begun, and their texts are told, the last one's with what is
--- being told to the end of a line; or it is the fault line.
+-- Within a tell so many lines are done, of those that were begun, and one line of the last one's text is being told
+-- behind the texts of those before it; or it is the fault line.
 abbrev pub TellsDone : ℕ → Run → ℕ → List ℕ → Site → Moment → Type 0
 TellsDone pool run begun fault old moment = (moment.telling ≡ [])
-    ⊎ (((lines : ℕ) × (whole : ℕ) × (lines ≤ begun) × TellsWhenDone pool (first_lines run lines)
-    (first_texts run lines ++ concat (take whole (lines_at (first_lines run lines) lines))) old moment)
+    ⊎ (((lines : ℕ) × (lines ≤ begun) × TellsWhenDone pool (first_lines run lines)
+    (lines_at (first_lines run lines) lines) (old.told ++ first_texts run lines) old moment)
     ⊎ TellsFaultLine (texts run) fault old moment)

@@ -48,19 +48,19 @@ pub record HasLivedOne (g : Geometry) (before : Between) (octets : List ℕ) (st
       IsFoundAfter g (life_run g before octets listings) site.told image
 
 -- Some lives are told whole; of the next one, if it was begun, only its number is known.
-pub record IsGivenUp (g : Geometry) (script : List ℕ) (old new : Site) (numbers : List ℕ) : Type 0 where
+pub record IsGivenUp (g : Geometry) (pool : ℕ) (script : List ℕ) (old new : Site) (numbers : List ℕ) : Type 0 where
   pub lives : ℕ
   pub before : Between
-  pub lived : HaveLived g script lives before
+  pub lived : HaveLived g pool script lives before
   pub told : new.told ≡ old.told ++ before.told
   pub changes : ℕ
   pub numbers_are : numbers ≡ before.changes ++ changes ∷ []
 
 -- what comes of lives before the fault line
-abbrev pub Ends : {T : Type 0} → Geometry → List ℕ → Result T Halt → Site → Site → List ℕ → Type 0
-Ends g script (Ok done) old new numbers = TellsAll g script old new numbers
-Ends g script (Err halt.Output) old new numbers = TellsSome g script old new numbers
-Ends g script (Err other) old new numbers = IsGivenUp g script old new numbers
+abbrev pub Ends : {T : Type 0} → Geometry → ℕ → List ℕ → Result T Halt → Site → Site → List ℕ → Type 0
+Ends g pool script (Ok done) old new numbers = TellsAll g pool script old new numbers
+Ends g pool script (Err halt.Output) old new numbers = TellsSome g pool script old new numbers
+Ends g pool script (Err other) old new numbers = IsGivenUp g pool script old new numbers
 
 -- why a trial halts
 abbrev pub IsHaltOfTrial : Halt → Type 0

@@ -1,9 +1,8 @@
 -- What a load does, and what a crash at any moment leaves of it.
-use Rattle.std.specs.Prelude.{◌≡◌, ◌≢◌, ◌⊎◌, ℕ, ◌-◌, ◌≤◌, List, [], ◌∷◌, ◌++◌, length, take}
+use Rattle.std.specs.Prelude.{◌≡◌, ◌≢◌, ◌⊎◌, ℕ, ◌-◌, ◌≤◌, List, [], ◌∷◌, ◌++◌, length}
 use Rattle.std.specs.Prelude.{Result, IfErr, OnOk}
-use Rattle.std.specs.List.{concat}
 use Rattle.site.specs.State.{State as Site, Moment, Snapshot, MayLeave, now_of, no_loose}
-use Rattle.site.specs.Moments.{EachMoment, LeavesOnly}
+use Rattle.site.specs.Moments.{EachMoment, Leaves, LeavesOnly}
 use Rattle.site.specs.declared.geometry.Geometry.{Geometry}
 use Rattle.record_model.specs.State.{State}
 use Rattle.record_model.specs.Run.{commit_marks, commits_among}
@@ -15,7 +14,7 @@ use Rattle.face.specs.Done.{TellsFaultLine, TellsWhenDone}
 use Rattle.face.specs.RunInProgress.{HasServed}
 use Rattle.face.specs.Headline.{IsFaultOf, Resources}
 use Rattle.front_end.specs.Tells.{EndsBehind}
-use Rattle.face.specs.RunMeaning.{all_commits, StandsAfter}
+use Rattle.face.specs.RunMeaning.{WritesAsBegun, all_commits, StandsAfter}
 use Rattle.face.specs.Run.{Run, IsFront, answered, first_lines, turns_of}
 use Rattle.front_end.specs.Texts.{IsLineOf, status_of}
 use Rattle.face.specs.Working.{Demands}
@@ -45,22 +44,28 @@ pub record IsLoaded (run : Run) (summary : List ℕ) (old new : Site) : Type 0 w
   pub told : new.told ≡ old.told ++ (opening_text run ++ summary)
   pub stands : StandsAfter run (all_commits run) new.image
 
--- So many lines were begun: the opening is told, and a crash now leaves the commits of all but the last of them.
+-- so many lines of a load were begun where its opening is told, and the commits of all but the last of them stand there
+pub record HasMadeBefore (run : Run) (so_far : List ℕ) (begun : ℕ) (snapshot : Snapshot) : Type 0 where
+  pub opened : 1 ≤ begun → (rest : List ℕ) × (snapshot.told ≡ so_far ++ (opening_text run ++ rest))
+  pub k : ℕ
+  pub made : commits_among (begun - 1) (commit_marks (turns_of run)) ≤ k
+  pub stands : StandsAfter run k snapshot.image
+
+-- whatever a crash now leaves, so many were begun
 pub record HasBegunLoad (run : Run) (begun : ℕ) (old now : Site) : Type 0 where
   pub few : begun ≤ length (turns_of run)
-  pub opened : 1 ≤ begun → (rest : List ℕ) × (now.told ≡ old.told ++ (opening_text run ++ rest))
-  pub stands : (s : Snapshot) → MayLeave (now_of now) s →
-      (k : ℕ) × (commits_among (begun - 1) (commit_marks (turns_of run)) ≤ k) × StandsAfter run k s.image
+  pub by : Leaves (HasMadeBefore run old.told begun) (now_of now)
 
--- within a tell the opening is told, and restart is done
+-- within a tell the opening is being told, and restart is done
 abbrev pub TellsOpening : ℕ → Run → Site → Moment → Type 0
 TellsOpening pool run old moment = (moment.telling ≡ [])
-    ⊎ ((whole : ℕ) × TellsWhenDone pool (first_lines run 0) (concat (take whole (opening_text run ∷ []))) old moment)
+    ⊎ TellsWhenDone pool (first_lines run 0) (opening_text run ∷ []) old.told old moment
 
 -- or the summary, and all lines are done; or the fault line
 abbrev pub LoadTellsDone : ℕ → Run → List ℕ → List ℕ → Site → Moment → Type 0
 LoadTellsDone pool run summary fault old moment =
-    TellsOpening pool run old moment ⊎ (TellsWhenDone pool run (opening_text run ++ summary) old moment
+    TellsOpening pool run old moment
+    ⊎ (TellsWhenDone pool run (summary ∷ []) (old.told ++ opening_text run) old moment
     ⊎ TellsFaultLine (opening_text run ∷ summary ∷ []) fault old moment)
 
 -- What a load leaves that opens with this state, and what a crash at any moment of it leaves.
@@ -86,6 +91,8 @@ pub record LoadResources (pool : ℕ) (run : Run) (fault : List ℕ) (old new : 
   pub begun : ℕ
   pub has_begun : HasBegunLoad run begun old new
   pub asked : Resources pool run begun fault old new status
+  -- and no snapshot is written by lines that weren't begun by what it has
+  pub written : WritesAsBegun pool run (HasMadeBefore run old.told) begun old new
 
 -- What comes of a load that opens with this state.
 pub record LoadHeadline (load : Load) (g : Geometry) (opening : State) (old new : Site) (status : ℕ) : Type 0 where
@@ -125,6 +132,7 @@ pub record LoadWorks {T : Type 0} (pool : ℕ) (run : Run) (summary : List ℕ) 
   pub done : OnOk result (LoadDone run summary old new)
   pub begun : ℕ
   pub has_begun : HasBegunLoad run begun old new
+  pub written : WritesAsBegun pool run (HasMadeBefore run old.told) begun old new
   -- where it is Ok all lines were begun
   pub all : OnOk result (length (answered run) ≤ begun)
   pub demands : Demands pool (first_lines run begun) old new result
@@ -143,5 +151,6 @@ pub record LoadInProgress (pool : ℕ) (run : Run) (entry now : Site) (engine : 
   pub open served use *
   pub told : now.told ≡ entry.told ++ opening_text run
   pub moments : LeavesOnly entry now (IsLeftOf run [] [] entry.told)
+  pub written : WritesAsBegun pool run (HasMadeBefore run entry.told) lines entry now
   pub tells : EachMoment entry now (TellsOpening pool run entry)
   pub left : now.input ≡ entry.input

@@ -168,24 +168,29 @@ AsksNoMore pool run old new =
     → AsksFew pool run.geometry (works_by run (turns_of run) newest old.image blocks)
     (log_reads_by_turns run (turns_of run) newest blocks) old new
 
--- What a crash leaves while at most so many lines are begun. Some number of them was begun by then: what the run tells
--- before the last of these is told. It has no more groups than the restart and these append, no segment early, and each
--- disk page that they don't stage as it was at entry.
-pub record WritesSoFar (pool : ℕ) (run : Run) (lines : ℕ) (newest : Option Master) (blocks : List (List LogRecord))
-    (old : Site) (snapshot : Snapshot) : Type 0 where
+-- What a crash leaves while at most so many lines are begun. Some number of them was begun by then, as what it has
+-- tells. It has no more groups than the restart and these append, no segment early, and each disk page that they don't
+-- stage as it was at entry.
+pub record WritesSoFar (pool : ℕ) (run : Run) (HasBegunBy : ℕ → Snapshot → Type 0) (lines : ℕ) (newest : Option Master)
+    (blocks : List (List LogRecord)) (old : Image) (snapshot : Snapshot) : Type 0 where
   pub begun : ℕ
   pub few : begun ≤ lines
-  pub rest : List ℕ
-  pub told : snapshot.told ≡ old.told ++ (first_texts run begun ++ rest)
-  pub only : WritesOnly run.geometry (staged_by_run pool run (turns_of (first_lines run begun)) newest old.image blocks)
-      (next_group (cache_by pool run (turns_of (first_lines run begun)) newest old.image blocks))
-      old.image snapshot.image
+  pub by : HasBegunBy begun snapshot
+  pub only : WritesOnly run.geometry (staged_by_run pool run (turns_of (first_lines run begun)) newest old blocks)
+      (next_group (cache_by pool run (turns_of (first_lines run begun)) newest old blocks)) old snapshot.image
 
--- each snapshot is written by no more lines than were begun by what it has told
-abbrev pub WritesAsTold : ℕ → Run → ℕ → Site → Site → Type 0
-WritesAsTold pool run lines old new =
+-- each snapshot is written by no more lines than were begun, as what it has tells
+abbrev pub WritesAsBegun : ℕ → Run → (ℕ → Snapshot → Type 0) → ℕ → Site → Site → Type 0
+WritesAsBegun pool run HasBegunBy lines old new =
     (newest : Option Master) (blocks : List (List LogRecord)) → IsSound newest run.geometry old.image blocks
-    → LeavesOnly old new (WritesSoFar pool run lines newest blocks old)
+    → LeavesOnly old new (WritesSoFar pool run HasBegunBy lines newest blocks old.image)
+
+-- so many lines of a run were begun where what it tells before the last of them is told
+abbrev pub HasToldBefore : Run → List ℕ → ℕ → Snapshot → Type 0
+HasToldBefore run so_far begun snapshot = (rest : List ℕ) × (snapshot.told ≡ so_far ++ (first_texts run begun ++ rest))
+
+abbrev pub WritesAsTold : ℕ → Run → ℕ → Site → Site → Type 0
+WritesAsTold pool run lines old new = WritesAsBegun pool run (HasToldBefore run old.told) lines old new
 
 -- So many lines were begun: what the run tells before the last of them is told, the opening's text and the replies of
 -- the others, then a front of the last one's reply, or all of it, and of a fault line a front.

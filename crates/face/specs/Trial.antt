@@ -72,11 +72,10 @@ pub record GoesOn (run : Run) (text : List ℕ) (table : List Content) (commits 
 abbrev pub kept_by : Option (ℕ × ℕ) → List ℕ → List ℕ
 kept_by stop changes = code_of (option_map (λ s. s.0) stop) ∷ 0 ∷ changes
 
--- A life is a run over a site in memory with these octets on its input: it begins with what was found, and that fuse.
--- `over` is the site as the life leaves it.
-pub record IsLived (octets : List ℕ) (stop : Option (ℕ × ℕ)) (before : Between) (over : Site) : Type 0 where
-  pub pool : ℕ
-  pub status : ℕ
+-- A life is a run with a pool of so many pages, over a site in memory with these octets on its input: it begins with
+-- what was found, and that fuse, and ends with this status. `over` is the site as the life leaves it.
+pub record IsLived (pool : ℕ) (octets : List ℕ) (stop : Option (ℕ × ℕ)) (before : Between) (status : ℕ) (over : Site)
+    : Type 0 where
   pub begun : Site
   pub begins : begun ≡ record (started (kept_by stop before.changes) before.image) { input = fed octets no_input }
   pub runs : RunContract pool begun over status
@@ -91,16 +90,16 @@ IsCut (Some stop) over image = image ≡ image_left stop.1 over.loose over.image
 abbrev pub life_line : ℕ → ℕ → List ℕ
 life_line number status = codes "life " ++ decimal number ++ codes " status " ++ decimal status ++ codes "\n"
 
--- A life: these are its lines, and its stop line's K and SEED. Its text and its line are told, and the next one finds
--- what it leaves.
-pub record IsLife (g : Geometry) (number : ℕ) (octets : List ℕ) (stop : Option (ℕ × ℕ)) (before after : Between)
+-- A life: these are its lines, and its stop line's K and SEED. Its text and its line are told, with the status of its
+-- run, and the next one finds what it leaves.
+pub record IsLife (g : Geometry) (pool number : ℕ) (octets : List ℕ) (stop : Option (ℕ × ℕ)) (before after : Between)
     : Type 0 where
   pub listings : List (List CacheLine)
+  pub status : ℕ
   pub over : Site
-  pub lived : IsLived octets stop before over
+  pub lived : IsLived pool octets stop before status over
   pub text : List ℕ
   pub text_is : over.told ≡ text
-  pub status : ℕ
   pub is_text : IsTextOf (life_run g before octets listings) status text
   pub told : after.told ≡ before.told ++ (text ++ life_line number status)
   -- how many changes it asked for
@@ -110,55 +109,56 @@ pub record IsLife (g : Geometry) (number : ℕ) (octets : List ℕ) (stop : Opti
   pub goes_on : GoesOn (life_run g before octets listings) text after.table after.commits
 
 -- the life of a script behind so many others
-abbrev pub IsNext : Geometry → List ℕ → ℕ → Between → Between → Type 0
-IsNext g script lives before after = (life : Life) × (slice_get (lives_in script) lives ≡ Some life)
-    × IsLife g (lives + 1) (slice_range script life.start life.end) life.stop before after
+abbrev pub IsNext : Geometry → ℕ → List ℕ → ℕ → Between → Between → Type 0
+IsNext g pool script lives before after = (life : Life) × (slice_get (lives_in script) lives ≡ Some life)
+    × IsLife g pool (lives + 1) (slice_range script life.start life.end) life.stop before after
 
--- the first lives of a script, one after the other
-abbrev pub HaveLived : Geometry → List ℕ → ℕ → Between → Type 0
-HaveLived g script zero after = after ≡ at_first g
-HaveLived g script (suc lives) after =
-    (before : Between) × HaveLived g script lives before × (next : IsNext g script lives before after)
+-- the first lives of a script with such a pool, one after the other
+abbrev pub HaveLived : Geometry → ℕ → List ℕ → ℕ → Between → Type 0
+HaveLived g pool script zero after = after ≡ at_first g
+HaveLived g pool script (suc lives) after =
+    (before : Between) × HaveLived g pool script lives before × (next : IsNext g pool script lives before after)
     × IsCut next.0.stop next.2.over after.image
 
 -- All lives of the script are told, and asked for these numbers of changes.
-pub record TellsAll (g : Geometry) (script : List ℕ) (old new : Site) (numbers : List ℕ) : Type 0 where
+pub record TellsAll (g : Geometry) (pool : ℕ) (script : List ℕ) (old new : Site) (numbers : List ℕ) : Type 0 where
   pub last : Between
-  pub lived : HaveLived g script (length (lives_in script)) last
+  pub lived : HaveLived g pool script (length (lives_in script)) last
   pub told : new.told ≡ old.told ++ last.told
   pub numbers_are : numbers ≡ last.changes
 
 -- Some lives are told whole, and of the next one a front.
-pub record TellsSome (g : Geometry) (script : List ℕ) (old new : Site) (numbers : List ℕ) : Type 0 where
+pub record TellsSome (g : Geometry) (pool : ℕ) (script : List ℕ) (old new : Site) (numbers : List ℕ) : Type 0 where
   pub lives : ℕ
   pub before : Between
-  pub lived : HaveLived g script lives before
+  pub lived : HaveLived g pool script lives before
   pub after : Between
-  pub next : IsNext g script lives before after
+  pub next : IsNext g pool script lives before after
   pub rest : List ℕ
   pub told : new.told ≡ old.told ++ (before.told ++ rest)
   pub front : IsFront (before.told ++ rest) after.told
   pub numbers_are : numbers ≡ after.changes
 
 -- Some lives are told whole, and then this line; of the next one, if it was begun, only its number is known.
-pub record TellsFirst (g : Geometry) (script : List ℕ) (line : List ℕ) (old new : Site) (numbers : List ℕ)
+pub record TellsFirst (g : Geometry) (pool : ℕ) (script line : List ℕ) (old new : Site) (numbers : List ℕ)
     : Type 0 where
   pub lives : ℕ
   pub before : Between
-  pub lived : HaveLived g script lives before
+  pub lived : HaveLived g pool script lives before
   pub ends : EndsWith (old.told ++ before.told) line old new
   pub changes : ℕ
   pub numbers_are : numbers ≡ before.changes ++ changes ∷ []
 
 -- What a trial of a script tells with a status, and the numbers of changes of the lives that were begun.
-pub record Lives (g : Geometry) (script : List ℕ) (old new : Site) (status : ℕ) (numbers : List ℕ) : Type 0 where
+pub record Lives (g : Geometry) (pool : ℕ) (script : List ℕ) (old new : Site) (status : ℕ) (numbers : List ℕ)
+    : Type 0 where
   -- with 0 all lives
-  pub all : status ≡ 0 → TellsAll g script old new numbers
+  pub all : status ≡ 0 → TellsAll g pool script old new numbers
   -- with 6 telling failed
-  pub some : status ≡ 6 → TellsSome g script old new numbers
+  pub some : status ≡ 6 → TellsSome g pool script old new numbers
   -- with another status the first ones, if any, and the fault line
   pub first : status ≢ 0 → status ≢ 6 →
-      (halt : Halt) × (status ≡ status_of halt) × TellsFirst g script (fault_line halt) old new numbers
+      (halt : Halt) × (status ≡ status_of halt) × TellsFirst g pool script (fault_line halt) old new numbers
   -- where the script wasn't read to its end no life was begun
   pub none : (status ≡ 5) ⊎ (status ≡ 7) → numbers ≡ 0 ∷ []
 
@@ -193,10 +193,10 @@ pub record TrialCauses (old new : Site) (status : ℕ) : Type 0 where
 abbrev pub LeavesDevices : Site → Site → Type 0
 LeavesDevices old new = EachMoment old new (λ moment. (moment.image ≡ old.image) × (moment.loose ≡ old.loose))
 
--- What a trial does on blank devices in memory of these sizes: the site that it is called with gives input and output
--- alone.
-pub record TrialContract (g : Geometry) (old new : Site) (status : ℕ) (numbers : List ℕ) : Type 0 where
-  pub lives : IsTrue old.honest → Lives g old.input.left old new status numbers
+-- What a trial does on blank devices in memory of these sizes, with a pool of so many pages: the site that it is called
+-- with gives input and output alone.
+pub record TrialContract (g : Geometry) (pool : ℕ) (old new : Site) (status : ℕ) (numbers : List ℕ) : Type 0 where
+  pub lives : IsTrue old.honest → Lives g pool old.input.left old new status numbers
   pub causes : TrialCauses old new status
   pub devices : IsTrue old.honest → LeavesDevices old new
   pub reads : SameReads old new

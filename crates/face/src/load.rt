@@ -23,10 +23,10 @@ use crate::commands::carry_out;
 use crate::opening::open;
 use command_line::Load;
 use engine::{Engine, queue_is_on_flash, versions_are_seen};
-use front_end::{Halt, tell_all, tell_halt};
+use front_end::{Halt, tell_halt};
 use record_model::{Command, Reply};
 use shell_text::Line;
-use site::{Dev, Geometry, Site};
+use site::{Dev, Geometry, Site, tell_all};
 use std::alloc::Global;
 use workload::{load_set, next};
 

@@ -7,9 +7,9 @@ ghost use Rattle.face.specs.Run.{Run};
 ghost use Rattle.face.specs.RunInProgress.{GoesOn, NeverOpens, RunInProgress};
 
 use engine::{Engine, queue_is_on_flash, versions_are_seen};
-use front_end::{Halt, tell_all};
+use front_end::Halt;
 use shell_text::open_line;
-use site::Site;
+use site::{Site, tell_all};
 use std::alloc::Global;
 
 /// Restart, and the line that opens the run. No input is taken.

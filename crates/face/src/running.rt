@@ -116,7 +116,8 @@ pub fn lack_memory<S: Site>(site: &mut S) -> u8
     ensures new { (g : Geometry) → NewContract g (S.state site.old) (S.state site.new) result }
     ensures simulate { (s : Simulation)
         → SimulateContract s.groups s.pool (S.state site.old) (S.state site.new) result }
-    ensures trial { (g : Geometry) → TrialContract g (S.state site.old) (S.state site.new) result (0 ∷ []) }
+    ensures trial { (g : Geometry) (pool : ℕ)
+        → TrialContract g pool (S.state site.old) (S.state site.new) result (0 ∷ []) }
     ensures check { CheckContract (S.state site.old) (S.state site.new) result }
     ensures lacks { LacksMemory result (S.state site.old) (S.state site.new) }
     ensures hears { IsTrue (S.state site.old).honest → HearsInTime result (S.state site.old) (S.state site.new) }
@@ -133,7 +134,7 @@ pub fn lack_memory<S: Site>(site: &mut S) -> u8
 pub fn serve_trial<S: Site>(alloc: Global, sizes: &TrialSizes, site: &mut S) -> u8
     requires limits { HasTrialLimits sizes.now }
     ensures trial { (numbers : List ℕ)
-        × TrialContract sizes.now.geometry (S.state site.old) (S.state site.new) result numbers }
+        × TrialContract sizes.now.geometry sizes.now.pool (S.state site.old) (S.state site.new) result numbers }
     ensures preserves { Preserves (S.state site.old) (S.state site.new) }
     ensures faults { result ≡ 0 → SameFaults (S.state site.old) (S.state site.new) }
     ensures first { FirstDecides result (S.state site.old) (S.state site.new) }

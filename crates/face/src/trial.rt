@@ -18,10 +18,10 @@ ghost use Rattle.face.specs.Living.{Ends, HasLivedOne, IsHaltOfTrial, IsReady, K
 
 use crate::laws::{blank_stands, what_is_left_opens};
 use crate::running::serve;
-use front_end::{Halt, tell_all, tell_halt};
+use front_end::{Halt, tell_halt};
 use mem_site::MemSite;
 use shell_text::Line;
-use site::{Failed, Site, Stop};
+use site::{Failed, Site, Stop, tell_all};
 use std::alloc::Global;
 use workload::{STOPS_MAX, life};
 
@@ -143,7 +143,7 @@ fn live(
     ensures life { (g : Geometry) (before : Between) → IsReady g before inner.old
         → IfSome result (λ status. HasLivedOne g before lines.now status (state_of inner.new)) }
     ensures lived { (g : Geometry) (before : Between) → IsReady g before inner.old
-        → IfSome result (λ status. IsLived lines.now stop before (state_of inner.new)) }
+        → IfSome result (λ status. IsLived pool lines.now stop before status (state_of inner.new)) }
     ensures status { IfSome result (λ status. IsStatus (spec.is_within stop (limits_of inner.new).changes) status) }
     ensures lives { numbers_in inner.new ≡ numbers_in inner.old }
 {
@@ -199,7 +199,7 @@ fn live_script<S: Site>(
 ) -> (Result<(), Halt>, MemSite)
     requires pool { (1 ≤ pool) × (pool ≤ 4096) }
     ensures lives { (g : Geometry) → IsNewSite g inner → IsTrue (S.state site.old).honest
-        → Ends g script.now result.0 (S.state site.old) (S.state site.new) (numbers_of result.1) }
+        → Ends g pool script.now result.0 (S.state site.old) (S.state site.new) (numbers_of result.1) }
     ensures halts { IfErr result.0 (λ halt. (halt ≡ Halt.Stop Stop.Memory) ⊎ (halt ≡ Halt.Output)) }
     ensures output { result.0 ≡ Err Halt.Output
         → Rose (S.state site.old).output_faults (S.state site.new).output_faults }
@@ -237,7 +237,8 @@ fn run_script<S: Site>(
 ) -> (Result<(), Halt>, MemSite)
     requires pool { (1 ≤ pool) × (pool ≤ 4096) }
     ensures lives { (g : Geometry) → IsNewSite g inner → IsTrue (S.state site.old).honest
-        → Ends g (S.state site.old).input.left result.0 (S.state site.old) (S.state site.new) (numbers_of result.1) }
+        → Ends g pool (S.state site.old).input.left result.0 (S.state site.old) (S.state site.new)
+        (numbers_of result.1) }
     ensures unbegun { (result.0 ≡ Err Halt.Input) ⊎ (result.0 ≡ Err Halt.Limit) → result.1 ≡ inner }
     ensures halts { IfErr result.0 IsHaltOfTrial }
     ensures fits { IsTrue (S.state site.old).honest
@@ -272,7 +273,7 @@ pub fn trial<S: Site>(alloc: Global, pool: u32, inner: MemSite, site: &mut S) ->
 
     // What is told, and when each status comes.
     ensures trial { (g : Geometry) → IsNewSite g inner
-        → TrialContract g (S.state site.old) (S.state site.new) result.0 (numbers_of result.1) }
+        → TrialContract g pool (S.state site.old) (S.state site.new) result.0 (numbers_of result.1) }
     // Where no life was begun the site is handed back.
     ensures unbegun { (result.0 ≡ 5) ⊎ (result.0 ≡ 7) → result.1 ≡ inner }
     ensures preserves { Preserves (S.state site.old) (S.state site.new) }

@@ -1,7 +1,6 @@
 pub mod CheckLaws
 pub mod Endings
 pub mod Firsts
-mod Handed
 mod LineOctets
 mod NewLaws
 pub mod Replies

@@ -1,5 +1,5 @@
 -- What `new` tells after it has only read.
-use Rattle.std.proofs.Common.{◌≡◌, inl, inr, ⊎_elim, ◌++◌, ℕ, List, take, refl, arith, le_trans, ◌∙◌, ap, IsTrue}
+use Rattle.std.proofs.Common.{◌≡◌, inl, inr, ⊎_elim, ◌++◌, ℕ, List, take, refl, arith, le_trans, ◌∙◌, ap, subst, IsTrue}
 use Rattle.std.specs.Prelude.{Result}
 use Rattle.site.specs.declared.geometry.Geometry.{Geometry}
 use Rattle.site.specs.declared.outside.Failed.{Failed as CallFailed}
@@ -7,12 +7,12 @@ use Rattle.site.specs.State.{State, Moment}
 use Rattle.site.specs.Geometry.{HasLengths}
 use Rattle.site.specs.Calls.{Preserves, IsUnchanged, SameReads}
 use Rattle.site.specs.Moments.{EachMoment}
-use Rattle.site.specs.Telling.{TellsPart}
+use Rattle.site.specs.Telling.{HandsLine, HandsRest, TellsPart}
 use Rattle.site.proofs.Laws.{stays_honest, no_call, in_sequence, each_weaker, unchanged_calm, unchanged_devices, devices_in_sequence}
 use Rattle.front_end.specs.declared.new_database.Unfit.{Unfit}
 use Rattle.front_end.specs.declared.new_database.Unfit.TheVariants.{Foreign, Failed, NotBlank}
 use Rattle.front_end.specs.New.{New, IsAnswer, IsUnfit, ReadsOnce, unfit_status}
-use Rattle.front_end.specs.Tells.{HandsRest, Tells}
+use Rattle.front_end.specs.Tells.{Tells}
 use Rattle.front_end.proofs.Endings.{ends_with}
 use Rattle.front_end.proofs.Replies.{nothing_told}
 
@@ -34,7 +34,7 @@ hands_behind : (line : List ℕ) (old mid new : State) → IsUnchanged old mid �
 hands_behind line old mid new same hands =
     in_sequence old mid new (HandsRest line old)
     (unchanged_calm old old mid (HandsRest line old) (no_call old (HandsRest line old) (inl refl)) same)
-    (each_weaker mid new (HandsRest line mid) (HandsRest line old) (λ (m : Moment) h. ⊎_elim (λ none. inl none) (λ rest. inr (rest.0, rest.1 ∙ ap (λ (t : List ℕ). t ++ take rest.0 line) same.told, rest.2)) h) hands)
+    (each_weaker mid new (HandsRest line mid) (HandsRest line old) (λ (m : Moment) h. ⊎_elim (λ none. inl none) (λ rest. inr (subst (λ (t : List ℕ). HandsLine line t m) same.told rest)) h) hands)
 
 -- after an error of telling nothing is said of all of the line
 pub answered : {T : Type 0} (g : Geometry) (old mid new : State) (line : List ℕ) (status : ℕ) (result : Result T CallFailed) → Preserves old mid → (IsTrue old.honest → IsUnchanged old mid) → ((HasLengths g old.image → ⊥) → SameReads old mid) → ReadsOnce old mid → Tells line mid new result

@@ -1,12 +1,12 @@
 -- The lines of a reply, told one after the other.
-use Rattle.std.proofs.Common.{◌≡◌, inl, inr, ⊎_elim, ℕ, zero, suc, ◌<◌, List, [], ◌∷◌, ◌++◌, length, take, drop, get_or, refl, sym, ◌∙◌, ap, arith, append_assoc, take-append-drop}
+use Rattle.std.proofs.Common.{◌≡◌, inl, inr, ⊎_elim, ℕ, zero, suc, ◌<◌, List, [], ◌∷◌, ◌++◌, length, take, drop, get_or, refl, sym, ◌∙◌, ap, subst, arith, append_assoc, take-append-drop}
 use Rattle.std.specs.List.{concat}
 use Rattle.std.proofs.lemmas.List.{append-nil, take_at, take_all}
 use Rattle.site.specs.State.{State, Moment}
 use Rattle.site.specs.Moments.{EachMoment}
 use Rattle.site.proofs.Laws.{in_sequence, each_weaker}
-use Rattle.site.specs.Telling.{TellsPart, SameDevices}
-use Rattle.front_end.specs.Tells.{HandsLines, HandsRest}
+use Rattle.site.specs.Telling.{HandsLine, HandsRest, TellsPart, SameDevices}
+use Rattle.front_end.specs.Tells.{HandsLines, HandsOneOf}
 
 -- the first of the lines, one after the other
 abbrev pub first_of : ℕ → List (List ℕ) → List ℕ
@@ -43,15 +43,15 @@ piece_told before piece rest text old mid new is same told so_far tells =
           (front.0, part.1 ∙ ap (λ (l : List ℕ). l ++ take part.0 piece) told ∙ append_assoc old.told before (take part.0 piece) ∙ ap (λ (l : List ℕ). old.told ++ l) front.1);
     }) tells)
 
--- what was told and is being told of a piece that is handed over is all of it
-pub handed_whole : (piece : List ℕ) (old : State) (m : Moment) (k : ℕ) → m.told ≡ old.told ++ take k piece → m.telling ≡ drop k piece → m.told ++ m.telling ≡ old.told ++ piece
-handed_whole piece old m k told rest = (λ i. told i ++ rest i) ∙ append_assoc old.told (take k piece) (drop k piece) ∙ ap (λ (l : List ℕ). old.told ++ l) (take-append-drop k piece)
+-- and the rest of it handed on
+pub lines_handed : (lines : List (List ℕ)) (place : ℕ) (old mid new : State) → mid.told ≡ old.told ++ first_of place lines → EachMoment old mid (HandsLines lines old.told) → EachMoment mid new (HandsRest (get_or lines place []) mid) → EachMoment old new (HandsLines lines old.told)
+lines_handed lines place old mid new told so_far hands =
+    in_sequence old mid new (HandsLines lines old.told) so_far (each_weaker mid new (HandsRest (get_or lines place []) mid) (HandsLines lines old.told)
+    (λ (m : Moment) h. ⊎_elim (λ none. inl none) (λ rest. inr (place, subst (λ (t : List ℕ). HandsLine (get_or lines place []) t m) told rest)) h) hands)
 
--- and handed over with all that is left of its line
-pub lines_handed : (lines : List (List ℕ)) (place : ℕ) (piece : List ℕ) (old mid new : State) → first_of (suc place) lines ≡ first_of place lines ++ piece → mid.told ≡ old.told ++ first_of place lines → EachMoment old mid (HandsLines lines old.told) → EachMoment mid new (HandsRest piece mid) → EachMoment old new (HandsLines lines old.told)
-lines_handed lines place piece old mid new is told so_far hands =
-    in_sequence old mid new (HandsLines lines old.told) so_far (each_weaker mid new (HandsRest piece mid) (HandsLines lines old.told)
-    (λ (m : Moment) h. ⊎_elim (λ none. inl none) (λ all. inr (suc place, handed_whole piece mid m all.0 all.1 all.2 ∙ ap (λ (l : List ℕ). l ++ piece) told ∙ append_assoc old.told (first_of place lines) piece ∙ ap (λ (l : List ℕ). old.told ++ l) (sym is))) h) hands)
+-- of the same lines, behind the same octets
+pub hands_as : {lines lines' : List (List ℕ)} {so_far so_far' : List ℕ} (m : Moment) → lines ≡ lines' → so_far ≡ so_far' → HandsOneOf lines so_far m → HandsOneOf lines' so_far' m
+hands_as {lines} {lines'} {so_far} {so_far'} m is same hands = subst (λ (t : List ℕ). HandsOneOf lines' t m) same (subst (λ (l : List (List ℕ)). HandsOneOf l so_far m) is hands)
 
 -- before the first line
 pub nothing_told : (text : List ℕ) (old : State) → TellsPart text old (record { told = old.told; telling = []; image = old.image; loose = old.loose })

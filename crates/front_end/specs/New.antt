@@ -8,13 +8,13 @@ use Rattle.site.specs.Geometry.{HasLengths}
 use Rattle.site.specs.State.{State, Image, content_of, faults_of, reads_of}
 use Rattle.site.specs.Calls.{Rose, SameReads}
 use Rattle.site.specs.Moments.{EachMoment}
-use Rattle.site.specs.Telling.{TellsPart, SameDevices}
+use Rattle.site.specs.Telling.{HandsRest, TellsPart, SameDevices}
 use Rattle.front_end.specs.declared.new_database.Unfit.{Unfit}
 use Rattle.front_end.specs.declared.new_database.Unfit.TheVariants.{Foreign, Failed, NotBlank}
 use Rattle.front_end.specs.Texts.{dev_name}
 use Rattle.front_end.specs.Faults.{NoFaultRose, SameFaults}
 use Rattle.site.specs.Faults.{faults_in, with_fault}
-use Rattle.front_end.specs.Tells.{EndsWith, HandsRest}
+use Rattle.front_end.specs.Tells.{EndsWith}
 
 -- the octets from one place to another are zero
 abbrev pub AreZero : List ℕ → ℕ → ℕ → Type 0

@@ -3,8 +3,8 @@ use Rattle.std.specs.Prelude.{◌≡◌, ℕ, List, codes, IsTrue}
 use Rattle.site.specs.State.{State}
 use Rattle.site.specs.Calls.{SameReads}
 use Rattle.site.specs.Moments.{EachMoment}
-use Rattle.site.specs.Telling.{TellsPart, SameDevices}
-use Rattle.front_end.specs.Tells.{EndsWith, HandsRest}
+use Rattle.site.specs.Telling.{HandsRest, TellsPart, SameDevices}
+use Rattle.front_end.specs.Tells.{EndsWith}
 
 abbrev pub words_fault : List ℕ
 words_fault = codes "fault words\n"

@@ -1,22 +1,21 @@
 -- What telling a line does.
-use Rattle.std.specs.Prelude.{◌≡◌, ◌⊎◌, List, ℕ, [], ◌++◌, take, drop, flat_map, IsTrue, Result, OnOk, OnErr}
+use Rattle.std.specs.Prelude.{◌≡◌, ◌⊎◌, List, ℕ, [], ◌++◌, take, flat_map, slice_index_or, IsTrue, Result, OnOk, OnErr}
 use Rattle.std.specs.List.{concat}
 use Rattle.site.specs.State.{State, Moment}
 use Rattle.site.specs.Calls.{Preserves, SameReads, Rose}
 use Rattle.site.specs.Faults.{TellFaults}
 use Rattle.site.specs.Moments.{EachMoment}
-use Rattle.site.specs.Telling.{TellsPart, SameDevices}
+use Rattle.site.specs.Telling.{HandsLine, HandsRest, TellsPart, SameDevices}
 use Rattle.site.specs.declared.outside.Failed.{Failed}
 
--- within a tell all that wasn't told of the piece is being told
-abbrev pub HandsRest : List ℕ → State → Moment → Type 0
-HandsRest piece old moment = (moment.telling ≡ [])
-    ⊎ ((k : ℕ) × (moment.told ≡ old.told ++ take k piece) × (moment.telling ≡ drop k piece))
+-- one of these lines is being told behind these octets: those before it are told whole
+abbrev pub HandsOneOf : List (List ℕ) → List ℕ → Moment → Type 0
+HandsOneOf lines so_far moment =
+    (whole : ℕ) × HandsLine (slice_index_or lines whole []) (so_far ++ concat (take whole lines)) moment
 
--- within a tell a line is told to its end with it, and those before are told whole
+-- within a tell it is
 abbrev pub HandsLines : List (List ℕ) → List ℕ → Moment → Type 0
-HandsLines lines so_far moment = (moment.telling ≡ [])
-    ⊎ ((whole : ℕ) × (moment.told ++ moment.telling ≡ so_far ++ concat (take whole lines)))
+HandsLines lines so_far moment = (moment.telling ≡ []) ⊎ HandsOneOf lines so_far moment
 
 -- the text is told, or after an error a front of it, and nothing else is done
 pub record TellsText {T : Type 0} (text : List ℕ) (old new : State) (result : Result T Failed) : Type 0 where

@@ -9,10 +9,9 @@ ghost use Rattle.front_end.specs.Tells.{Tells};
 
 use crate::halt::Halt;
 use crate::new_database::Unfit;
-use crate::telling::tell_all;
 use image_check::Verdict;
 use shell_text::Line;
-use site::{Dev, Failed, Geometry, Site};
+use site::{Dev, Failed, Geometry, Site, tell_all};
 
 fn name_of(dev: Dev) -> &'static [u8]
     ensures name { result.now ≡ dev_name dev }

@@ -7,7 +7,6 @@ mod fault_lines;
 mod halt;
 mod new_database;
 mod source;
-mod telling;
 mod text;
 
 pub use check::serve_check;
@@ -15,5 +14,4 @@ pub use fault_lines::{tell_halt, tell_memory, tell_words};
 pub use halt::Halt;
 pub use new_database::make_new;
 pub use source::{Heard, Source};
-pub use telling::tell_all;
 pub use text::tell_reply;

@@ -7,10 +7,9 @@ ghost use Rattle.site.specs.Telling.{TellsOnly, TellsPart, SameDevices};
 ghost use Rattle.shell_text.specs.Texts.{reply_lines, reply_text};
 ghost use Rattle.front_end.specs.Tells.{HandsLines};
 
-use crate::telling::tell_all;
 use record_model::Reply;
 use shell_text::{line_count, reply_line};
-use site::{Failed, Site};
+use site::{Failed, Site, tell_all};
 
 /// Tells the lines of a reply, each as one piece with its newline. A crash at any moment leaves the devices as they
 /// were, and some front of the reply's text told.

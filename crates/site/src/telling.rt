@@ -3,7 +3,7 @@ ghost use Rattle.std.specs.Prelude.{◌≡◌, ◌++◌, length, IsTrue, OnOk, O
 ghost use Rattle.site.specs.Calls.{Preserves, SameReads, Rose};
 ghost use Rattle.site.specs.Faults.{TellFaults};
 ghost use Rattle.site.specs.Moments.{EachMoment};
-ghost use Rattle.site.specs.Telling.{TellsOnly, TellsPart, SameDevices};
+ghost use Rattle.site.specs.Telling.{HandsRest, TellsOnly, TellsPart, SameDevices};
 
 use crate::outside::{Failed, Site};
 
@@ -12,6 +12,9 @@ pub fn tell_all<S: Site>(site: &mut S, piece: &[u8]) -> Result<(), Failed>
     // A crash at any moment leaves the devices as they were, and some front of the piece told.
     ensures any_moment { IsTrue (S.state site.old).honest
         → EachMoment (S.state site.old) (S.state site.new) (TellsPart piece.now (S.state site.old)) }
+    // Each call is handed all that wasn't told of it yet.
+    ensures hands { IsTrue (S.state site.old).honest
+        → EachMoment (S.state site.old) (S.state site.new) (HandsRest piece.now (S.state site.old)) }
     ensures told { IsTrue (S.state site.old).honest
         → OnOk result ((S.state site.new).told ≡ (S.state site.old).told ++ piece.now) }
     // It takes no more calls than the piece has octets, and none but tells.

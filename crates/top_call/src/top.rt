@@ -43,7 +43,7 @@ pub fn face<S: Site>(alloc: Global, words: &[String], site: &mut S) -> u8
     ensures simulate { (s : Simulation) → IsSimulate (words_of words.now) s
         → SimulateContract s.groups s.pool (S.state site.old) (S.state site.new) result }
     ensures trial { (t : TrialSizes) → IsTrial (words_of words.now) t → (numbers : List ℕ)
-        × TrialContract t.geometry (S.state site.old) (S.state site.new) result numbers }
+        × TrialContract t.geometry t.pool (S.state site.old) (S.state site.new) result numbers }
     ensures check { IsCheck (words_of words.now) → CheckContract (S.state site.old) (S.state site.new) result }
     // Which octets a run takes of an honest site, and with which status, whatever stands on its devices.
     ensures hears { ((pool : ℕ) × IsRun (words_of words.now) pool) → IsTrue (S.state site.old).honest

@@ -27,7 +27,7 @@ returns g c =
         preserves = c.tell_memory.ensures.preserves;
         cause = c.tell_memory.ensures.cause;
       });
-      trial = λ geometry. lacked_trial geometry old new c.tell_memory.result c.tell_memory.ensures;
+      trial = λ geometry pool. lacked_trial geometry pool old new c.tell_memory.result c.tell_memory.ensures;
       check = lacked_check 4 old new lacks;
       lacks = lacks;
       hears = λ honest. heard_halted {T = ℕ} (halt.Stop Memory) 4 old old new refl (c.tell_memory.ensures.devices honest).left (hears_nothing {T = ℕ} (halt.Stop Memory) old old (λ e. cc) refl);

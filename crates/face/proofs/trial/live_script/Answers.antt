@@ -12,7 +12,7 @@ loop-place-init g c = record {
   left = λ honest. refl;
   faults = refl;
   there = some_lives c.args.script.now;
-  lives = λ geometry new honest. none_yet c.blank_stands.ensures geometry c.args.script.now (g.S.Site.state c.args.site.now) c.args.inner new;
+  lives = λ geometry new honest. none_yet c.blank_stands.ensures geometry c.args.pool c.args.script.now (g.S.Site.state c.args.site.now) c.args.inner new;
 }
 
 pub unreachable-requires-2 : goal.unreachable-requires-2
@@ -33,7 +33,7 @@ loop-place-preserved g c =
       there = subst (λ (n : ℕ). n < length (lives_in c.args.script.now)) (sym (add-one c.loop-place.place)) (more_lives c.args.script.now c.loop-place.place life _ is_life c.in-Some-stop.is);
       lives = λ geometry is_new honest.
           let r = inv.lives geometry is_new honest in
-          goes_on geometry c.args.script.now c.loop-place.place old mid c.loop-place.inner c.live.new.inner r c.live.ensures.lives life is_life c.in-Some-live.status
+          goes_on geometry c.args.pool c.args.script.now c.loop-place.place old mid c.loop-place.inner c.live.new.inner r c.live.ensures.lives life is_life c.in-Some-live.status
           (c.in-Some-live.ensures.life geometry r.before r.ready) (c.in-Some-live.ensures.lived geometry r.before r.ready) c.in-Some-live.ensures.status _ c.in-Some-stop.is c.crash-inner.result
           c.crash-inner.ensures.state c.crash-inner.ensures.fresh c.crash-inner.ensures.left c.crash-inner.ensures.lives new
           (c.in-Ok.ensures.told (stays_honest old mid inv.keeps.preserves honest) ∙ ap (λ (l : List ℕ). mid.told ++ (l ++ life_line (c.loop-place.place + 1) c.in-Some-live.status)) c.told.ensures);
@@ -51,7 +51,7 @@ returns-in_default-tell_life-clause-lives g c geometry is_new honest =
     let mid = g.S.Site.state c.loop-place.site in
     let r = c.loop-place.invariant.lives geometry is_new honest in
     let part = c.in_default-tell_life.ensures.part (stays_honest old mid c.loop-place.invariant.keeps.preserves honest) in
-    told_in_part geometry c.args.script.now c.loop-place.place old mid c.loop-place.inner c.live.new.inner r c.live.ensures.lives c.in-Some.life (sym c.in-Some.ensures.life) c.in-Some-live.status
+    told_in_part geometry c.args.pool c.args.script.now c.loop-place.place old mid c.loop-place.inner c.live.new.inner r c.live.ensures.lives c.in-Some.life (sym c.in-Some.ensures.life) c.in-Some-live.status
     (c.in-Some-live.ensures.life geometry r.before r.ready) (c.in-Some-live.ensures.lived geometry r.before r.ready) c.in-Some-live.ensures.status (g.S.Site.state c.tell_life.new.site) part.0 part.1
     (subst (λ (l : List ℕ). IsFront part.0 (l ++ life_line (c.loop-place.place + 1) c.in-Some-live.status)) c.told.ensures part.2)
 
@@ -60,7 +60,7 @@ returns-in_default-stop-clause-lives g c geometry is_new honest =
     let old = g.S.Site.state c.args.site.now in
     let mid = g.S.Site.state c.loop-place.site in
     let r = c.loop-place.invariant.lives geometry is_new honest in
-    told_last geometry c.args.script.now c.loop-place.place old mid c.loop-place.inner c.live.new.inner r c.live.ensures.lives c.in-Some.life (sym c.in-Some.ensures.life) c.in-Some-live.status
+    told_last geometry c.args.pool c.args.script.now c.loop-place.place old mid c.loop-place.inner c.live.new.inner r c.live.ensures.lives c.in-Some.life (sym c.in-Some.ensures.life) c.in-Some-live.status
     (c.in-Some-live.ensures.life geometry r.before r.ready) (c.in-Some-live.ensures.lived geometry r.before r.ready) c.in-Some-live.ensures.status (g.S.Site.state c.tell_life.new.site)
     (c.in-Ok.ensures.told (stays_honest old mid c.loop-place.invariant.keeps.preserves honest) ∙ ap (λ (l : List ℕ). mid.told ++ (l ++ life_line (c.loop-place.place + 1) c.in-Some-live.status)) c.told.ensures)
     c.in_default-stop.is

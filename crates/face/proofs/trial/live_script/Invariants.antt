@@ -16,5 +16,5 @@ invariant-loop-place g l =
       left : IsTrue old.honest → now.input ≡ old.input;
       faults : SameFaults old now;
       there : l.place < length (lives_of l.script);
-      lives : (geometry : Geometry) → IsNewSite geometry l.fn.inner → IsTrue old.honest → Reached geometry l.script l.place old now l.inner;
+      lives : (geometry : Geometry) → IsNewSite geometry l.fn.inner → IsTrue old.honest → Reached geometry l.fn.pool l.script l.place old now l.inner;
     }

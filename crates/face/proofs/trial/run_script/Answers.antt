@@ -19,5 +19,5 @@ returns-in-Ok-clause-lives g c geometry is_new honest =
     let mid = g.S.Site.state c.read_script.new.site in
     let new = g.S.Site.state c.live_script.new.site in
     let read = c.read_script.ensures in
-    subst (λ (s : List ℕ). Ends geometry s c.live_script.result.0 old new (numbers_of c.live_script.result.1)) (c.as_slice.ensures.value ∙ c.in-Ok.ensures.script honest)
-    (ends_since geometry c.as_slice.result.now c.live_script.result.0 old mid new (numbers_of c.live_script.result.1) (read.same honest).told (c.live_script.ensures.lives geometry is_new (stays_honest old mid read.preserves honest)))
+    subst (λ (s : List ℕ). Ends geometry c.args.pool s c.live_script.result.0 old new (numbers_of c.live_script.result.1)) (c.as_slice.ensures.value ∙ c.in-Ok.ensures.script honest)
+    (ends_since geometry c.args.pool c.as_slice.result.now c.live_script.result.0 old mid new (numbers_of c.live_script.result.1) (read.same honest).told (c.live_script.ensures.lives geometry is_new (stays_honest old mid read.preserves honest)))

@@ -20,8 +20,8 @@ returns-in-Err-clause-trial g c geometry is_new =
     let numbers = numbers_of c.run_script-lived.result.1 in
     record {
       lives = λ honest.
-          told_and_fault {T = Unit {0}} geometry old.input.left old mid new numbers c.status.result c.tell_halt.result work.keeps.preserves (stays_honest old mid work.keeps.preserves honest) c.in-Err.halt c.status.ensures
-          (subst (λ (r : Result (Unit {0}) Halt). Ends geometry old.input.left r old mid numbers) c.in-Err.is (work.lives geometry is_new honest))
+          told_and_fault {T = Unit {0}} geometry c.args.pool old.input.left old mid new numbers c.status.result c.tell_halt.result work.keeps.preserves (stays_honest old mid work.keeps.preserves honest) c.in-Err.halt c.status.ensures
+          (subst (λ (r : Result (Unit {0}) Halt). Ends geometry c.args.pool old.input.left r old mid numbers) c.in-Err.is (work.lives geometry is_new honest))
           (λ which. ap numbers_of (work.unbegun (⊎_elim (λ e. inl (c.in-Err.is ∙ ap Err e)) (λ e. inr (c.in-Err.is ∙ ap Err e)) which)) ∙ numbers_unbegun geometry c.args.inner is_new)
           c.tell_halt.ensures;
       causes = caused_by c.in-Err.halt c.status.result old mid new c.status.ensures (record {

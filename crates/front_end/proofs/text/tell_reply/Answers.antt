@@ -1,10 +1,10 @@
 use Rattle.std.proofs.Common.{inl, ◌≡◌, ◌+◌, ◌<◌, ◌++◌, [], List, ℕ, length, get_or, refl, sym, ◌∙◌, ap, subst, arith, append_assoc, add-one, length-append}
 use Rattle.std.proofs.lemmas.List.{append-nil}
 use Rattle.site.specs.Moments.{EachMoment}
-use Rattle.site.specs.Telling.{TellsPart}
+use Rattle.site.specs.Telling.{HandsRest, TellsPart}
 use Rattle.site.proofs.Laws.{stays_honest, goes_nowhere, no_call, goes_in_sequence, devices_in_sequence}
 use Rattle.shell_text.specs.Texts.{reply_text, reply_lines}
-use Rattle.front_end.specs.Tells.{HandsLines, HandsRest}
+use Rattle.front_end.specs.Tells.{HandsLines}
 use Rattle.front_end.proofs.Replies.{all_lines, first_of, line_more, lines_handed, piece_told, nothing_told}
 use Rattle.front_end.proofs.text.tell_reply.Goals as goal
 
@@ -51,7 +51,7 @@ loop-place-preserved g c =
       moments = λ honest.
           piece_told (first_of place lines) (get_or lines place []) more.0 (reply_text c.args.reply.now) old mid new more.1 (c.loop-place.invariant.same honest) (c.loop-place.invariant.told honest) (c.loop-place.invariant.moments honest)
           (subst (λ (t : List ℕ). EachMoment mid new (TellsPart t mid)) piece (c.tell_all.ensures.any_moment (stays_honest old mid c.loop-place.invariant.preserves honest)));
-      lines = λ honest. lines_handed lines place (get_or lines place []) old mid new more.2 (c.loop-place.invariant.told honest) (c.loop-place.invariant.lines honest)
+      lines = λ honest. lines_handed lines place old mid new (c.loop-place.invariant.told honest) (c.loop-place.invariant.lines honest)
           (subst (λ (t : List ℕ). EachMoment mid new (HandsRest t mid)) piece (c.tell_all.ensures.hands (stays_honest old mid c.loop-place.invariant.preserves honest)));
     }
 
@@ -78,7 +78,7 @@ returns-in-Err-clause-lines g c honest =
     let less : place < length lines = omega (arith, c.loop-place-test.true, c.line_count-place-end.ensures) in
     let more = line_more lines place less in
     let piece : c.as_slice.result.now ≡ get_or lines place [] = c.as_slice.ensures.value ∙ c.reply_line.ensures in
-    lines_handed lines place (get_or lines place []) old mid new more.2 (c.loop-place.invariant.told honest) (c.loop-place.invariant.lines honest)
+    lines_handed lines place old mid new (c.loop-place.invariant.told honest) (c.loop-place.invariant.lines honest)
     (subst (λ (t : List ℕ). EachMoment mid new (HandsRest t mid)) piece (c.tell_all.ensures.hands (stays_honest old mid c.loop-place.invariant.preserves honest)))
 
 pub returns-clause-tells_only : goal.returns-clause-tells_only

@@ -2,7 +2,7 @@ use Rattle.std.proofs.Common.{◌≡◌, ◌++◌, ◌-◌, ◌≤◌, length, t
 use Rattle.site.specs.Calls.{Preserves, SameReads}
 use Rattle.site.specs.Faults.{faults_in}
 use Rattle.site.specs.Moments.{EachMoment}
-use Rattle.site.specs.Telling.{TellsOnly, TellsPart, SameDevices}
+use Rattle.site.specs.Telling.{HandsRest, TellsOnly, TellsPart, SameDevices}
 use Rattle.site.proofs.telling.tell_all.Given as goal
 
 abbrev pub invariant-loop-at : goal.invariant-loop-at
@@ -18,6 +18,7 @@ invariant-loop-at g l =
       told : IsTrue old.honest → now.told ≡ old.told ++ take l.at l.piece;
       tells_only : IsTrue old.honest → TellsOnly l.at old now;
       any_moment : IsTrue old.honest → EachMoment old now (TellsPart l.piece old);
+      hands : IsTrue old.honest → EachMoment old now (HandsRest l.piece old);
     }
 
 abbrev pub decreases-loop-at : goal.decreases-loop-at

@@ -37,7 +37,7 @@ returns-in-Ok-Simulate-clause-simulate g c caches is_simulate =
 pub returns-in-Ok-Trial-clause-trial : goal.returns-in-Ok-Trial-clause-trial
 returns-in-Ok-Trial-clause-trial g c t is_trial =
     let found : IsTrial (words_of c.args.words.now) c.in-Ok-Trial.sizes = search rules in
-    subst (λ (x : TrialSizes). (numbers : List ℕ) × TrialContract x.geometry (g.S.Site.state c.args.site.now) (g.S.Site.state c.serve_trial.new.site) c.serve_trial.result numbers) (one_trial (words_of c.args.words.now) _ t found is_trial) c.serve_trial.ensures.trial
+    subst (λ (x : TrialSizes). (numbers : List ℕ) × TrialContract x.geometry x.pool (g.S.Site.state c.args.site.now) (g.S.Site.state c.serve_trial.new.site) c.serve_trial.result numbers) (one_trial (words_of c.args.words.now) _ t found is_trial) c.serve_trial.ensures.trial
 
 pub returns-in-Ok-Check-clause-check : goal.returns-in-Ok-Check-clause-check
 returns-in-Ok-Check-clause-check g c is_check = c.serve_check.ensures.check
