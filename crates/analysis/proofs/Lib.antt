@@ -1,10 +1,11 @@
-mod Lists
 mod Tables
+mod Maps
 mod Records
 mod Steps
 mod Starting
 mod Reading
 pub mod Nexts
+mod Orders
 pub mod Pending
 mod Unfinished
 mod Taking

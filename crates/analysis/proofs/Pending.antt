@@ -5,7 +5,7 @@ use Rattle.std.specs.Option.{option_or}
 use Rattle.std.specs.List.{AllByRecursion, list_any}
 use Rattle.std.proofs.lemmas.Bool.{cond-true, cond-false, eq-eqb, eqb-true, ne_eqb, and_parts}
 use Rattle.std.proofs.lemmas.Option.{none-some, same_Some}
-use Rattle.std_lemmas.proofs.AllOf.{all_both, all_filter_passed}
+use Rattle.std_lemmas.proofs.AllOf.{all_both, all_filter_passed, all_weaker}
 use Rattle.std.proofs.lemmas.List.Elements.{filter-append}
 use Rattle.log_records.specs.declared.log_record.LogRecord.{LogRecord}
 use Rattle.log_records.specs.declared.log_record.LogRecord.TheVariants.{Update, Clr}
@@ -13,6 +13,8 @@ use Rattle.log_records.specs.Log.{Entry, txn_of, is_of, is_update, is_closed, en
 use Rattle.log_records.specs.Unfinished.{left_open, open_by, open_updates, pending}
 use Rattle.log_records.specs.Sound.{Active, IsInOrder, is_known}
 use Rattle.analysis.specs.Open.{Open, found_in, IsTop, IsAtMost, IsNext}
+use Rattle.analysis.specs.Order.{BeginBelow}
+use Rattle.analysis.specs.Order as numbers
 use Rattle.analysis.specs.Read.{is_active, open_at, IsTable}
 use Rattle.analysis.proofs.Steps.{active_some}
 use Rattle.analysis.proofs.Nexts.{remains_is}
@@ -223,3 +225,66 @@ module _ (named : List Active) (records : List Entry) (table : List Open) (is : 
     next_is (Some n) next =
         let remains = remains_is table n.0 n.1 is.ascend next.0 in
         sym (one_pending n.0 n.1 remains.x remains.there remains.top next.1)
+
+-- The Updates that remain stand at LSNs of their own.
+
+begin_below : (n : ℕ) (us : List Entry) → Descend n us → BeginBelow n (map (λ (u : Entry). u.lsn) us)
+begin_below n [] h = tt
+begin_below n (u ∷ us) h = h.0
+
+lsns_descend : (n : ℕ) (us : List Entry) → Descend n us → numbers.Descend (map (λ (u : Entry). u.lsn) us)
+lsns_descend n [] h = tt
+lsns_descend n (u ∷ us) h = (begin_below u.lsn us h.1, lsns_descend u.lsn us h.1)
+
+all_front : (P : Entry → Type 0) (front : List Entry) (u : Entry) (back : List Entry) → AllByRecursion P front → P u → AllByRecursion P back → AllByRecursion P (front ++ u ∷ back)
+all_front P [] u back a p b = (p, b)
+all_front P (x ∷ front) u back a p b = (a.0, all_front P front u back a.1 p b)
+
+lower_all : (from to : ℕ) (front : List Entry) (u : Entry) (back : List Entry) → IsInOrder from (front ++ u ∷ back) to → AllByRecursion (λ x. x.lsn < u.lsn) front × (from ≤ u.lsn)
+lower_all from to [] u back order = (tt, order.0)
+lower_all from to (x ∷ front) u back order =
+    let rest = lower_all (x.lsn + 1) to front u back order.1 in
+    let far = rest.1 in
+    let low = order.0 in
+    ((omega (arith, far), rest.0), omega (arith, far, low))
+
+one_at : (from to : ℕ) (records : List Entry) → IsInOrder from records to → (u v : Entry) → IsIn records u → IsIn records v → u.lsn ≡ v.lsn → v ≡ u
+one_at from to records order u v here there same =
+    let ordered = subst (λ (l : List Entry). IsInOrder from l to) here.is order in
+    let all = all_front (λ x. x.lsn ≡ u.lsn → x ≡ u) here.front u here.back
+    (all_weaker (λ x. x.lsn < u.lsn) (λ x. x.lsn ≡ u.lsn → x ≡ u) (λ x less e. absurd (omega (arith, less, e))) here.front (lower_all from to here.front u here.back ordered).0)
+    (λ e. refl)
+    (all_weaker (λ x. u.lsn < x.lsn) (λ x. x.lsn ≡ u.lsn → x ≡ u) (λ x less e. absurd (omega (arith, less, e))) here.back (order_back from to here.front u here.back ordered)) in
+    (all_right (λ x. x.lsn ≡ u.lsn → x ≡ u) there.front (v ∷ there.back) (subst (AllByRecursion (λ x. x.lsn ≡ u.lsn → x ≡ u)) (sym here.is ∙ there.is) all)).0 (sym same)
+
+record IsLeftAt (records : List Entry) (t n : ℕ) : Type 0 where
+  u : Entry
+  stands : IsIn records u
+  own : txn_of u ≡ t
+  at : u.lsn ≡ n
+
+left_at : (records : List Entry) (t n : ℕ) → list_any (λ m. m == n) (map (λ (u : Entry). u.lsn) (left_open records t)) ≡ true → IsLeftAt records t n
+left_at records t n any = by (left_open records t)
+    (open_all (λ e. IsIn records e × (is_of t e ≡ true)) (λ e. IsIn records e × (is_of t e ≡ true)) (λ e p update. p) [] (entries_of t records) (all_filter_passed (IsIn records) (is_of t) records (all_in records [] records refl)) tt) any
+  where
+    by : (us : List Entry) → AllByRecursion (λ e. IsIn records e × (is_of t e ≡ true)) us → list_any (λ m. m == n) (map (λ (u : Entry). u.lsn) us) ≡ true → IsLeftAt records t n
+    by [] all any = absurd (true≢false (sym any))
+    by (u ∷ us) all any = or (u.lsn == n) refl (by us all.1)
+      where
+        or : (b : Bool) → (u.lsn == n) ≡ b → (list_any (λ m. m == n) (map (λ (v : Entry). v.lsn) us) ≡ true → IsLeftAt records t n) → IsLeftAt records t n
+        or true here rest = record { u = u; stands = all.0.0; own = eqb-true (txn_of u) t all.0.1; at = eqb-true u.lsn n here }
+        or false other rest = rest (sym (ap (λ b. b || list_any (λ m. m == n) (map (λ (v : Entry). v.lsn) us)) other) ∙ any)
+
+module _ (named : List Active) (records : List Entry) (table : List Open) (is : IsTable named records table) (from to : ℕ) (order : IsInOrder from records to) where
+  open_updates_of : (t : ℕ) (x : Open) → found_in table t ≡ Some x → x.updates ≡ map (λ (u : Entry). u.lsn) (left_open records t)
+  open_updates_of t x found = ap (λ (o : Open). o.updates) (sym (active_some named records t x (sym (is.says t) ∙ found)).1)
+
+  pub updates_descend : (t : ℕ) (x : Open) → found_in table t ≡ Some x → numbers.Descend x.updates
+  updates_descend t x found =
+      subst numbers.Descend (sym (open_updates_of t x found)) (lsns_descend to (left_open records t) (descend_open from to [] (entries_of t records) tt (order_filter (is_of t) from to records order)))
+
+  pub updates_apart : (s t n : ℕ) (x y : Open) → found_in table s ≡ Some x → found_in table t ≡ Some y → list_any (λ m. m == n) x.updates ≡ true → list_any (λ m. m == n) y.updates ≡ true → s ≡ t
+  updates_apart s t n x y first second one other =
+      let a = left_at records s n (ap (list_any (λ m. m == n)) (sym (open_updates_of s x first)) ∙ one) in
+      let b = left_at records t n (ap (list_any (λ m. m == n)) (sym (open_updates_of t y second)) ∙ other) in
+      sym a.own ∙ ap txn_of (sym (one_at from to records order a.u b.u a.stands b.stands (a.at ∙ sym b.at))) ∙ b.own

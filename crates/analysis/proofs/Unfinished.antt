@@ -1,45 +1,18 @@
 -- One list of the active transactions, and that it is the list of the unfinished ones.
 use Rattle.std.proofs.lemmas.Grind.{common_steps}
-use Rattle.std.proofs.Common.{◌≡◌, ◌≢◌, ◌⊎◌, inl, inr, ℕ, ◌+◌, ◌<◌, ◌==◌, ◌&&◌, not, Bool, true, cond, List, [], ◌∷◌, map, Some, None, refl, sym, ap, subst, ◌∙◌, arith}
+use Rattle.std.proofs.Common.{◌≡◌, ℕ, ◌+◌, ◌==◌, ◌&&◌, not, Bool, true, cond, List, [], ◌∷◌, map, Some, None, refl, sym, ap, ◌∙◌, arith}
 use Rattle.std.specs.Prelude.{filter, fold}
 use Rattle.std.proofs.lemmas.List.{length-map}
 use Rattle.std.specs.List.{list_any}
-use Rattle.std.proofs.lemmas.Bool.{cases_eq, cases_lt, eqb-true}
-use Rattle.std.proofs.lemmas.Option.{none-some, same_Some}
+use Rattle.std.proofs.lemmas.Bool.{eqb-true}
 use Rattle.log_records.specs.Log.{Entry, is_closed}
 use Rattle.log_records.specs.Unfinished.{is_begin, losers, owed_by}
 use Rattle.log_records.specs.Sound.{Active, IsInOrder, is_known}
-use Rattle.analysis.specs.Open.{Open, found_in, AscendFrom, owed_one}
+use Rattle.analysis.specs.Open.{found_in, AscendFrom, owed_one}
 use Rattle.analysis.specs.Read.{open_at}
 use Rattle.analysis.specs.Laws.{has_begun, HaveBegun, OneTable, ActiveIsUnfinished, TableOfUnfinished, OwedOfUnfinished}
-use Rattle.analysis.proofs.Tables.{found_here, found_later, found_below, ascend_lower}
+use Rattle.analysis.proofs.Tables.{ascend_lower, same_tables}
 use Rattle.analysis.proofs.Pending.{order_filter}
-
--- Two lists that ascend and say the same.
-
-same_tables : (n : ℕ) (a b : List Open) → AscendFrom n a → AscendFrom n b → ((t : ℕ) → found_in a t ≡ found_in b t) → a ≡ b
-same_tables n [] [] p q same = refl
-same_tables n [] (y ∷ b) p q same = absurd (none-some y (same y.txn ∙ found_here y b y.txn refl))
-same_tables n (x ∷ a) [] p q same = absurd (none-some x (sym (same x.txn) ∙ found_here x a x.txn refl))
-same_tables n (x ∷ a) (y ∷ b) p q same = by (cases_eq x.txn y.txn) (same_tables (x.txn + 1) a b p.1)
-  where
-    below : (u v : Open) (l m : List Open) → u.txn < v.txn → AscendFrom (v.txn + 1) m → found_in (u ∷ l) u.txn ≡ found_in (v ∷ m) u.txn → ⊥
-    below u v l m less ascend is =
-        none-some u (sym (found_later v m u.txn (λ e. omega (arith, less, e)) ∙ found_below (v.txn + 1) m u.txn ascend (omega (arith, less))) ∙ sym is ∙ found_here u l u.txn refl)
-
-    later : (t : ℕ) → AscendFrom (x.txn + 1) b → x.txn ≡ y.txn → (x.txn ≡ t) ⊎ (x.txn ≢ t) → found_in a t ≡ found_in b t
-    later t behind e (inl here) = found_below (x.txn + 1) a t p.1 (omega (arith, here)) ∙ sym (found_below (x.txn + 1) b t behind (omega (arith, here)))
-    later t behind e (inr ne) = sym (found_later x a t ne) ∙ same t ∙ found_later y b t (λ h. ne (e ∙ h))
-
-    by : (x.txn ≡ y.txn) ⊎ (x.txn ≢ y.txn) → (AscendFrom (x.txn + 1) b → ((t : ℕ) → found_in a t ≡ found_in b t) → a ≡ b) → x ∷ a ≡ y ∷ b
-    by (inl e) rest =
-        let first : x ≡ y = same_Some x y (sym (found_here x a x.txn refl) ∙ same x.txn ∙ found_here y b x.txn (sym e)) in
-        let behind : AscendFrom (x.txn + 1) b = subst (λ n. AscendFrom (n + 1) b) (sym e) q.1 in
-        ap (λ (z : Open). z ∷ a) first ∙ ap (λ (l : List Open). y ∷ l) (rest behind (λ t. later t behind e (cases_eq x.txn t)))
-    by (inr ne) rest = elim (cases_lt x.txn y.txn) [
-      | inl less ↦ absurd (below x y a b less q.1 (same x.txn))
-      | inr le ↦ absurd (below y x b a (omega (arith, le, ne)) p.1 (sym (same y.txn)))
-    ]
 
 pub one_table : OneTable
 one_table named records a b first second = same_tables 0 a b first.ascend second.ascend (λ t. first.says t ∙ sym (second.says t))

@@ -1,6 +1,6 @@
 -- Active transactions, as a list of what is known of each.
-use Rattle.std.specs.Prelude.{◌≡◌, ◌≢◌, ◌⊎◌, ℕ, ◌+◌, ◌≤◌, ◌<◌, ◌==◌, length, List, [], ◌∷◌, ◌++◌, find, sum_by, Option}
-use Rattle.std.specs.Prelude.{Some, None}
+use Rattle.std.specs.Prelude.{◌≡◌, ◌≢◌, ◌⊎◌, ℕ, ◌+◌, ◌≤◌, ◌<◌, ◌==◌, nat_eq, Bool, if◌then◌else◌, length, drop}
+use Rattle.std.specs.Prelude.{List, [], ◌∷◌, ◌++◌, find, sum_by, Option, Some, None}
 use Rattle.std.specs.List.{AllByRecursion}
 
 -- a transaction, the LSN of its last record, and those of its Updates that no CLR compensates, the greatest first
@@ -75,6 +75,26 @@ pub record HasLeft (table : List Open) (t : ℕ) : Type 0 where
   pub x : Open
   pub there : found_in table t ≡ Some x
   pub some : 0 < length x.updates
+
+-- no Update of a transaction remains
+abbrev pub none_remains : Open → Bool
+none_remains x = nat_eq (length x.updates) 0
+
+-- the Updates that remain of a transaction, the greatest first
+abbrev pub updates_of : Option Open → List ℕ
+updates_of None = []
+updates_of (Some x) = x.updates
+
+abbrev pub left_in : List Open → ℕ → List ℕ
+left_in table t = updates_of (found_in table t)
+
+-- of each transaction the same Updates remain
+abbrev pub LeavesSame : List Open → List Open → Type 0
+LeavesSame old new = (s : ℕ) → left_in new s ≡ left_in old s
+
+-- of one transaction the greatest Update doesn't remain any more, and of others the same ones remain
+abbrev pub DropsOne : List Open → List Open → ℕ → Type 0
+DropsOne old new t = (s : ℕ) → left_in new s ≡ (if s == t then drop 1 (left_in old s) else left_in old s)
 
 -- one of these transactions has the Update at an LSN as its greatest
 abbrev pub OneHas : List Open → ℕ → ℕ → Type 0

@@ -1,7 +1,7 @@
 -- What a restart hands to analysis of a sound log.
-use Rattle.std.specs.Prelude.{◌≡◌, ℕ, ◌+◌, ◌*◌, ◌≤◌, ◌==◌, ◌||◌, Bool, true, false, nat_le, List, [], ◌∷◌, ◌++◌, length}
+use Rattle.std.specs.Prelude.{◌≡◌, ℕ, ◌+◌, ◌*◌, ◌==◌, ◌||◌, Bool, true, false, nat_le, List, [], ◌∷◌, ◌++◌, length}
 use Rattle.std.specs.Prelude.{map, filter}
-use Rattle.std.specs.List.{list_any, AllByRecursion}
+use Rattle.std.specs.List.{list_any}
 use Rattle.log_records.specs.Log.{Entry, txn_of, entries_of, is_loser}
 use Rattle.log_records.specs.Unfinished.{is_begin, losers, pending}
 use Rattle.log_records.specs.Sound.{Active, Master, LogicalImage, IsSound, IsInOrder, commit_numbers, commit_count}

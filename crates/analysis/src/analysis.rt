@@ -1,22 +1,23 @@
 // Analysis, record by record.
 ghost use Rattle.std.specs.Prelude.{◌≡◌, ◌⊎◌, ◌↔◌, ◌+◌, ◌-◌, ◌^◌, ◌<◌, ◌≤◌, min, ℕ, List, [], ◌∷◌, ◌++◌, length, map};
-ghost use Rattle.std.specs.Prelude.{drop, true, false, slice_get, IfOk, OnOk, OnErr, IfErr, IsErrOf, IsSome, IfSome};
-ghost use Rattle.std.specs.Prelude.{IfNone, option_map, Some, None, ◌||◌};
-ghost use Rattle.std.specs.List.{AllByRecursion};
+ghost use Rattle.std.specs.Prelude.{drop, filter, true, false, IfOk, OnOk, OnErr, IfErr, IsErrOf, IsSome, IfSome};
+ghost use Rattle.std.specs.Prelude.{option_map};
 ghost use Rattle.site.specs.declared.outside.Stop.{Stop};
 ghost use Rattle.record_model.specs.State.{Content};
 ghost use Rattle.log_records.specs.declared.log_record.LogRecord.TheVariants.{Clr, End};
-ghost use Rattle.log_records.specs.Log.{Entry, txn_by, txn_of, last_where, is_closed, entries_of};
-ghost use Rattle.log_records.specs.Unfinished.{is_begin, pending};
+ghost use Rattle.log_records.specs.Log.{Entry, txn_by};
+ghost use Rattle.log_records.specs.Unfinished.{is_begin};
 ghost use Rattle.log_records.specs.Sound as sound;
-ghost use Rattle.log_records.specs.Sound.{Active, IsInOrder, commit_numbers, is_known};
+ghost use Rattle.log_records.specs.Sound.{Active, IsInOrder, commit_numbers};
 ghost use Rattle.checkpoint.specs.Actives.{Ascend};
 ghost use Rattle.checkpoint.specs.Newest.{seen};
-ghost use Rattle.analysis.specs.Open.{Open, found_in, Replaces, TakesOut, Remains, HasLeft, owed_for};
-ghost use Rattle.analysis.specs.Table.{listed};
+ghost use Rattle.analysis.specs.Open.{found_in, Replaces, TakesOut, HasLeft, none_remains, owed_for};
+ghost use Rattle.analysis.specs.Order.{IsOrder};
+ghost use Rattle.analysis.specs.Table.{open_of, listed};
 ghost use Rattle.analysis.specs.Read.{is_active, loser_of, IsTable, Invariant, IsAnalysis, IsLoser, MayCome};
 
-use crate::table::Table;
+use crate::order::Order;
+use crate::table::{Table, Transaction};
 use checkpoint::Master;
 use log_records::LogRecord;
 use site::Stop;
@@ -41,6 +42,21 @@ pub struct Analysis {
     table: Table,
     commits: u64,
     ended: bool,
+}
+
+// Notes a transaction of which no Update remains.
+fn note_undone(txns: &mut Vec<u64>, txn: u64, transaction: &Transaction) -> Result<(), Stop>
+    ensures noted { OnOk result (txns.new.items ≡ txns.old.items
+        ++ map (λ x. x.txn) (filter none_remains (open_of (txn, transaction.now) ∷ []))) }
+    ensures stops { IfErr result (λ stop. stop ≡ Stop.Memory) }
+{
+    if !transaction.updates.is_empty() {
+        return Ok(());
+    }
+    let Ok(()) = txns.push(txn) else {
+        return Err(Stop::Memory);
+    };
+    Ok(())
 }
 
 impl Analysis {
@@ -112,26 +128,16 @@ impl Analysis {
     {
         match rec {
             LogRecord::Begin => self.table.begin(self.alloc, lsn),
-            LogRecord::Update { txn, .. } => {
-                let place = self.table.place_of(*txn)?;
-                self.table.update(place, lsn)
-            }
-            LogRecord::Clr { txn, .. } => {
-                let place = self.table.place_of(*txn)?;
-                self.table.compensate(place, lsn);
-                Ok(())
-            }
+            LogRecord::Update { txn, .. } => self.table.update(*txn, lsn),
+            LogRecord::Clr { txn, .. } => self.table.compensate(*txn, lsn),
             LogRecord::Commit { txn, .. } => {
-                let place = self.table.place_of(*txn)?;
-                self.table.close(place);
+                let Ok(()) = self.table.close(*txn) else {
+                    return Err(Stop::Foreign);
+                };
                 self.commits = self.commits.saturating_add(1);
                 Ok(())
             }
-            LogRecord::End { txn } => {
-                let place = self.table.place_of(*txn)?;
-                self.table.close(place);
-                Ok(())
-            }
+            LogRecord::End { txn } => self.table.close(*txn),
         }
     }
 
@@ -142,44 +148,66 @@ impl Analysis {
         self.table.transactions.len()
     }
 
-    /// The active transaction at a place, counted from 0, by ascending transaction.
-    pub fn loser(&self, place: usize) -> Loser
-        requires going { Invariant self.now }
-        requires inside { place < length (listed self.now.table) }
-        ensures loser { slice_get (map loser_of (listed self.now.table)) place ≡ Some result }
-        ensures found { (x : Open) × (found_in (listed self.now.table) result.txn ≡ Some x) × (result ≡ loser_of x) }
-        ensures active { IsSome (found_in (listed self.now.table) result.txn) }
+    /// An active transaction by the LSN of its Begin.
+    pub fn loser(&self, txn: u64) -> Option<Loser>
+        ensures loser { result ≡ option_map loser_of (found_in (listed self.now.table) txn) }
+        ensures active { IfSome result (λ loser. IsSome (found_in (listed self.now.table) txn)) }
         ensures of_records { (m : sound.Master) (records : List Entry) → IsAnalysis m records self.now
-            → IsLoser m.active records result }
+            → IfSome result (IsLoser m.active records) }
     {
-        let transaction = &self.table.transactions[place];
-        Loser {
-            txn: transaction.txn,
+        let Some(transaction) = self.table.transactions.get(&txn) else {
+            return None;
+        };
+        Some(Loser {
+            txn,
             last: transaction.last,
             remaining: transaction.updates.len() as u64,
-        }
+        })
     }
 
-    /// The transaction and the LSN of the greatest Update of an active transaction that no CLR compensates.
-    pub fn next_undo(&self) -> Option<(u64, u64)>
-        requires { Invariant self.now }
-        ensures remains { IfSome result (λ next. Remains (listed self.now.table) next.0 next.1) }
-        ensures left { IfSome result (λ next. HasLeft (listed self.now.table) next.0) }
-        ensures none { IfNone result (AllByRecursion (λ x. x.updates ≡ []) (listed self.now.table)) }
-        ensures of_records { (m : sound.Master) (records : List Entry) (from to : ℕ) → IsAnalysis m records self.now
-            → IsInOrder from records to
-            → result ≡ option_map (λ u. record { 0 = txn_of u; 1 = u.lsn }) (last_where (λ u. true) (pending records)) }
-        ensures of_table { (named : List Active) (records : List Entry) (from to : ℕ)
-            → IsTable named records (listed self.now.table)
-            → ((t : ℕ) → (is_known named records t || is_closed records t) ≡ false → entries_of t records ≡ [])
-            → IsInOrder from records to
-            → result ≡ option_map (λ u. record { 0 = txn_of u; 1 = u.lsn }) (last_where (λ u. true) (pending records)) }
+    /// What undoing all active transactions logs: a CLR for each Update that remains, and an End for each of them.
+    pub fn owed(&self) -> u64
+        requires bounded { owed_for (listed self.now.table) ≤ 2 ^ 41 }
+        ensures { result ≡ owed_for (listed self.now.table) }
     {
-        let mut next: Option<(u64, u64)> = None;
-        for transaction in self.table.transactions.as_slice() {
-            next = transaction.later(next);
+        let mut sum = 0;
+        for transaction in self.table.transactions.values() {
+            sum += transaction.updates.len() as u64 + 1;
         }
-        next
+        sum
+    }
+
+    /// The active transactions of which no Update remains, by ascending LSN of their Begins.
+    pub fn undone(&self) -> Result<Vec<u64>, Stop>
+        ensures undone { IfOk result (λ txns. txns.items
+            ≡ map (λ x. x.txn) (filter none_remains (listed self.now.table))) }
+        ensures stops { IfErr result (λ stop. stop ≡ Stop.Memory) }
+    {
+        let mut txns = Vec::new(self.alloc);
+        for (txn, transaction) in &self.table.transactions {
+            note_undone(&mut txns, *txn, transaction)?;
+        }
+        Ok(txns)
+    }
+
+    /// All Updates of active transactions that no CLR compensates, in order. Where those of a transaction don't stand
+    /// at rising LSNs, or two stand at one, it answers Foreign; of records in order that doesn't come.
+    pub fn order(&self) -> Result<Order, Stop>
+        requires { Invariant self.now }
+        ensures order { IfOk result (λ order. IsOrder order (listed self.now.table)) }
+        ensures readable { (named : List Active) (records : List Entry) (from to : ℕ)
+            → IsTable named records (listed self.now.table) → IsInOrder from records to
+            → IsErrOf result Stop.Foreign → ⊥ }
+        ensures stops { IfErr result (λ stop. (stop ≡ Stop.Memory) ⊎ (stop ≡ Stop.Foreign)) }
+    {
+        let mut order = Order::new(self.alloc);
+        for (txn, transaction) in &self.table.transactions {
+            match order.add_all(*txn, &transaction.updates) {
+                Ok(()) => {}
+                Err(stop) => return Err(stop),
+            }
+        }
+        Ok(order)
     }
 
     /// The commits of the master and of the records, at most 2^64 - 1.
@@ -210,10 +238,9 @@ impl Analysis {
             (listed self.new.table) }
         ensures rest { self.new ≡ record self.old { table = self.new.table } }
     {
-        let Ok(place) = self.table.place_of(txn) else {
+        let Ok(()) = self.table.compensate(txn, last) else {
             unreachable!()
         };
-        self.table.compensate(place, last);
     }
 
     /// An active transaction has come to its End.
@@ -231,10 +258,9 @@ impl Analysis {
             → IsTable named (records ++ record { lsn = lsn; rec = End txn } ∷ []) (listed self.new.table) }
         ensures rest { self.new ≡ record self.old { table = self.new.table } }
     {
-        let Ok(place) = self.table.place_of(txn) else {
+        let Ok(()) = self.table.close(txn) else {
             unreachable!()
         };
-        self.table.close(place);
     }
 
     /// Whether `step` gave an error. No further call is lawful then, though each stays safe.

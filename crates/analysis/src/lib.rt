@@ -4,7 +4,9 @@
 
 mod analysis;
 mod laws;
+mod order;
 mod table;
 
 pub use analysis::{Analysis, Loser};
 pub use laws::{losers_are_taken, sound_log_steps, table_of_records};
+pub use order::Order;

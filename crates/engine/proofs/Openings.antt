@@ -4,10 +4,7 @@ use Rattle.image_meaning.proofs.Reading.{spelled_again, each_has}
 use Rattle.sealed_ring.proofs.Alters.{length-units}
 use Rattle.std.proofs.Common.{Option, ◌≡◌, zero, suc, ◌+◌, ◌-◌, min, List, [], ◌∷◌, length, map, take, None, Some, refl, sym, ap, subst, ◌∙◌, arith, ℕ}
 use Rattle.std.specs.Prelude.{if◌then◌else◌}
-use Rattle.std.specs.List.{slice_get}
-use Rattle.std.proofs.lemmas.Option.{none-some, same_Some}
 use Rattle.std.proofs.Math.Nat.{min-le_left}
-use Rattle.std.proofs.lemmas.List.Sums.{sum_by-cons}
 use Rattle.site.specs.declared.geometry.Geometry.{Geometry}
 use Rattle.site.specs.State.{State, Image, IsQuiet}
 use Rattle.site.specs.Calls.{Preserves, IsUnchanged}
@@ -22,9 +19,6 @@ use Rattle.log_records.specs.declared.log_record.LogRecord.{LogRecord}
 use Rattle.log_records.specs.Sound.{Means}
 use Rattle.checkpoint.specs.declared.master.Master.{Master}
 use Rattle.checkpoint.specs.Newest.{blank, newest_of, IsOf, HasMaster}
-use Rattle.analysis.specs.declared.analysis.Loser.{Loser}
-use Rattle.analysis.specs.Open.{Open, owed_one, owed_for}
-use Rattle.analysis.specs.Read.{loser_of}
 use Rattle.frame_group.specs.Groups.{frames_in}
 use Rattle.flash_cache.specs.Representation.{HasGroups, groups_on}
 use Rattle.log_store.specs.declared.store.LogStore.{LogStore}
@@ -130,19 +124,6 @@ module _ (g : Geometry) (log : LogStore) (pages : PageStore) (a b c d : State) (
           empty = empty;
         };
       }
-
--- What undo owes.
-
-pub owed_more : (table : List Open) (place : ℕ) (loser : Loser) → slice_get (map loser_of table) place ≡ Some loser → owed_for (take (suc place) table) ≡ owed_for (take place table) + (loser.remaining + 1)
-owed_more [] place loser is = absurd (none-some loser is)
-owed_more (x ∷ table) zero loser is =
-    let same : loser_of x ≡ loser = same_Some (loser_of x) loser is in
-    let remaining : length x.updates ≡ loser.remaining = ap (λ (l : Loser). l.remaining) same in
-    omega (arith, remaining, sum_by-cons owed_one x [])
-owed_more (x ∷ table) (suc place) loser is =
-    let more : owed_for (take (suc (suc place)) (x ∷ table)) ≡ owed_one x + owed_for (take (suc place) table) = sum_by-cons owed_one x (take (suc place) table) in
-    let before : owed_for (take (suc place) (x ∷ table)) ≡ owed_one x + owed_for (take place table) = sum_by-cons owed_one x (take place table) in
-    omega (arith, owed_more table place loser is, more, before)
 
 -- Results.
 

@@ -12,9 +12,6 @@ ghost use Rattle.log_records.specs.declared.log_record.LogRecord.{LogRecord};
 ghost use Rattle.log_records.specs.Sound.{Means};
 ghost use Rattle.log_store.specs.Representation as log_store;
 ghost use Rattle.checkpoint.specs.declared.master.Master.{Master};
-ghost use Rattle.analysis.specs.Open.{owed_for};
-ghost use Rattle.analysis.specs.Table.{listed};
-ghost use Rattle.analysis.specs.Read as analysis;
 ghost use Rattle.page_store.specs.Stopping.{MayStop};
 ghost use Rattle.image_meaning.specs.Meaning.{logical_image_under};
 ghost use Rattle.engine.specs.Invariant.{sizes_of};
@@ -34,7 +31,7 @@ ghost use Rattle.engine.specs.RingWork.{PerformsFrom, found_machine, machine_on}
 ghost use Rattle.second_chance.specs.Machine.{rules_of};
 ghost use Rattle.engine.specs.Paging.{HasLastFrom, WritesFrom};
 
-use analysis::{Analysis, losers_are_taken, table_of_records};
+use analysis::{losers_are_taken, table_of_records};
 use checkpoint::{Master, Pairs, newest, one_master};
 use log_store::LogStore;
 use page_store::PageStore;
@@ -166,19 +163,6 @@ fn open<S: Site>(
     }
 }
 
-// What undoing all unfinished transactions takes: a record for each Update that isn't compensated, and an End for each.
-fn owed(found: &Analysis) -> u64
-    requires going { analysis.Invariant found.now }
-    requires bounded { owed_for (listed found.now.table) ≤ 2 ^ 41 }
-    ensures { result ≡ owed_for (listed found.now.table) }
-{
-    let mut sum = 0;
-    for place in 0..found.losers() {
-        sum += found.loser(place).remaining + 1;
-    }
-    sum
-}
-
 // Redoes what the pages lack, undoes all that is unfinished, and makes a checkpoint.
 fn recover<S: Site>(alloc: Global, site: &mut S, opened: Opened) -> Result<Restarted, Stop>
     requires may { MayRecover opened (S.state site.old) }
@@ -215,7 +199,7 @@ fn recover<S: Site>(alloc: Global, site: &mut S, opened: Opened) -> Result<Resta
         Err(stop) => return Err(stop),
     };
     let (mut found, records) = (redone.found, redone.records);
-    let owed = owed(&found);
+    let owed = found.owed();
     let blocks = log.geometry().blocks;
     if log.sealed_end() / 512 + owed >= log.kept() + blocks as u64 {
         return Err(Stop::Foreign);

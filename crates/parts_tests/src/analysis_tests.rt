@@ -1,5 +1,8 @@
 // Logs read record by record. What is expected was worked out by hand. A test is a table of rows, which one function
 // plays.
+ghost use Rattle.std.specs.Prelude.{IfSome};
+ghost use Rattle.analysis.specs.Open.{HasLeft};
+ghost use Rattle.analysis.specs.Table.{listed};
 ghost use Rattle.analysis.specs.Read.{Invariant};
 
 use analysis::{Analysis, Loser};
@@ -23,14 +26,14 @@ enum Step {
     // This Update is to be undone next, of this transaction; or none.
     Next(u64, u64),
     Undone,
-    // That Update is compensated by a record with this LSN; the first loser's End comes.
+    // That Update is compensated by a record with this LSN; the End of a transaction comes.
     Compensate(u64),
-    Finish,
+    Finish(u64),
     // So many commits and losers are known.
     Counts(u64, usize),
-    // The first loser, or that there is none.
-    First(Loser),
-    None,
+    // A loser, or that this transaction is none.
+    Loser(Loser),
+    Gone(u64),
     // The analysis has ended.
     Ended,
 }
@@ -72,35 +75,38 @@ fn read(analysis: &mut Analysis, step: Step) -> Result<(), Stop>
     analysis.step(lsn, &record)
 }
 
+// The Update that is undone next, with its transaction.
+fn next_of(analysis: &Analysis) -> Option<(u64, u64)>
+    requires { Invariant analysis.now }
+    ensures { IfSome result (λ next. HasLeft (listed analysis.now.table) next.0) }
+{
+    match analysis.order() {
+        Ok(order) => {
+            let mut updates = order;
+            updates.take_last()
+        }
+        Err(_) => None,
+    }
+}
+
 // Compensates the next Update.
 fn compensate(analysis: &mut Analysis, last: u64)
     requires { Invariant analysis.old }
     ensures { Invariant analysis.new }
 {
-    if let Some((txn, lsn)) = analysis.next_undo() {
+    if let Some((txn, lsn)) = next_of(analysis) {
         analysis.compensated(txn, lsn - lsn % 2, last);
     }
 }
 
-// Ends the first loser.
-fn finish(analysis: &mut Analysis)
+// Ends a loser.
+fn finish(analysis: &mut Analysis, txn: u64)
     requires { Invariant analysis.old }
     ensures { Invariant analysis.new }
 {
-    if analysis.losers() > 0 {
-        let loser = analysis.loser(0);
-        analysis.finished(loser.txn);
+    if let Some(_) = analysis.loser(txn) {
+        analysis.finished(txn);
     }
-}
-
-// The loser at the front.
-fn first_of(analysis: &Analysis) -> Option<Loser>
-    requires { Invariant analysis.now }
-{
-    if analysis.losers() == 0 {
-        return None;
-    }
-    Some(analysis.loser(0))
 }
 
 // Whether a row holds that only looks.
@@ -108,12 +114,12 @@ fn shows(analysis: &Analysis, step: Step) -> bool
     requires { Invariant analysis.now }
 {
     match step {
-        Step::Next(txn, lsn) => analysis.next_undo() == Some((txn, lsn)),
-        Step::Undone => analysis.next_undo().is_none(),
+        Step::Next(txn, lsn) => next_of(analysis) == Some((txn, lsn)),
+        Step::Undone => next_of(analysis).is_none(),
         Step::Counts(commits, losers) => analysis.commits() == commits
             && analysis.losers() == losers,
-        Step::First(loser) => first_of(analysis) == Some(loser),
-        Step::None => first_of(analysis).is_none(),
+        Step::Loser(loser) => analysis.loser(loser.txn) == Some(loser),
+        Step::Gone(txn) => analysis.loser(txn).is_none(),
         Step::Ended => analysis.ended(),
         _ => true,
     }
@@ -129,8 +135,8 @@ fn holds(analysis: &mut Analysis, step: Step) -> bool
             compensate(analysis, last);
             true
         }
-        Step::Finish => {
-            finish(analysis);
+        Step::Finish(txn) => {
+            finish(analysis, txn);
             true
         }
         Step::Stray(..) => read(analysis, step) == Err(Stop::Foreign),
@@ -220,14 +226,14 @@ const LOSER: &[Step] = &[
     Step::Update(3, 2, 2),
     Step::Update(30, 2, 3),
     Step::Clr(514, 2, 30, 3),
-    Step::First(Loser {
+    Step::Loser(Loser {
         txn: 2,
         last: 514,
         remaining: 1,
     }),
     Step::Next(2, 3),
-    Step::Finish,
-    Step::None,
+    Step::Finish(2),
+    Step::Gone(2),
     Step::Counts(0, 0),
 ];
 
@@ -253,5 +259,46 @@ fn steps_hold(rt: HostRuntime) -> Result<(), Fail> {
         let held = play(&rt, rows)?;
         assert!(rt; held == rows.len(), "{name}: row {held}");
     }
+    Ok(())
+}
+
+// So many transactions begin, each of which has one Update, all behind the last Begin.
+fn begin_all(analysis: &mut Analysis, count: u64) -> Result<(), Stop>
+    requires { Invariant analysis.old }
+    ensures { Invariant analysis.new }
+{
+    for txn in 0..count {
+        analysis.step(txn, &LogRecord::Begin)?;
+    }
+    for txn in 0..count {
+        read(analysis, Step::Update(count.saturating_add(txn), txn, txn))?;
+    }
+    Ok(())
+}
+
+// Undoes them, and answers how many Updates came at falling LSNs.
+fn undo_each(analysis: &mut Analysis, count: u64) -> Result<u64, Stop>
+    requires { Invariant analysis.old }
+    ensures { Invariant analysis.new }
+{
+    let mut order = analysis.order()?;
+    let mut falling = 0u64;
+    for turn in 0..count {
+        let wanted = count - 1 - turn;
+        if order.take_last() == Some((wanted, count.saturating_add(wanted))) {
+            falling = falling.saturating_add(1);
+        }
+        finish(analysis, wanted);
+    }
+    Ok(falling)
+}
+
+#[test]
+fn many_transactions_are_undone_in_order(rt: HostRuntime) -> Result<(), Fail> {
+    let mut analysis = Analysis::start(rt.alloc(), &Master::blank())?;
+    begin_all(&mut analysis, 100_000)?;
+    assert!(rt; analysis.losers() == 100_000);
+    assert!(rt; undo_each(&mut analysis, 100_000)? == 100_000);
+    assert!(rt; analysis.losers() == 0);
     Ok(())
 }

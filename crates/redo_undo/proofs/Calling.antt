@@ -178,6 +178,23 @@ log_unchanged site = record { only = no_call site (SameBut Log site) (record { t
 pub beside_nothing : {T : Type 0} {x : T} {log : LogStore} {site : State} → log_store.Invariant log site → KeepsInvariantBeside {T = T} (Ok x) log log site site
 beside_nothing {site = site} going = record { calls = calls_nothing; going = λ pages may. may; log_going = going; kept = refl; geometry = refl; reads = λ d. refl; changes = λ honest. log_unchanged site; next = λ honest. blocks.next_nothing }
 
+-- where memory is wanted
+pub works_lacks : {T : Type 0} {stop : Stop} {log : LogStore} {pages : PageStore} {site : State} → (stop ≡ Memory) ⊎ (stop ≡ Foreign) → Invariant log pages site → KeepsInvariant {T = T} (Err stop) log log pages pages site site
+works_lacks (inl lacks) going = works_refused {A = Unit {0}} {a = tt} (λ d same. cc) (λ d same. cc) (subst MayStop (sym lacks) tt) (works_nothing going)
+works_lacks (inr foreign) going = works_refused {A = Unit {0}} {a = tt} (λ d same. cc) (λ d same. cc) (subst MayStop (sym foreign) tt) (works_nothing going)
+
+pub beside_lacks : {T : Type 0} {stop : Stop} {log : LogStore} {site : State} → stop ≡ Memory → log_store.Invariant log site → KeepsInvariantBeside {T = T} (Err stop) log log site site
+beside_lacks {stop = stop} {log = log} {site = site} lacks going = record {
+  calls = calls_refused {A = Unit {0}} {a = tt} (λ d same. cc) calls_nothing;
+  going = λ pages may. tt;
+  log_going = going;
+  kept = refl;
+  geometry = refl;
+  reads = λ d. refl;
+  changes = λ honest. log_unchanged site;
+  next = λ honest. blocks.next_elsewhere _ log site site refl (λ says. cc);
+}
+
 pub beside_then : {A B : Type 0} {a : A} {r : Result B Stop} {old mid new : LogStore} {before between now : State} → KeepsInvariantBeside {T = A} (Ok a) old mid before between → KeepsInvariantBeside r mid new between now → KeepsInvariantBeside r old new before now
 beside_then {before = before} {between = between} {now = now} first second = record {
   calls = calls_then first.calls second.calls;

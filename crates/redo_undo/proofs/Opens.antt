@@ -1,29 +1,26 @@
 -- Lists of active transactions.
-use Rattle.std.proofs.Common.{false, ◌≡◌, ◌≢◌, ℕ, suc, ◌+◌, ◌≤◌, ◌<◌, cond, List, [], ◌∷◌, ◌++◌, length, Option, None, Some, refl, sym, ap, subst, ◌∙◌, arith}
-use Rattle.std.specs.Prelude.{slice_get, map, drop, IfNone}
-use Rattle.std.specs.List.{AllByRecursion}
-use Rattle.std.proofs.lemmas.Bool.{ne_eqb, eq-eqb}
+use Rattle.std.proofs.Common.{Bool, true, false, true≢false, ◌==◌, ◌⊎◌, inl, inr, nat_eq, get_or, if◌then◌else◌, append_assoc, ◌≡◌, ◌≢◌, ℕ, suc, ◌+◌, ◌≤◌, ◌<◌, cond, List, [], ◌∷◌, ◌++◌, length, Option, None, Some, refl, sym, ap, subst, ◌∙◌, arith}
+use Rattle.std.specs.Prelude.{map, filter, drop, option_map, IfNone}
+use Rattle.std.specs.List.{AllByRecursion, list_any}
+use Rattle.std.proofs.lemmas.Bool.{cases_eq, ne_eqb, eq-eqb, eqb-true}
+use Rattle.std.proofs.lemmas.List.{length-map}
 use Rattle.std.proofs.lemmas.List.Sums.{sum_by-cons}
 use Rattle.std.proofs.lemmas.Option.{none-some, same_Some}
 use Rattle.std_lemmas.proofs.AllOf.{all_both, all_left, all_right}
 use Rattle.analysis.specs.declared.analysis.Loser.{Loser}
-use Rattle.analysis.specs.Open.{Open, owed_one, owed_for, found_in, AscendFrom, Replaces, TakesOut}
+use Rattle.analysis.specs.Open.{Open, owed_one, owed_for, found_in, updates_of, left_in, LeavesSame, DropsOne, AscendFrom, Replaces, TakesOut}
+use Rattle.analysis.specs.declared.order.Order.{Order}
+use Rattle.analysis.specs.Order.{Descend, IsOrder}
 use Rattle.analysis.specs.Read.{loser_of}
 use Rattle.redo_undo.specs.Mirroring.{none_remains}
 use Rattle.redo_laws.specs.UndoingAll.{IsOf, Remain, HasNone}
 use Rattle.flash_cache.proofs.Given.{all_append}
 
--- Looked at place by place.
-
-pub all_by_place : (Q : Loser → Type 0) (table : List Open) → ((k : ℕ) (l : Loser) → k < length table → slice_get (map loser_of table) k ≡ Some l → Q l) → AllByRecursion (λ x. Q (loser_of x)) table
-all_by_place Q [] each = tt
-all_by_place Q (x ∷ table) each = (each 0 (loser_of x) (omega arith) refl, all_by_place Q table (λ k l less is. each (suc k) l (omega (arith, less)) is))
+-- A transaction stands there once.
 
 pub none_found : (t : ℕ) (table : List Open) → AllByRecursion (λ x. x.txn ≢ t) table → found_in table t ≡ None
 none_found t [] all = refl
 none_found t (x ∷ table) all = ap (λ b. cond b (Some x) (found_in table t)) (ne_eqb x.txn t all.0) ∙ none_found t table all.1
-
--- A transaction stands there once.
 
 above : (n : ℕ) (table : List Open) → AscendFrom n table → AllByRecursion (λ x. n ≤ x.txn) table
 above n [] ascend = tt
@@ -115,6 +112,153 @@ others_remain old mid new t last ascend all r out =
     all_weaker : (xs : List Open) → AllByRecursion (λ x. 0 < length x.updates) xs → AllByRecursion (λ x. x.txn ≢ t → 0 < length x.updates) xs
     all_weaker [] all = tt
     all_weaker (x ∷ xs) all = (λ differ. all.0, all_weaker xs all.1)
+
+-- What remains of each transaction.
+
+found_txn : (table : List Open) (t : ℕ) (x : Open) → found_in table t ≡ Some x → x.txn ≡ t
+found_txn [] t x found = absurd (none-some x found)
+found_txn (y ∷ table) t x found = by (y.txn == t) refl found (found_txn table t x)
+  where
+    by : (b : Bool) → (y.txn == t) ≡ b → cond b (Some y) (found_in table t) ≡ Some x → (found_in table t ≡ Some x → x.txn ≡ t) → x.txn ≡ t
+    by true is here rest = ap (λ (o : Open). o.txn) (sym (same_Some y x here)) ∙ eqb-true y.txn t is
+    by false is later rest = rest later
+
+-- a transaction by its name
+pub of_found : (table : List Open) (t : ℕ) (loser : Loser) → Some loser ≡ option_map loser_of (found_in table t) → IsOf table loser × (loser.txn ≡ t)
+of_found table t loser is = by (found_in table t) refl is
+  where
+    by : (o : Option Open) → found_in table t ≡ o → Some loser ≡ option_map loser_of o → IsOf table loser × (loser.txn ≡ t)
+    by None none is = absurd (none-some loser (sym is))
+    by (Some x) found is =
+        let same : loser ≡ loser_of x = same_Some loser (loser_of x) is in
+        let own : loser.txn ≡ t = ap (λ (l : Loser). l.txn) same ∙ found_txn table t x found in
+        (record { x = x; there = ap (found_in table) own ∙ found; same = same }, own)
+
+found_without : (front : List Open) (x : Open) (back : List Open) (s : ℕ) → x.txn ≢ s → found_in (front ++ x ∷ back) s ≡ found_in (front ++ back) s
+found_without [] x back s other = ap (λ b. cond b (Some x) (found_in back s)) (ne_eqb x.txn s other)
+found_without (y ∷ front) x back s other = ap (λ (o : Option Open). cond (y.txn == s) (Some y) o) (found_without front x back s other)
+
+others_same : (old new : List Open) (t s : ℕ) → TakesOut old new t → s ≢ t → found_in new s ≡ found_in old s
+others_same old new t s out other =
+    ap (λ (l : List Open). found_in l s) out.new_is ∙ sym (found_without out.front out.was out.back s (λ same. other (sym same ∙ out.of))) ∙ sym (ap (λ (l : List Open). found_in l s) out.old_is)
+
+-- where nothing of a transaction remained the same remains without it
+pub left_same : (old new : List Open) (t : ℕ) → AscendFrom 0 old → HasNone old t → TakesOut old new t → LeavesSame old new
+left_same old new t ascend none out s = by (cases_eq s t)
+  where
+    gone : found_in new t ≡ None
+    gone = ap (λ (l : List Open). found_in l t) out.new_is ∙ none_found t (out.front ++ out.back) (subst (λ n. AllByRecursion (λ (x : Open). x.txn ≢ n) (out.front ++ out.back)) out.of (others_differ 0 out.front out.was out.back (subst (AscendFrom 0) out.old_is ascend)))
+
+    by : (s ≡ t) ⊎ (s ≢ t) → left_in new s ≡ left_in old s
+    by (inl same) = ap (left_in new) same ∙ ap updates_of gone ∙ sym none.none ∙ sym (ap updates_of none.there) ∙ ap (left_in old) (sym same)
+    by (inr other) = ap updates_of (others_same old new t s out other)
+
+-- behind a CLR one Update less remains of its transaction
+pub drops_one : (old new : List Open) (t last : ℕ) → AscendFrom 0 old → AscendFrom 0 new → Replaces old new t (undone_by last) → DropsOne old new t
+drops_one old new t last ascend ascend' r s = by (cases_eq s t)
+  where
+    was_there : found_in old t ≡ Some r.was
+    was_there = ap (λ (l : List Open). found_in l t) r.old_is ∙ ap (found_in (r.front ++ r.was ∷ r.back)) (sym r.of) ∙ found_here 0 r.front r.was r.back (subst (AscendFrom 0) r.old_is ascend)
+
+    is_there : found_in new t ≡ Some (undone_by last r.was)
+    is_there = ap (λ (l : List Open). found_in l t) r.new_is ∙ ap (found_in (r.front ++ undone_by last r.was ∷ r.back)) (sym r.of) ∙ found_here 0 r.front (undone_by last r.was) r.back (subst (AscendFrom 0) r.new_is ascend')
+
+    by : (s ≡ t) ⊎ (s ≢ t) → left_in new s ≡ (if s == t then drop 1 (left_in old s) else left_in old s)
+    by (inl same) =
+        ap (left_in new) same ∙ ap updates_of is_there ∙ sym (ap (drop 1) (ap updates_of was_there)) ∙ ap (λ n. drop 1 (left_in old n)) (sym same)
+        ∙ sym (ap (λ b. if b then drop 1 (left_in old s) else left_in old s) (eq-eqb s t same))
+    by (inr other) =
+        ap updates_of (ap (λ (l : List Open). found_in l s) r.new_is ∙ found_without r.front (undone_by last r.was) r.back s (λ same. other (sym same ∙ r.of)) ∙ sym (found_without r.front r.was r.back s (λ same. other (sym same ∙ r.of))) ∙ sym (ap (λ (l : List Open). found_in l s) r.old_is))
+        ∙ sym (ap (λ b. if b then drop 1 (left_in old s) else left_in old s) (ne_eqb s t other))
+
+pub drops_as : (old mid new : List Open) (t : ℕ) → DropsOne old mid t → LeavesSame mid new → DropsOne old new t
+drops_as old mid new t drops same s = same s ∙ drops s
+
+-- an order holds where the same remains
+pub order_same : (order : Order) (old new : List Open) → IsOrder order old → LeavesSame old new → IsOrder order new
+order_same order old new is same = record { has = λ t n. is.has t n ∙ sym (ap (list_any (λ u. u == n)) (same t)); descend = λ t. subst Descend (sym (same t)) (is.descend t) }
+
+-- Those of which nothing remains, by their names.
+
+pub record Waits (names : List ℕ) (table : List Open) : Type 0 where
+  pub rest : List Open
+  pub names_are : names ≡ map (λ x. x.txn) rest
+  pub ascend : AscendFrom 0 rest
+  pub none : AllByRecursion (λ x. HasNone table x.txn) rest
+  pub count : length (filter none_remains table) ≡ length rest
+
+filter_ascends : (n : ℕ) (table : List Open) → AscendFrom n table → AscendFrom n (filter none_remains table)
+filter_ascends n [] ascend = tt
+filter_ascends n (x ∷ table) ascend = by (none_remains x) (filter_ascends (x.txn + 1) table ascend.1)
+  where
+    lower : (m : ℕ) (l : List Open) → n ≤ m → AscendFrom m l → AscendFrom n l
+    lower m [] le a = tt
+    lower m (y ∷ l) le a = let low = a.0 in (omega (arith, low, le), a.1)
+
+    by : (b : Bool) → AscendFrom (x.txn + 1) (filter none_remains table) → AscendFrom n (cond b (x ∷ filter none_remains table) (filter none_remains table))
+    by true rest = (ascend.0, rest)
+    by false rest = let low = ascend.0 in lower (x.txn + 1) (filter none_remains table) (omega (arith, low)) rest
+
+empty_from : (us : List ℕ) → nat_eq (length us) 0 ≡ true → us ≡ []
+empty_from [] is = refl
+empty_from (u ∷ us) is = absurd (omega (arith, eqb-true (length (u ∷ us)) 0 is))
+
+none_all : (n : ℕ) (all front table : List Open) → AscendFrom n (front ++ table) → all ≡ front ++ table → AllByRecursion (λ x. HasNone all x.txn) (filter none_remains table)
+none_all n all front [] ascend is = tt
+none_all n all front (x ∷ table) ascend is =
+    by (none_remains x) refl (none_all n all (front ++ x ∷ []) table (subst (AscendFrom n) (sym (append_assoc front (x ∷ []) table)) ascend) (is ∙ sym (append_assoc front (x ∷ []) table)))
+  where
+    by : (b : Bool) → none_remains x ≡ b → AllByRecursion (λ y. HasNone all y.txn) (filter none_remains table) → AllByRecursion (λ y. HasNone all y.txn) (cond b (x ∷ filter none_remains table) (filter none_remains table))
+    by true none rest = (record { x = x; there = ap (λ (l : List Open). found_in l x.txn) is ∙ found_here n front x table ascend; none = empty_from x.updates none }, rest)
+    by false some rest = rest
+
+pub waits_all : (names : List ℕ) (table : List Open) → AscendFrom 0 table → names ≡ map (λ x. x.txn) (filter none_remains table) → Waits names table
+waits_all names table ascend are = record { rest = filter none_remains table; names_are = are; ascend = filter_ascends 0 table ascend; none = none_all 0 table [] table ascend refl; count = refl }
+
+-- the first of them
+pub first_waits : (t : ℕ) (names : List ℕ) (table : List Open) → Waits (t ∷ names) table → HasNone table t
+first_waits t names table w = by w.rest w.names_are w.none
+  where
+    by : (rest : List Open) → t ∷ names ≡ map (λ x. x.txn) rest → AllByRecursion (λ x. HasNone table x.txn) rest → HasNone table t
+    by [] are none = absurd (omega (arith, ap length are))
+    by (x ∷ rest) are none = subst (HasNone table) (sym (ap (λ (l : List ℕ). get_or l 0 t) are)) none.0
+
+-- behind its End the others wait
+pub waits_on : (t : ℕ) (names : List ℕ) (old new : List Open) → Waits (t ∷ names) old → length (filter none_remains old) ≡ suc (length (filter none_remains new)) → TakesOut old new t → Waits names new
+waits_on t names old new w one out = by w.rest w.names_are w.ascend w.none w.count
+  where
+    still : (n : ℕ) (rest : List Open) → t < n → AscendFrom n rest → AllByRecursion (λ x. HasNone old x.txn) rest → AllByRecursion (λ x. HasNone new x.txn) rest
+    still n [] less ascend none = tt
+    still n (x ∷ rest) less ascend none =
+        let low = ascend.0 in
+        let here = none.0 in
+        (record { x = here.x; there = others_same old new t x.txn out (λ same. omega (arith, low, less, same)) ∙ here.there; none = here.none }, still (x.txn + 1) rest (omega (arith, low, less)) ascend.1 none.1)
+
+    lower : (m : ℕ) (l : List Open) → AscendFrom m l → AscendFrom 0 l
+    lower m [] a = tt
+    lower m (y ∷ l) a = (omega arith, a.1)
+
+    by : (rest : List Open) → t ∷ names ≡ map (λ x. x.txn) rest → AscendFrom 0 rest → AllByRecursion (λ x. HasNone old x.txn) rest → length (filter none_remains old) ≡ length rest → Waits names new
+    by [] are ascend none count = absurd (omega (arith, ap length are))
+    by (x ∷ rest) are ascend none count =
+        let same : t ≡ x.txn = ap (λ (l : List ℕ). get_or l 0 t) are in
+        record { rest = rest; names_are = ap (drop 1) are; ascend = lower (x.txn + 1) rest ascend.1; none = still (x.txn + 1) rest (omega (arith, same)) ascend.1 none.1; count = omega (arith, count, one) }
+
+-- where none waits something remains of each
+pub none_waits : (table : List Open) → Waits [] table → Remain table
+none_waits table w = all table (w.count ∙ sym (ap length w.names_are ∙ length-map w.rest (λ x. x.txn)))
+  where
+    some : (us : List ℕ) → nat_eq (length us) 0 ≡ false → 0 < length us
+    some [] is = absurd (true≢false is)
+    some (u ∷ us) is = omega arith
+
+    all : (l : List Open) → length (filter none_remains l) ≡ 0 → Remain l
+    all [] none = tt
+    all (x ∷ l) none = by (none_remains x) refl none (all l)
+      where
+        by : (b : Bool) → none_remains x ≡ b → length (cond b (x ∷ filter none_remains l) (filter none_remains l)) ≡ 0 → (length (filter none_remains l) ≡ 0 → Remain l) → Remain (x ∷ l)
+        by true is none rest = absurd (omega (arith, none))
+        by false is none rest = (some x.updates is, rest none)
 
 -- Where of each an Update remains and of none, there is none.
 pub none_listed : (table : List Open) → Remain table → AllByRecursion (λ x. x.updates ≡ []) table → table ≡ []

@@ -1,12 +1,13 @@
 -- Calls that undo, one after the other.
 use Rattle.std.proofs.Common.{◌≡◌, ◌≢◌, ◌⊎◌, inl, inr, ℕ, ◌+◌, ◌-◌, ◌≤◌, List, [], ◌++◌, Option, sym, subst, refl, arith}
-use Rattle.std.specs.Prelude.{Result, Ok, Err, OnOk, IfErr}
+use Rattle.std.specs.Prelude.{Result, Ok, Err, OnOk, IfErr, IsErrOf}
 use Rattle.site.specs.declared.outside.Dev.{Dev}
 use Rattle.site.specs.declared.outside.Dev.TheVariants.{Log}
 use Rattle.site.specs.declared.outside.Stop.{Stop}
-use Rattle.site.specs.declared.outside.Stop.TheVariants.{Device, Worn, Foreign}
+use Rattle.site.specs.declared.outside.Stop.TheVariants.{Device, Worn, Memory, Foreign}
 use Rattle.site.specs.State.{State, Image}
-use Rattle.site.proofs.Working.{no_error}
+use Rattle.site.proofs.Working.{no_error, of_error, calls_nothing}
+use Rattle.redo_laws.proofs.RingNumbers.{unchanged}
 use Rattle.record_model.specs.State.{Content}
 use Rattle.record_model.specs.Touches.{CacheOp}
 use Rattle.log_records.specs.Log.{Entry}
@@ -23,7 +24,7 @@ use Rattle.redo_laws.proofs.Asking.{asks_err, asks_nothing, asks_ok, asks_same, 
 use Rattle.redo_laws.proofs.AskingUndo.{asks_later, asks_refused, log_alone}
 use Rattle.redo_undo.specs.Mirroring.{Mirrors, PerformsOn}
 use Rattle.redo_undo.specs.UndoCalls.{UndoesWork, taken_by}
-use Rattle.redo_undo.proofs.Calling.{calls_read, keeps_answered, keeps_appended, keeps_failed, keeps_few, keeps_nothing, keeps_read, keeps_then}
+use Rattle.redo_undo.proofs.Calling.{calls_read, keeps_answered, keeps_appended, keeps_failed, keeps_few, keeps_nothing, keeps_unchanged, keeps_read, keeps_then}
 
 -- before any call
 pub undoes_nothing : {log : LogStore} {pages : PageStore} {site : State} {newest : Option Master} {records : List Entry} {table : List Content} {commits n k : ℕ} → log.geometry ≡ pages.flash.geometry → Represents log pages site newest records table commits →
@@ -99,6 +100,26 @@ undoes_unread {B = B} {stop = stop} {pages = pages} {before = before} {now = now
   performs = performs_refused (read_refuses stop read.stops);
   log_reads = let reads = read.log_reads in omega (arith, reads, least);
 }
+
+-- where memory is wanted before any call
+lacks_other : {T : Type 0} (stop : Stop) → Memory ≢ stop → IsErrOf {T = T} (Err Memory) stop → ⊥
+lacks_other {T} stop other is = of_error {T = T} (Err Memory) (λ s. s ≢ stop) stop other is refl
+
+not_worn : (d : Dev) → Memory ≢ Worn d
+not_worn d same = cc
+
+not_foreign : Memory ≢ Foreign
+not_foreign same = cc
+
+pub undoes_lacks : {B : Type 0} {stop : Stop} {log : LogStore} {pages : PageStore} {site : State} {newest : Option Master} {records : List Entry} {table : List Content} {commits n k : ℕ} (works : List RingOp) (touches : List CacheOp) → stop ≡ Memory → Invariant log pages site →
+    Represents log pages site newest records table commits → UndoesWork {T = B} (Err stop) works touches log log pages pages site site newest table commits n k
+undoes_lacks {pages = pages} {site = site} works touches lacks going h =
+    subst (λ s. UndoesWork {T = _} (Err s) works touches _ _ pages pages site site _ _ _ _ _) (sym lacks) (record {
+      keeps = keeps_few (omega arith) (keeps_unchanged going.sizes h unchanged (λ d. lacks_other (Worn d) (not_worn d)) (lacks_other Foreign not_foreign));
+      asks = asks_refused Memory touches pages site site (some_group going) (log_alone site site (λ d other. refl)) (stages_read (λ honest. unchanged) (calls_nothing {T = Unit {0}} {x = tt} {site = site}).preserves);
+      performs = performs_refused not_worn;
+      log_reads = omega arith;
+    })
 
 -- Calls of the log alone.
 

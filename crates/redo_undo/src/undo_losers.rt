@@ -1,6 +1,6 @@
 // Undoing all transactions that a log leaves unfinished.
-ghost use Rattle.std.specs.Prelude.{◌≡◌, ◌⊎◌, ◌+◌, ◌-◌, ◌<◌, ◌≤◌, [], ◌∷◌, ℕ, List, length, drop, reverse, false, None};
-ghost use Rattle.std.specs.Prelude.{Some, IfOk, IfErr, IfSome, IfNone, OnOk, Option};
+ghost use Rattle.std.specs.Prelude.{◌≡◌, ◌⊎◌, ◌+◌, ◌-◌, ◌<◌, ◌≤◌, [], ◌∷◌, ℕ, List, length, drop, reverse, false};
+ghost use Rattle.std.specs.Prelude.{IfOk, IfErr, OnOk, Option};
 ghost use Rattle.site.specs.declared.outside.Dev.{Dev};
 ghost use Rattle.site.specs.declared.outside.Stop.{Stop};
 ghost use Rattle.record_model.specs.State.{Content};
@@ -10,7 +10,7 @@ ghost use Rattle.log_store.specs.Representation as log_store;
 ghost use Rattle.log_store.specs.Representation.{end_of, has_tail};
 ghost use Rattle.page_store.specs.declared.store.PageStore.{PageStore};
 ghost use Rattle.checkpoint.specs.declared.master.Master.{Master};
-ghost use Rattle.analysis.specs.Open.{found_in, Replaces, Remains, TakesOut, owed_for};
+ghost use Rattle.analysis.specs.Open.{Replaces, Remains, TakesOut, LeavesSame, DropsOne, owed_for};
 ghost use Rattle.analysis.specs.Table.{listed};
 ghost use Rattle.analysis.specs.Read as analysis;
 ghost use Rattle.analysis.specs.Read.{IsTable};
@@ -31,41 +31,6 @@ use log_records::LogRecord;
 use log_store::LogStore;
 use page_store::PageStore;
 use site::{Site, Stop};
-
-// The first transaction of which nothing remains to be undone.
-fn first_undone(found: &Analysis) -> Option<u64>
-    requires { analysis.Invariant found.now }
-    ensures none { IfSome result (λ txn. HasNone (listed found.now.table) txn) }
-    ensures remain { IfNone result (Remain (listed found.now.table)) }
-{
-    let mut place = 0;
-    while place < found.losers() {
-        let loser = found.loser(place);
-        if loser.remaining == 0 {
-            return Some(loser.txn);
-        }
-        place += 1;
-    }
-    None
-}
-
-// An unfinished transaction by its name.
-fn loser_named(found: &Analysis, txn: u64) -> Option<Loser>
-    requires { analysis.Invariant found.now }
-    ensures there { IfSome result (λ loser. IsOf (listed found.now.table) loser) }
-    ensures named { IfSome result (λ loser. loser.txn ≡ txn) }
-    ensures absent { IfNone result (found_in (listed found.now.table) txn ≡ None) }
-{
-    let mut place = 0;
-    while place < found.losers() {
-        let loser = found.loser(place);
-        if loser.txn == txn {
-            return Some(loser);
-        }
-        place += 1;
-    }
-    None
-}
 
 // Ends a transaction of which nothing remains to be undone. Answers the LSN of its End.
 fn end_one<S: Site>(
@@ -98,6 +63,7 @@ fn end_one<S: Site>(
     ensures works { KeepsInvariantBeside result log.old log.new (S.state site.old) (S.state site.new) }
     ensures found { IsHeard found.old found.new }
     ensures takes { OnOk result (TakesOut (listed found.old.table) (listed found.new.table) txn) }
+    ensures left { OnOk result (LeavesSame (listed found.old.table) (listed found.new.table)) }
     ensures falls { OnOk result (owed_for (listed found.new.table) < owed_for (listed found.old.table)) }
     ensures blocks { OnOk result (blocks_to log.new ≤ blocks_to log.old + 1) }
 
@@ -150,17 +116,22 @@ fn end_undone<S: Site>(
     ensures works { KeepsInvariantBeside result log.old log.new (S.state site.old) (S.state site.new) }
     ensures found { IsHeard found.old found.new }
     ensures remain { OnOk result (Remain (listed found.new.table)) }
+    ensures left { OnOk result (LeavesSame (listed found.old.table) (listed found.new.table)) }
     ensures fewer { OnOk result (owed_for (listed found.new.table) ≤ owed_for (listed found.old.table)) }
     ensures blocks { OnOk result (blocks_to log.new + owed_for (listed found.new.table)
         ≤ blocks_to log.old + owed_for (listed found.old.table)) }
 
     // When each answer comes.
     ensures stops { IfErr result (λ stop. (stop ≡ Stop.Device Dev.Log)
-        ⊎ ((stop ≡ Stop.Worn Dev.Log) ⊎ (stop ≡ Stop.Foreign))) }
+        ⊎ ((stop ≡ Stop.Worn Dev.Log) ⊎ ((stop ≡ Stop.Memory) ⊎ (stop ≡ Stop.Foreign)))) }
 {
+    let undone = match found.undone() {
+        Ok(undone) => undone,
+        Err(stop) => return Err(stop),
+    };
     let mut last = known;
-    while let Some(txn) = first_undone(found) {
-        last = match end_one(site, log, found, txn) {
+    for txn in undone.as_slice() {
+        last = match end_one(site, log, found, *txn) {
             Ok(lsn) => lsn,
             Err(stop) => return Err(stop),
         };
@@ -258,13 +229,14 @@ fn undo_next<S: Site>(
     ensures works { KeepsInvariant result log.old log.new pages.old pages.new (S.state site.old) (S.state site.new) }
     ensures found { IsHeard found.old found.new }
     ensures remain { OnOk result (Remain (listed found.new.table)) }
+    ensures drops { OnOk result (DropsOne (listed found.old.table) (listed found.new.table) next.0) }
     ensures falls { OnOk result (owed_for (listed found.new.table) < owed_for (listed found.old.table)) }
     ensures blocks { OnOk result (blocks_to log.new + owed_for (listed found.new.table)
         ≤ blocks_to log.old + owed_for (listed found.old.table)) }
     ensures log_reads { (S.state site.new).log_reads ≤ (S.state site.old).log_reads + 1 }
 {
     table_of_records();
-    let Some(loser) = loser_named(found, next.0) else {
+    let Some(loser) = found.loser(next.0) else {
         return Err(Stop::Foreign);
     };
     if loser.last > known {
@@ -317,12 +289,16 @@ pub fn undo_all<S: Site>(
         ≤ (S.state site.old).log_reads + owed_for (listed found.old.table) }
 {
     table_of_records();
+    let mut order = match found.order() {
+        Ok(order) => order,
+        Err(stop) => return Err(stop),
+    };
     let sealed = log.sealed_end() + 1;
     let mut known = match end_undone(site, log, found, sealed) {
         Ok(lsn) => lsn,
         Err(stop) => return Err(stop),
     };
-    while let Some(next) = found.next_undo() {
+    while let Some(next) = order.take_last() {
         known = match undo_next(site, log, pages, found, next, known) {
             Ok(lsn) => lsn,
             Err(stop) => return Err(stop),

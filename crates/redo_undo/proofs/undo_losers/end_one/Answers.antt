@@ -6,6 +6,8 @@ use Rattle.log_laws.specs.UndoLaws.{next_of}
 use Rattle.redo_undo.proofs.Found.{unfinished_of, room_to_end, end_may, owes_end}
 use Rattle.log_records.specs.Unfinished.{left_open}
 use Rattle.redo_undo.proofs.LeftUpdates.{none_of}
+use Rattle.redo_undo.proofs.Opens.{left_same}
+use Rattle.analysis.specs.Table.{listed}
 use Rattle.redo_undo.proofs.UndoneUpdates.{end_updates}
 use Rattle.redo_undo.proofs.undo_losers.end_one.Goals as goal
 
@@ -36,3 +38,6 @@ returns-in-Err-clause-does g c pages newest records table commits known going h 
 pub returns-clause-does : goal.returns-clause-does
 returns-clause-does g c pages newest records table commits known going h =
     undoes_beside going tt c.in-Ok.ensures.works (c.in-Ok.ensures.keeps pages newest records table commits h.holds) (c.in-Ok.ensures.performs pages newest records table commits going h.holds)
+
+pub returns-clause-left : goal.returns-clause-left
+returns-clause-left g c = left_same (listed c.args.found.now.table) (listed c.finished.new.self.table) c.args.txn c.requires.found c.requires.none c.finished.ensures.takes

@@ -1,10 +1,11 @@
-use Rattle.std.proofs.Common.{◌≡◌, ◌+◌, ◌-◌, ◌≤◌, ◌<◌, ℕ, List, [], Option}
+use Rattle.std.proofs.Common.{◌≡◌, ◌+◌, ◌-◌, ◌≤◌, ◌<◌, ℕ, List, [], Option, drop}
 use Rattle.record_model.specs.State.{Content}
 use Rattle.log_records.specs.Log.{Entry}
 use Rattle.log_store.specs.Representation.{end_of}
 use Rattle.page_store.specs.declared.store.PageStore.{PageStore}
 use Rattle.checkpoint.specs.declared.master.Master.{Master}
-use Rattle.analysis.specs.Open.{owed_for}
+use Rattle.analysis.specs.Open.{LeavesSame, owed_for}
+use Rattle.redo_undo.proofs.Opens.{Waits}
 use Rattle.analysis.specs.Table.{listed}
 use Rattle.analysis.specs.Read as analysis
 use Rattle.redo_laws.specs.Holding.{Invariant, blocks_to}
@@ -24,6 +25,8 @@ invariant-loop-txn g l =
       found_going : analysis.Invariant l.found;
       before : l.last < end_of l.log;
       rises : end_of l.fn.log ≤ end_of l.log;
+      waits : Waits (drop l.txn-index l.txn-items) (listed l.found.table);
+      left : LeavesSame (listed l.fn.found.table) (listed l.found.table);
       commits : l.found.commits ≡ l.fn.found.commits;
       blocks : blocks_to l.log + owed_for (listed l.found.table) ≤ blocks_to l.fn.log + owed_for (listed l.fn.found.table);
       fewer : owed_for (listed l.found.table) ≤ owed_for (listed l.fn.found.table);
@@ -32,6 +35,3 @@ invariant-loop-txn g l =
       ends : (pages : PageStore) (newest : Option Master) (records : List Entry) (table : List Content) (commits : ℕ) → Invariant l.fn.log pages old → IsUndoing l.fn.log pages old newest records table commits l.fn.found l.fn.known →
           EndsMade l.fn.log l.log pages old now newest table commits (owed_for (listed l.fn.found.table) - owed_for (listed l.found.table)) (listed l.fn.found.table) (listed l.found.table);
     }
-
-abbrev pub decreases-loop-txn : goal.decreases-loop-txn
-decreases-loop-txn g l = owed_for (listed l.found.table)

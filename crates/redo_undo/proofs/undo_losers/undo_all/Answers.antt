@@ -1,11 +1,11 @@
 use Rattle.analysis.specs.Open.{owed_for}
-use Rattle.redo_undo.proofs.UndoCalls.{undoes_few, undoes_as, undoes_stopped, undoes_answered}
-use Rattle.std.proofs.Common.{true, false, ℕ, List, ◌≡◌, ◌++◌, ◌+◌, [], ◌∙◌, arith, ◌*◌, ◌-◌, refl, reverse, ap}
+use Rattle.redo_undo.proofs.UndoCalls.{undoes_few, undoes_as, undoes_stopped, undoes_answered, undoes_lacks}
+use Rattle.std.proofs.Common.{inl, inr, Err, true, false, ℕ, List, ◌≡◌, ◌++◌, ◌+◌, [], ◌∙◌, arith, ◌*◌, ◌-◌, refl, reverse, ap}
 use Rattle.std.specs.Prelude.{Option, option_map}
 use Rattle.site.proofs.Working.{no_error}
 use Rattle.std.specs.List.{AllByRecursion}
 use Rattle.analysis.specs.Table.{listed}
-use Rattle.redo_undo.proofs.Opens.{none_listed, if_none, some_owed}
+use Rattle.redo_undo.proofs.Opens.{none_listed, if_none, some_owed, order_same}
 use Rattle.image_meaning.specs.Meaning.{kept_by}
 use Rattle.redo_undo.proofs.Found.{order, all_undone, sealed_up_to, own_known}
 use Rattle.site.specs.declared.outside.Dev.TheVariants.{Log}
@@ -19,11 +19,11 @@ use Rattle.log_store.specs.Representation.{has_tail}
 use Rattle.redo_laws.specs.Holding.{Represents}
 use Rattle.redo_undo.proofs.UndoneUpdates.{UndoesSoFar, next_is_last, none_is_next, updates_undone, updates_undone_more, updates_undone_stopped}
 use Rattle.redo_laws.specs.UndoingAll.{IsUndoing}
-use Rattle.redo_undo.proofs.Calling.{works_answered, works_beside, works_stopped, works_then}
+use Rattle.redo_undo.proofs.Calling.{works_answered, works_lacks, works_beside, works_stopped, works_then}
 use Rattle.redo_undo.proofs.undo_losers.undo_all.Given.{Over}
-use Rattle.redo_undo.proofs.undo_losers.undo_all.Goals.{After-end_undone, After-next_undo}
+use Rattle.redo_undo.proofs.undo_losers.undo_all.Goals.{After-end_undone, After-take_last}
 use Rattle.redo_undo.proofs.undo_losers.undo_all.Goals as goal
-use Rattle.ring_machine.specs.Restart.{undoing_work}
+use Rattle.ring_machine.specs.Restart.{undo_work, undoing_work}
 use Rattle.redo_undo.specs.Mirroring.{ends_for}
 use Rattle.redo_undo.proofs.UndoneWork.{ended_first}
 
@@ -42,7 +42,7 @@ module _ (g : Over) (c : After-end_undone g) (newest : Option Master) (records :
   }
 
 -- the Update that is undone next is the last one
-module _ (g : Over) (c : After-next_undo g) (newest : Option Master) (records : List Entry) (table : List Content) (commits : ℕ)
+module _ (g : Over) (c : After-take_last g) (newest : Option Master) (records : List Entry) (table : List Content) (commits : ℕ)
     (none : has_tail c.args.log.now ≡ false)
     (h : Represents c.args.log.now c.args.pages.now (g.S.Site.state c.args.site.now) newest records table commits)
     (is : IsTable [] records (listed c.args.found.now.table)) where
@@ -50,37 +50,38 @@ module _ (g : Over) (c : After-next_undo g) (newest : Option Master) (records : 
       (owed_for (listed c.args.found.now.table) - owed_for (listed c.loop-next.found.table))
   before = c.loop-next.invariant.so_far newest records table commits none h is
 
-  next_is : c.next_undo.result ≡ option_map (λ (u : Entry). record { 0 = txn_of u; 1 = u.lsn })
+  next_is : c.take_last.result ≡ option_map (λ (u : Entry). record { 0 = txn_of u; 1 = u.lsn })
       (last_where (λ v. true) (pending (records ++ before.updates.some.more)))
   next_is =
       let now = before.updates.some.now in
       let all = records ++ before.updates.some.more in
-      c.next_undo.ensures.of_table [] all (512 * kept_by newest) _ now.analysis
+      c.take_last.ensures.of_table [] all (listed c.loop-next.found.table) (512 * kept_by newest) _ c.loop-next.invariant.order now.analysis
       (own_known c.table_of_records.ensures.active c.loop-next.log c.loop-next.pages _ newest all table commits c.loop-next.found now.holds now.analysis)
       (order c.table_of_records.ensures.active c.loop-next.log c.loop-next.pages _ newest all table commits c.loop-next.found now.holds now.analysis)
 
 pub loop-next-init : goal.loop-next-init
 loop-next-init g c =
-    let fewer = c.in-Ok.ensures.fewer in
-    let few = c.in-Ok.ensures.blocks in
+    let fewer = c.in-Ok-end_undone.ensures.fewer in
+    let few = c.in-Ok-end_undone.ensures.blocks in
     record {
-      works = works_answered (works_beside c.requires.going c.in-Ok.ensures.rises tt (λ says. no_error says) c.in-Ok.ensures.works);
+      works = works_answered (works_beside c.requires.going c.in-Ok-end_undone.ensures.rises tt (λ says. no_error says) c.in-Ok-end_undone.ensures.works);
       found_going = c.end_undone.ensures.found.going;
-      before = c.in-Ok.ensures.before;
-      remain = c.in-Ok.ensures.remain;
+      before = c.in-Ok-end_undone.ensures.before;
+      order = order_same c.in-Ok.order (listed c.args.found.now.table) (listed c.end_undone.new.found.table) c.in-Ok.ensures.order c.in-Ok-end_undone.ensures.left;
+      remain = c.in-Ok-end_undone.ensures.remain;
       commits = c.end_undone.ensures.found.commits;
       blocks = few;
       fewer = fewer;
       log_reads = omega (arith, fewer, c.end_undone.ensures.works.reads Log);
       so_far = λ newest records table commits none h is.
           let undoing = undoing g (goal.at.loop-next-init g c).After-end_undone newest records table commits none h is in
-          let updates = c.in-Ok.ensures.updates c.args.pages.now newest records table commits c.requires.going undoing in
+          let updates = c.in-Ok-end_undone.ensures.updates c.args.pages.now newest records table commits c.requires.going undoing in
           record {
             done = [];
             updates = updates;
             worked = ends_for (listed c.args.found.now.table);
             left_is = ended_first c.table_of_records.ensures.active c.table_of_records.ensures.one c.table_of_records.ensures.unfinished c.args.found.now h is ∙ ap (λ (l : List Entry). ends_for (listed c.args.found.now.table) ++ undoing_work l) updates.left;
-            does = undoes_answered (c.in-Ok.ensures.does c.args.pages.now newest records table commits c.requires.going undoing);
+            does = undoes_answered (c.in-Ok-end_undone.ensures.does c.args.pages.now newest records table commits c.requires.going undoing);
           };
     }
 
@@ -92,11 +93,12 @@ loop-next-preserved g c =
     let falls = c.in-Ok-undo_next.ensures.falls in
     let fewer = inv.fewer in
     let works = works_then inv.works c.in-Ok-undo_next.ensures.works in
-    let s = (goal.at.loop-next-preserved g c).After-next_undo in
+    let s = (goal.at.loop-next-preserved g c).After-take_last in
     record {
       works = works_answered works;
       found_going = c.undo_next.ensures.found.going;
       before = c.in-Ok-undo_next.ensures.before;
+      order = c.in-Some.ensures.order (listed c.loop-next.found.table) (listed c.undo_next.new.found.table) inv.order c.in-Ok-undo_next.ensures.drops;
       remain = c.in-Ok-undo_next.ensures.remain;
       commits = c.undo_next.ensures.found.commits ∙ inv.commits;
       blocks = omega (arith, few, less);
@@ -106,13 +108,13 @@ loop-next-preserved g c =
           let before = before g s newest records table commits none h is in
           let undone = before.updates.some in
           let all = records ++ undone.more in
-          let last = next_is_last all c.next_undo.result c.in-Some.next c.in-Some.is (next_is g s newest records table commits none h is) in
+          let last = next_is_last all c.take_last.result c.in-Some.next c.in-Some.is (next_is g s newest records table commits none h is) in
           updates_undone_more before (omega (arith, falls, fewer)) h inv.works (c.in-Ok-undo_next.ensures.updates newest all table commits last.0 undone.now last.1)
           (λ earlier all_are. c.in-Ok-undo_next.ensures.does newest all table commits last.0 earlier undone.now last.1 all_are);
     }
 
 pub returns-clause-none : goal.returns-clause-none
-returns-clause-none g c = none_listed (listed c.loop-next.found.table) c.loop-next.invariant.remain (if_none c.next_undo.result (AllByRecursion (λ x. x.updates ≡ []) (listed c.loop-next.found.table)) (λ at some. c.in_default.not-Some at some) c.next_undo.ensures.none)
+returns-clause-none g c = none_listed (listed c.loop-next.found.table) c.loop-next.invariant.remain (if_none c.take_last.result (AllByRecursion (λ x. x.updates ≡ []) (listed c.loop-next.found.table)) (λ at some. c.in_default.not-Some at some) (c.take_last.ensures.none (listed c.loop-next.found.table) c.loop-next.invariant.found_going c.loop-next.invariant.order))
 
 pub returns-clause-undone : goal.returns-clause-undone
 returns-clause-undone g c newest records table commits none h is =
@@ -121,34 +123,43 @@ returns-clause-undone g c newest records table commits none h is =
 
 pub returns-in-Err-undo_next-clause-log_reads : goal.returns-in-Err-undo_next-clause-log_reads
 returns-in-Err-undo_next-clause-log_reads g c =
-    let remains = c.in-Some.ensures.remains in
+    let remains = c.in-Some.ensures.remains (listed c.loop-next.found.table) c.loop-next.invariant.order in
     omega (arith, some_owed (listed c.loop-next.found.table) c.in-Some.next.0 remains.x remains.there, c.loop-next.invariant.log_reads, c.undo_next.ensures.log_reads)
 
+pub returns-in-Err-clause-works : goal.returns-in-Err-clause-works
+returns-in-Err-clause-works g c = works_lacks c.in-Err.ensures.stops c.requires.going
+
 pub returns-in-Err-clause-does : goal.returns-in-Err-clause-does
-returns-in-Err-clause-does g c newest records table commits none h is =
+returns-in-Err-clause-does g c newest records table commits none h is = elim c.in-Err.ensures.stops [
+  | inl lacks ↦ undoes_lacks (undo_work records) (undo_works records) lacks c.requires.going h
+  | inr foreign ↦ absurd (c.in-Err.ensures.readable [] records (512 * kept_by newest) _ is (order c.table_of_records.ensures.active c.args.log.now c.args.pages.now (g.S.Site.state c.args.site.now) newest records table commits c.args.found.now h is) (ap Err foreign))
+]
+
+pub returns-in-Err-end_undone-clause-does : goal.returns-in-Err-end_undone-clause-does
+returns-in-Err-end_undone-clause-does g c newest records table commits none h is =
     undoes_few (omega arith) (omega arith) (undoes_as (ended_first c.table_of_records.ensures.active c.table_of_records.ensures.one c.table_of_records.ensures.unfinished c.args.found.now h is) refl
     (undoes_stopped (undoing_work (reverse (pending records))) (undo_works records) c.requires.going
-    (c.in-Err.ensures.does c.args.pages.now newest records table commits c.requires.going (undoing g (goal.at.returns-in-Err-clause-does g c).After-end_undone newest records table commits none h is))))
+    (c.in-Err-end_undone.ensures.does c.args.pages.now newest records table commits c.requires.going (undoing g (goal.at.returns-in-Err-end_undone-clause-does g c).After-end_undone newest records table commits none h is))))
 
 pub returns-in-Err-undo_next-clause-does : goal.returns-in-Err-undo_next-clause-does
 returns-in-Err-undo_next-clause-does g c newest records table commits none h is =
-    let s = (goal.at.returns-in-Err-undo_next-clause-does g c).After-next_undo in
+    let s = (goal.at.returns-in-Err-undo_next-clause-does g c).After-take_last in
     let inv = c.loop-next.invariant in
     let before = before g s newest records table commits none h is in
     let undone = before.updates.some in
     let all = records ++ undone.more in
-    let last = next_is_last all c.next_undo.result c.in-Some.next c.in-Some.is (next_is g s newest records table commits none h is) in
+    let last = next_is_last all c.take_last.result c.in-Some.next c.in-Some.is (next_is g s newest records table commits none h is) in
     updates_undone_stopped before last.0 c.in-Some.next.0 c.in-Some.next.1 last.1 (omega (arith, inv.fewer)) c.requires.going h inv.works
     (λ earlier all_are. c.in-Err-undo_next.ensures.does newest all table commits last.0 earlier undone.now last.1 all_are)
 
 pub returns-clause-does : goal.returns-clause-does
 returns-clause-does g c newest records table commits none h is =
-    let s = (goal.at.returns-clause-does g c).After-next_undo in
+    let s = (goal.at.returns-clause-does g c).After-take_last in
     let before = before g s newest records table commits none h is in
-    updates_undone before (omega arith) (none_is_next (records ++ before.updates.some.more) c.next_undo.result (λ at is_some. c.in_default.not-Some at is_some) (next_is g s newest records table commits none h is))
+    updates_undone before (omega arith) (none_is_next (records ++ before.updates.some.more) c.take_last.result (λ at is_some. c.in_default.not-Some at is_some) (next_is g s newest records table commits none h is))
 
-pub returns-in-Err-clause-log_reads : goal.returns-in-Err-clause-log_reads
-returns-in-Err-clause-log_reads g c = omega (arith, c.end_undone.ensures.works.reads Log)
+pub returns-in-Err-end_undone-clause-log_reads : goal.returns-in-Err-end_undone-clause-log_reads
+returns-in-Err-end_undone-clause-log_reads g c = omega (arith, c.end_undone.ensures.works.reads Log)
 
 pub returns-in-Err-undo_next-clause-works : goal.returns-in-Err-undo_next-clause-works
 returns-in-Err-undo_next-clause-works g c = works_stopped c.loop-next.invariant.works c.in-Err-undo_next.ensures.works

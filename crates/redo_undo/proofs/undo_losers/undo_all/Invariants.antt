@@ -4,6 +4,7 @@ use Rattle.log_records.specs.Log.{Entry}
 use Rattle.log_store.specs.Representation.{end_of, has_tail}
 use Rattle.checkpoint.specs.declared.master.Master.{Master}
 use Rattle.analysis.specs.Open.{owed_for}
+use Rattle.analysis.specs.Order.{IsOrder}
 use Rattle.analysis.specs.Table.{listed}
 use Rattle.analysis.specs.Read as analysis
 use Rattle.redo_laws.specs.Holding.{Represents, blocks_to}
@@ -22,6 +23,7 @@ invariant-loop-next g l =
       works : KeepsInvariant {T = Unit {0}} (Ok tt) l.fn.log l.log l.fn.pages l.pages old now;
       found_going : analysis.Invariant l.found;
       before : l.known < end_of l.log;
+      order : IsOrder l.order (listed l.found.table);
       remain : Remain (listed l.found.table);
       commits : l.found.commits ≡ l.fn.found.commits;
       blocks : blocks_to l.log + owed_for (listed l.found.table) ≤ blocks_to l.fn.log + owed_for (listed l.fn.found.table);

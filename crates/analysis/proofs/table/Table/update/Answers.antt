@@ -1,15 +1,27 @@
-use Rattle.std.proofs.Common.{◌∷◌, refl}
+use Rattle.std.proofs.Common.{◌∷◌, refl, sym, ap, ◌∙◌}
+use Rattle.std.specs.Option.{option_copied_mut}
+use Rattle.std.proofs.lemmas.Option.{none-some}
 use Rattle.std.proofs.lemmas.Result.{on_ok_weaker}
 use Rattle.analysis.specs.Open.{Open}
-use Rattle.analysis.proofs.Lists.{becomes_at, same_at, err_maps}
+use Rattle.analysis.proofs.Maps.{found_at, opened, becomes_written, same_written, err_maps, memory_alone}
 use Rattle.analysis.proofs.table.Table.update.Goals as goal
 
+pub returns-in_default-clause-absent : goal.returns-in_default-clause-absent
+returns-in_default-clause-absent c =
+    (λ is. found_at c.args.self.now.transactions.entries c.args.txn ∙ ap (opened c.args.txn) (sym c.get_mut.ensures.value ∙ ap option_copied_mut c.in_default.is), λ none. refl)
+
 pub returns-clause-becomes : goal.returns-clause-becomes
-returns-clause-becomes c txn at ascend =
-    on_ok_weaker c.update.result (λ is.
-    becomes_at c.args.self.now.transactions.items c.args.place txn at c.update.new.self c.index_mut.result.now (λ (x : Open). record x { last = c.args.lsn; updates = c.args.lsn ∷ x.updates })
-    (λ o. refl) c.index_mut.ensures.value is ascend) c.update.ensures.ok
+returns-clause-becomes c =
+    on_ok_weaker c.update.result
+    (becomes_written c.args.self.now.transactions (c.get_mut.follows.lender c.update.new.self) c.args.txn c.in-Some.transaction.now c.update.new.self (λ (x : Open). record x { last = c.args.lsn; updates = c.args.lsn ∷ x.updates }) c.requires
+    (sym c.get_mut.ensures.value ∙ ap option_copied_mut c.in-Some.is) (c.get_mut.follows.holds c.update.new.self)) (c.update.ensures.ok c.args.txn)
 
 pub returns-clause-err : goal.returns-clause-err
 returns-clause-err c =
-    err_maps c.update.result _ _ (same_at c.args.self.now.transactions.items c.args.place c.update.new.self c.index_mut.result.now c.index_mut.ensures.value) c.update.ensures.err
+    err_maps c.update.result _ _
+    (same_written c.args.self.now.transactions (c.get_mut.follows.lender c.update.new.self) c.args.txn c.in-Some.transaction.now c.update.new.self c.requires
+    (sym c.get_mut.ensures.value ∙ ap option_copied_mut c.in-Some.is) (c.get_mut.follows.holds c.update.new.self)) (c.update.ensures.err c.args.txn)
+
+pub returns-clause-absent : goal.returns-clause-absent
+returns-clause-absent c =
+    (λ is. absurd (memory_alone c.update.result c.update.ensures.stops is), λ none. absurd (none-some _ (sym none ∙ found_at c.args.self.now.transactions.entries c.args.txn ∙ ap (opened c.args.txn) (sym c.get_mut.ensures.value ∙ ap option_copied_mut c.in-Some.is))))
