@@ -9,6 +9,8 @@ use Rattle.std.proofs.Common.{◌≡◌, ℕ, ◌+◌, ◌-◌, ◌*◌, ◌≤�
 use Rattle.std.specs.Prelude.{if◌then◌else◌, find}
 use Rattle.site.specs.declared.geometry.Geometry.{Geometry}
 use Rattle.site.specs.State.{State, Image}
+use Rattle.site.specs.Calls.{Preserves, IsUnchanged}
+use Rattle.redo_laws.proofs.CallsInSequence.{holds_still}
 use Rattle.record_model.specs.State.{Content}
 use Rattle.log_records.specs.declared.log_record.LogRecord.{LogRecord}
 use Rattle.log_records.specs.declared.log_record.LogRecord.TheVariants.{Begin, Update, Clr, Commit, End}
@@ -153,6 +155,14 @@ module _ (log : LogStore) (pages : PageStore) (site : State) (newest : Option Ma
   room_for_clr w some =
       let e : Entry = record { lsn = 0; rec = Clr x.txn 0 0 0 0 None } in
       omega (arith, owes_less e refl refl some, h.log_holds.room)
+
+-- so it may behind the read of its Update, which leaves an honest site as it is
+pub may_put_back : (log : LogStore) (pages : PageStore) (before mid : State) (newest : Option Master) (records : List Entry) (table : List Content) (commits : ℕ) (x : Unfinished) (at : UndoCursor) (w : Wanted) (lsn : ℕ) →
+    Represents log pages before newest records table commits → IsUnfinished records x → IsAt at x → 0 < x.remaining → Preserves before mid → IsUnchanged before mid → IsWanted pages.flash.geometry before.image newest records x w →
+    MayGrow log pages mid.image newest records (record { lsn = lsn; rec = Clr at.txn at.last w.prev w.page w.slot w.before })
+may_put_back log pages before mid newest records table commits x at w lsn h unfinished is some goes same wanted =
+    may_compensate log pages mid newest records table commits (holds_still log pages before mid newest records table commits goes same h) x unfinished at w lsn is some
+    (subst (λ (i : Image). IsWanted pages.flash.geometry i newest records x w) (sym same.image) wanted)
 
 -- it was logged
 pub undone : (log : LogStore) (pages : PageStore) (site : State) (newest : Option Master) (records : List Entry) (table : List Content) (commits : ℕ) (x : Unfinished) (at : UndoCursor) (w : Wanted) (lsn : ℕ) →

@@ -25,6 +25,7 @@ ghost use Rattle.redo_undo.specs.UndoCalls.{UndoesWork};
 ghost use Rattle.ring_machine.specs.Commands.{takes_back};
 ghost use Rattle.ring_machine.specs.Restart.{clr_work};
 
+use crate::changing::fits_front;
 use crate::logging::{log_change, log_record, touch};
 use analysis::table_of_records;
 use log_records::LogRecord;
@@ -140,7 +141,8 @@ fn read_update<S: Site>(log: &LogStore, site: &mut S, at: &UndoCursor) -> Result
     }
 }
 
-// Logs the CLR of an Update, and its slot has again what stood there before. Answers the CLR's LSN.
+// Logs the CLR of an Update, and its slot has again what stood there before. Answers the CLR's LSN. Where the page has
+// no room for that it answers Foreign, and logs nothing.
 fn compensate<S: Site>(
     site: &mut S,
     log: &mut LogStore,
@@ -183,8 +185,14 @@ fn compensate<S: Site>(
           rec = LogRecord.Clr at.now.txn at.now.last wanted.prev wanted.page wanted.slot
               wanted.before;
         } ∷ [])) }
-    ensures does { (newest : Option Master) (records : List Entry) (table : List Content) (commits : ℕ)
+    ensures does { (newest : Option Master) (records : List Entry) (table : List Content) (commits lsn : ℕ)
         → Represents log.old pages.old (S.state site.old) newest records table commits
+        → MayGrow log.old pages.old (S.state site.old).image newest records
+        (record {
+          lsn = lsn;
+          rec = LogRecord.Clr at.now.txn at.now.last wanted.prev wanted.page wanted.slot
+              wanted.before;
+        })
         → UndoesWork result (takes_back (32 * wanted.page + wanted.slot, wanted.before)) (one_change wanted.page)
         log.old log.new pages.old pages.new (S.state site.old) (S.state site.new) newest table commits 1 0 }
 
@@ -204,13 +212,18 @@ fn compensate<S: Site>(
         after: wanted.before,
     };
     match touch(site, log, pages, page) {
-        Ok(()) => log_change(site, log, pages, &clr),
-        Err(stop) => Err(stop),
+        Ok(()) => {}
+        Err(stop) => return Err(stop),
     }
+    if !fits_front(pages, &clr) {
+        return Err(Stop::Foreign);
+    }
+    log_change(site, log, pages, &clr)
 }
 
 /// Compensates the last Update newest of a transaction that isn't compensated yet: its slot has again what stood before
-/// it. Where what it reads is no such Update, or there is no room for the CLR, it answers Foreign.
+/// it. Where what it reads is no such Update, or the log has no room for the CLR or the page for that value, it answers
+/// Foreign, and logs nothing.
 pub(crate) fn undo_update<S: Site>(
     site: &mut S,
     log: &mut LogStore,
@@ -361,7 +374,8 @@ fn read_last<S: Site>(log: &LogStore, site: &mut S, txn: u64, last: u64) -> Resu
 /// Undoes a transaction as a whole: a CLR for each of its Updates that has none, the last one first, and its End. `txn`
 /// is the LSN of its Begin and `last` that of its last record. Undo reads no record outside of the kept log, and
 /// follows a transaction to falling LSNs only.
-/// Where what it reads is no such record of the transaction, or there is no room for what it logs, it answers Foreign.
+/// Where what it reads is no such record of the transaction, or log or page has no room for what it logs, it answers
+/// Foreign.
 pub fn undo_one<S: Site>(
     site: &mut S,
     log: &mut LogStore,

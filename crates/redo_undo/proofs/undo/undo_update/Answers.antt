@@ -3,11 +3,9 @@ use Rattle.ring_machine.specs.Restart.{clr_work}
 use Rattle.redo_undo.proofs.UndoCalls.{undoes_answered, undoes_as, undoes_failed, undoes_read, undoes_unread}
 use Rattle.std.proofs.Common.{◌*◌, ◌+◌, true≢false, ◌∷◌, [], refl, sym, ap, subst, ◌∙◌, arith}
 use Rattle.site.specs.declared.geometry.Geometry.{Geometry}
-use Rattle.site.specs.State.{Image}
 use Rattle.log_records.specs.declared.log_record.LogRecord.TheVariants.{Clr}
-use Rattle.redo_undo.specs.Undoing.{IsWanted}
 use Rattle.redo_laws.proofs.CallsInSequence.{holds_still, going_still}
-use Rattle.redo_undo.proofs.Compensations.{may_compensate, room_for_clr, owes_less, undone}
+use Rattle.redo_undo.proofs.Compensations.{may_put_back, room_for_clr, owes_less, undone}
 use Rattle.page_store.specs.Caching.{rules}
 use Rattle.redo_laws.specs.UndoWorks.{works_of}
 use Rattle.redo_laws.proofs.AskingUndo.{work_is}
@@ -30,8 +28,7 @@ returns g c =
           let same = c.read_update.ensures.reads.same h.log_holds.ready.blocks.honest in
           let still = holds_still _ pages _ mid newest records table commits c.read_update.ensures.reads.preserves same h in
           let wanted = c.in-Ok.ensures.wanted pages newest records table commits x c.requires.going.sizes h unfinished at some in
-          let there : IsWanted pages.flash.geometry mid.image newest records x w = subst (λ (i : Image). IsWanted pages.flash.geometry i newest records x w) (sym same.image) wanted in
-          let may = may_compensate _ pages mid newest records table commits still x unfinished c.args.at w c.in-Ok-compensate.last at some there in
+          let may = may_put_back c.args.log.now pages (g.S.Site.state c.args.site.now) mid newest records table commits x c.args.at w c.in-Ok-compensate.last h unfinished at some read.preserves same wanted in
           undone c.compensate.new.log c.compensate.new.pages (g.S.Site.state c.compensate.new.site) newest records table commits x c.args.at w c.in-Ok-compensate.last unfinished at some
           (c.in-Ok-compensate.ensures.holds newest records table commits still may)
           (owes_less _ pages mid newest records table commits still x unfinished (record { lsn = c.in-Ok-compensate.last; rec = Clr c.args.at.txn c.args.at.last w.prev w.page w.slot w.before }) refl at.txn some)
@@ -39,7 +36,8 @@ returns g c =
       does = λ newest records table commits x u rest h unfinished at left.
           let is = c.in-Ok.ensures.last_left pages newest records table commits x u rest c.requires.going.sizes h unfinished at left in
           undoes_answered (undoes_read c.requires.going.sizes h read (undoes_as (clr_is u (32 * w.page + w.slot) w.before is.0 is.1) (sym (work_is u w.page w.slot c.in-Ok.ensures.form.0 is.0))
-          (c.in-Ok-compensate.ensures.does newest records table commits (held_read h read))));
+          (c.in-Ok-compensate.ensures.does newest records table commits 0 (held_read h read) (may_put_back c.args.log.now pages (g.S.Site.state c.args.site.now) mid newest records table commits x c.args.at w 0 h unfinished at (some_left records x u rest unfinished left) read.preserves
+          (read.same h.log_holds.ready.blocks.honest) (c.in-Ok.ensures.wanted pages newest records table commits x c.requires.going.sizes h unfinished at (some_left records x u rest unfinished left))))));
       last = grind (arith, common_steps);
       falls = grind (arith, common_steps);
       same = search rules;
@@ -62,6 +60,8 @@ returns-then-not-has_room-clause-does g c newest records table commits x u rest 
 pub returns-in-Err-compensate-clause-does : goal.returns-in-Err-compensate-clause-does
 returns-in-Err-compensate-clause-does g c newest records table commits x u rest h unfinished at left =
     let w = c.in-Ok.wanted in
+    let some = some_left records x u rest unfinished left in
     let is = c.in-Ok.ensures.last_left c.args.pages.now newest records table commits x u rest c.requires.going.sizes h unfinished at left in
     undoes_failed (undoes_read c.requires.going.sizes h c.in-Ok.ensures.reads (undoes_as (clr_is u (32 * w.page + w.slot) w.before is.0 is.1) (sym (work_is u w.page w.slot c.in-Ok.ensures.form.0 is.0))
-    (c.in-Err-compensate.ensures.does newest records table commits (held_read h c.in-Ok.ensures.reads))))
+    (c.in-Err-compensate.ensures.does newest records table commits 0 (held_read h c.in-Ok.ensures.reads) (may_put_back c.args.log.now c.args.pages.now (g.S.Site.state c.args.site.now) (g.S.Site.state c.read_update.new.site) newest records table commits x c.args.at w 0 h unfinished at some c.in-Ok.ensures.reads.preserves
+    (c.in-Ok.ensures.reads.same h.log_holds.ready.blocks.honest) (c.in-Ok.ensures.wanted c.args.pages.now newest records table commits x c.requires.going.sizes h unfinished at some)))))
