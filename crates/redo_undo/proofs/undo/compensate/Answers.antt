@@ -55,7 +55,7 @@ returns g c =
                 (performs_then (c.in-Ok.ensures.performs newest records table commits h) (performs_by (sym c.in-Ok.ensures.asks.rules_are) (c.log_change.ensures.performs newest records table commits held)));
             log_reads = let same = c.log_change.ensures.reads Log ∙ c.touch.ensures.logs_nothing.log_reads in omega (arith, same);
           };
-      before = grind (arith, common_steps);
+      rises = grind (arith, common_steps);
       works = works_then c.in-Ok.ensures.logs_nothing.works c.log_change.ensures.works;
       blocks = grind (arith, common_steps);
       log_reads = c.log_change.ensures.reads Log ∙ c.touch.ensures.logs_nothing.log_reads;
