@@ -19,7 +19,7 @@ use log_store::LogStore;
 use mem_site::MemSite;
 use page_store::PageStore;
 use record_model::Octets;
-use redo_undo::{TransactionStore, log_change, log_record, touch};
+use redo_undo::{TransactionStore, fits_front, log_change, log_record, touch};
 use site::{Geometry, Stop};
 use std::alloc::Global;
 use std::test::Fail;
@@ -67,7 +67,11 @@ fn changed(alloc: Global, site: &mut MemSite) -> Result<(LogStore, PageStore), S
     let (mut log, mut pages) = opened(alloc, site)?;
     log_record(site, &mut log, &LogRecord::Begin)?;
     touch(site, &mut log, &mut pages, 0)?;
-    log_change(site, &mut log, &mut pages, &update())?;
+    let update = update();
+    if !fits_front(&pages, &update) {
+        return Err(Stop::Foreign);
+    }
+    log_change(site, &mut log, &mut pages, &update)?;
     Ok((log, pages))
 }
 
