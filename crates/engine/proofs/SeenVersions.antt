@@ -5,9 +5,9 @@ use Rattle.std.specs.List.{list_any}
 use Rattle.std.proofs.lemmas.Option.{none-some, same_Some}
 use Rattle.site.specs.State.{State as Site, Image}
 use Rattle.record_model.specs.State.{Content, Session, State, Write, content_at, has_written, last_write, seen, session_at, writes_of}
-use Rattle.log_records.specs.Log.{Entry, Version, is_closed, is_on, last_where, entries_of, slot_at, txn_of}
+use Rattle.log_records.specs.Log.{Entry, Version, is_closed, is_on, last_where, entries_of, slot_at, txn_of, shown}
 use Rattle.log_laws.specs.Follow as follow
-use Rattle.log_laws.specs.Follow.{IsFree, IsFreeFor, IsUndoable, shown}
+use Rattle.log_laws.specs.Follow.{IsFree, IsFreeFor, IsUndoable}
 use Rattle.log_laws.proofs.Appends.{has_written_is}
 use Rattle.log_laws.proofs.Chains.{none_any}
 use Rattle.log_laws.proofs.Lists.{some_or_none}

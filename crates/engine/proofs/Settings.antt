@@ -11,10 +11,10 @@ use Rattle.site.specs.State.{State as Site}
 use Rattle.record_model.specs.State.{Content, State, Write, session_at, table_with}
 use Rattle.record_model.specs.State as model
 use Rattle.record_model.specs.Step.{making, committed}
-use Rattle.log_records.specs.Log.{Entry, is_of, is_closed, is_loser}
+use Rattle.log_records.specs.Log.{Entry, is_of, is_closed, is_loser, shown}
 use Rattle.log_records.specs.Unfinished.{owed}
 use Rattle.log_records.specs.declared.log_record.LogRecord.TheVariants.{Begin, Commit}
-use Rattle.log_laws.specs.Follow.{IsActive, IsFresh, IsFree, IsFreeFor, shown, writes_in, write_of}
+use Rattle.log_laws.specs.Follow.{IsActive, IsFresh, IsFree, IsFreeFor, writes_in, write_of}
 use Rattle.log_laws.specs.Follow as follow
 use Rattle.log_laws.proofs.Appends.{begin_follows}
 use Rattle.log_laws.proofs.Owing.{owed_begin, owed_update, owed_closing}

@@ -9,9 +9,9 @@ use Rattle.std.proofs.lemmas.Bool.Decides.{nat_tests}
 use Rattle.std_lemmas.proofs.AllOf.{all_left, all_right, all_both}
 use Rattle.record_model.specs.State.{content_at}
 use Rattle.log_records.specs.declared.log_record.LogRecord.{LogRecord}
-use Rattle.log_records.specs.Log.{Entry, Version, number_of, is_on, last_on}
+use Rattle.log_records.specs.Log.{Entry, Version, number_of, is_on, last_on, shown}
 use Rattle.log_records.specs.Sound.{LogicalImage, InTurn}
-use Rattle.log_laws.specs.Follow.{Follows, next_entries, shown}
+use Rattle.log_laws.specs.Follow.{Follows, next_entries}
 use Rattle.log_laws.proofs.Lists.{or_is_none}
 use Rattle.log_laws.proofs.Orders.{all_from, none_passes, entries_in_order}
 use Rattle.log_laws.specs.Tail.{whole, Carries}

@@ -11,13 +11,12 @@ use Rattle.std.proofs.lemmas.Option.{none-some}
 use Rattle.std.proofs.lemmas.Nat.{div-mul-add, mod-mul-add}
 use Rattle.std_lemmas.proofs.AllOf.{all_filter, all_weaker}
 use Rattle.record_model.specs.State.{Content, content_at}
-use Rattle.log_records.specs.Log.{Entry, Version, version_at, slot_at, number_of, is_number, is_on, after_of, last_where, last_on}
-use Rattle.log_records.specs.Sound.{LogicalImage, IsSound, IsInOrder, ShowsLast, last_known, before_block}
-use Rattle.log_laws.specs.Follow.{shown_by}
+use Rattle.log_records.specs.Log.{Entry, Version, version_at, slot_at, number_of, is_number, is_on, after_of, last_where, last_on, shown_by}
+use Rattle.log_records.specs.Sound.{LogicalImage, IsSound, IsInOrder, ShowsLast, last_known, before_block, redone}
 use Rattle.log_laws.proofs.Lists.{or_is_none}
 use Rattle.log_laws.proofs.Orders.{all_from, none_passes}
 use Rattle.log_laws.proofs.Values.{is_number-Some}
-use Rattle.image_meaning.specs.Redone.{AreKnown, redone, IsRedone, Redoes}
+use Rattle.image_meaning.specs.Redone.{AreKnown, IsRedone, Redoes}
 use Rattle.log_records.proofs.Lists.{last_where-append}
 
 -- Numbers.

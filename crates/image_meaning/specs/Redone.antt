@@ -2,10 +2,9 @@
 use Rattle.std.specs.Prelude.{◌≡◌, ℕ, ◌+◌, ◌*◌, ◌/◌, ◌<◌, ◌≤◌, ◌==◌, ◌||◌, nat_lt, List, Some}
 use Rattle.std.specs.Prelude.{IsTrue, if◌then◌else◌}
 use Rattle.std.specs.List.{AllByRecursion}
-use Rattle.record_model.specs.State.{Content, content_at}
-use Rattle.log_records.specs.Log.{Entry, Version, version_at, slot_at, number_of, after_of}
-use Rattle.log_records.specs.Sound.{LogicalImage, last_known}
-use Rattle.log_laws.specs.Follow.{shown_by, shown}
+use Rattle.record_model.specs.State.{content_at}
+use Rattle.log_records.specs.Log.{Entry, Version, version_at, number_of, after_of, shown}
+use Rattle.log_records.specs.Sound.{LogicalImage, redone}
 
 -- A version doesn't know of a record that isn't in a sealed block.
 abbrev pub IsLogged : LogicalImage → Version → Type 0
@@ -15,10 +14,6 @@ IsLogged p v = IsTrue ((v.lsn == 0) || nat_lt v.lsn (512 * p.hi))
 abbrev pub AreKnown : List Entry → ℕ → ℕ → Type 0
 AreKnown log page lsn = AllByRecursion (λ e. (number : ℕ) → number_of e.rec ≡ Some number → number / 32 ≡ page
     → e.lsn ≤ lsn) log
-
--- what the last record up to an LSN has written to a number, or what the number's slot has where there is none
-abbrev pub redone : LogicalImage → ℕ → ℕ → Content
-redone p lsn number = shown_by (slot_at p.pages number) (last_known p.log lsn number)
 
 -- The page's version, with the records up to an LSN redone.
 pub record IsRedone (p : LogicalImage) (page : ℕ) (v : Version) : Type 0 where

@@ -9,10 +9,10 @@ use Rattle.std.proofs.lemmas.Option.{same_Some}
 use Rattle.std_lemmas.proofs.AllOf.{all_weaker}
 use Rattle.record_model.specs.State.{Content, Write}
 use Rattle.log_records.specs.declared.log_record.LogRecord.TheVariants.{Begin, Update, Clr, Commit, End}
-use Rattle.log_records.specs.Log.{Entry, Version, txn_of, is_of, is_on, is_number, number_of, is_closing, is_closed, entries_of}
+use Rattle.log_records.specs.Log.{Entry, Version, txn_of, is_of, is_on, is_number, number_of, is_closing, is_closed, entries_of, shown}
 use Rattle.log_records.specs.Unfinished.{clrs_in, left_open}
 use Rattle.log_records.specs.Sound.{Master, IsOpen, IsLoserChain, Undoes, Continues, Compensates, HoldsOff, last_lsn}
-use Rattle.log_laws.specs.Follow.{Follows, CanBeUndone, IsUndone, IsFresh, IsFreeFor, has_written, write_of, shown}
+use Rattle.log_laws.specs.Follow.{Follows, CanBeUndone, IsUndone, IsFresh, IsFreeFor, has_written, write_of}
 use Rattle.log_laws.proofs.Values.{with}
 use Rattle.log_laws.proofs.Orders.{filter_none, InTurn-append}
 

@@ -9,16 +9,15 @@ use Rattle.std.proofs.lemmas.Bool.{or_parts, and_from, and_parts, and_right, eqb
 use Rattle.std_lemmas.proofs.Options.{option_or_none}
 use Rattle.std_lemmas.proofs.Bools.{or_without_last}
 use Rattle.record_model.specs.State.{Content}
-use Rattle.log_records.specs.Log.{Entry, Version, txn_of, is_of, is_on, is_update, is_loser, is_closed, is_closing, entries_of, last_where, last_on, first_update, before_of, before_first, after_of, value_after, value_of, is_number}
+use Rattle.log_records.specs.Log.{Entry, Version, txn_of, is_of, is_on, is_update, is_loser, is_closed, is_closing, entries_of, last_where, last_on, first_update, before_of, before_first, after_of, value_after, value_of, is_number, shown, shown_by}
 use Rattle.log_records.specs.Sound.{Pairwise, HoldsOff}
-use Rattle.log_laws.specs.Follow.{CanBeUndone, shown}
+use Rattle.log_laws.specs.Follow.{CanBeUndone}
 use Rattle.log_laws.proofs.Lists.{one_false, one_true, last_passes, last_any, last_where-filter, find-filter, last_of_both, find_passes, all_find, any_left}
 use Rattle.log_laws.proofs.Chains.{update_of_chain}
 use Rattle.log_records.proofs.Lists.{one, last_where-append, all_last}
 use Rattle.std.proofs.Common.{cond}
 use Rattle.std.proofs.lemmas.Bool.{cases_Bool}
 use Rattle.log_records.specs.Log.{slot_at}
-use Rattle.log_laws.specs.Follow.{shown_by}
 
 abbrev pub with : List Entry → Entry → List Entry
 with log e = log ++ e ∷ []

@@ -6,19 +6,11 @@ use Rattle.record_model.specs.State.{Content, Write, table_with}
 use Rattle.log_records.specs.declared.log_record.LogRecord.{LogRecord}
 use Rattle.log_records.specs.declared.log_record.LogRecord.TheVariants.{Commit, End}
 use Rattle.log_records.specs.Spelling.{AreBlock}
-use Rattle.log_records.specs.Log.{Entry, Version, slot_at, entries_from, txn_of, is_of, is_closed, entries_of, last_on}
+use Rattle.log_records.specs.Log.{Entry, Version, shown, entries_from, txn_of, is_of, is_closed, entries_of}
 use Rattle.log_records.specs.Log.{is_loser, number_of, is_update, before_of, after_of}
 use Rattle.log_records.specs.Unfinished.{is_begin, clrs_in, left_open}
 use Rattle.log_records.specs.Sound.{Master, LogicalImage, InTurn, IsInTable, IsOpen, IsLoserChain, Pairwise, HoldsOff}
 use Rattle.log_records.specs.Sound.{HasRoom, AreNumbered, last_lsn}
-
--- what a slot shows once all records are redone
-abbrev pub shown_by : Content → Option Entry → Content
-shown_by slot None = slot
-shown_by slot (Some x) = after_of x.rec
-
-abbrev pub shown : List Entry → List Version → ℕ → Content
-shown log pages number = shown_by (slot_at pages number) (last_on log number)
 
 abbrev pub is_end : LogRecord → Bool
 is_end (End txn) = true

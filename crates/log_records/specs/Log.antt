@@ -124,6 +124,14 @@ version_at versions page = slice_index_or versions page blank_version
 abbrev pub slot_at : List Version → ℕ → Content
 slot_at versions number = content_at (version_at versions (number / 32)).slots (number % 32)
 
+-- what a slot shows once all records are redone
+abbrev pub shown_by : Content → Option Entry → Content
+shown_by slot None = slot
+shown_by slot (Some x) = after_of x.rec
+
+abbrev pub shown : List Entry → List Version → ℕ → Content
+shown log pages number = shown_by (slot_at pages number) (last_on log number)
+
 -- What a record of the table has, by its slot and by the last Update or CLR on it. A loser counts as undone:
 -- what stood before its first Update there is back. (Its transaction has a record in the log, so it is a loser unless
 -- it is closed.)

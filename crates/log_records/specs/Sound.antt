@@ -7,8 +7,9 @@ use Rattle.record_model.specs.State.{Content, content_at}
 use Rattle.log_records.specs.declared.log_record.LogRecord.{LogRecord}
 use Rattle.log_records.specs.declared.log_record.LogRecord.TheVariants.{Begin, Update, Clr, Commit}
 use Rattle.log_records.specs.Log.{Entry, Version, version_at, table_of, txn_of, entries_of, last_where, is_closed}
-use Rattle.log_records.specs.Log.{is_loser, number_of, is_on, is_update, after_of}
-use Rattle.log_records.specs.Unfinished.{is_begin, clrs_in, prev_of, open_updates, losers, owed}
+use Rattle.log_records.specs.Log.{is_loser, number_of, is_on, is_update, before_of, after_of, last_on, slot_at}
+use Rattle.log_records.specs.Log.{shown_by}
+use Rattle.log_records.specs.Unfinished.{is_begin, prev_of, open_updates, losers, owed}
 
 -- a transaction that was active at a checkpoint: the LSNs of its Begin and of its last record
 pub record Active : Type 0 where
@@ -102,14 +103,21 @@ last_number n (m ∷ numbers) = last_number m numbers
 abbrev pub last_lsn : List Entry → ℕ
 last_lsn entries = last_number 0 (map (λ e. e.lsn) entries)
 
--- a record of an unfinished transaction names the one before it, and no Update comes behind a CLR
+-- a slot has what a record has written, where there is one
+abbrev pub ShowsLast : Content → Option Entry → Type 0
+ShowsLast slot None = ⊤
+ShowsLast slot (Some e) = slot ≡ after_of e.rec
+
+-- A record of an unfinished transaction names the one before it, and an Update begins with what the transaction has
+-- written there last.
 pub record Continues (earlier : List Entry) (e : Entry) : Type 0 where
   pub linked : prev_of e.rec ≡ last_lsn earlier
   pub undoes : Undoes (open_updates [] earlier) e.rec
-  pub updates_first : IsTrue (is_update e.rec) → clrs_in earlier ≡ []
+  pub begins_there : (number : ℕ) → IsTrue (is_update e.rec) → number_of e.rec ≡ Some number
+      → ShowsLast (before_of e.rec) (last_on earlier number)
 
--- what the log has of an unfinished transaction: its Begin, then Updates, then CLRs that compensate the last of these
--- backwards
+-- what the log has of an unfinished transaction: its Begin, then Updates and CLRs, each CLR of the last Update that is
+-- left
 pub record IsLoserChain (begin : ℕ) (entries : List Entry) : Type 0 where
   pub begins : entries ≡ record { lsn = begin; rec = Begin } ∷ drop 1 entries
   pub continues : InTurn Continues (record { lsn = begin; rec = Begin } ∷ []) (drop 1 entries)
@@ -130,9 +138,9 @@ active_in log = map (λ t. record { begin = t; last = last_lsn (entries_of t log
 abbrev pub last_known : List Entry → ℕ → ℕ → Option Entry
 last_known log lsn number = last_where (λ e. is_on number e && nat_le e.lsn lsn) log
 
-abbrev pub ShowsLast : Content → Option Entry → Type 0
-ShowsLast slot None = ⊤
-ShowsLast slot (Some e) = slot ≡ after_of e.rec
+-- what the last record up to an LSN has written to a number, or what the number's slot has where there is none
+abbrev pub redone : LogicalImage → ℕ → ℕ → Content
+redone p lsn number = shown_by (slot_at p.pages number) (last_known p.log lsn number)
 
 -- A version of a page doesn't know of a record that isn't in a sealed block. It has what the last record on each slot
 -- that it knows of has written, and it knows of each record of the page before the redo block.

@@ -20,8 +20,7 @@ use Rattle.buffer_pool.specs.Frames.{frame_of, front_of}
 use Rattle.checkpoint.specs.declared.master.Master.{Master}
 use Rattle.image_meaning.specs.Meaning.{versions_on, version_in}
 use Rattle.redo_laws.specs.Holding.{RepresentsLog, RepresentsIn, KeepsPages, Represents}
-use Rattle.log_records.specs.Log.{Entry, Version, number_of, after_of, is_on, is_number}
-use Rattle.log_laws.specs.Follow.{shown}
+use Rattle.log_records.specs.Log.{Entry, Version, number_of, after_of, is_on, is_number, shown}
 use Rattle.image_meaning.specs.Redone.{Redoes, AreKnown, ShowsAll}
 use Rattle.flash_cache.proofs.Given.{all_append}
 

@@ -10,9 +10,9 @@ use Rattle.site.specs.State.{Image}
 use Rattle.record_model.specs.State.{Content}
 use Rattle.log_records.specs.declared.log_record.LogRecord.{LogRecord}
 use Rattle.log_records.specs.Spelling.{AreBlock}
-use Rattle.log_records.specs.Log.{Entry, Version}
+use Rattle.log_records.specs.Log.{Entry, Version, shown}
 use Rattle.log_records.specs.Sound.{LogicalImage, HasRoom, commit_numbers, commit_number}
-use Rattle.log_laws.specs.Follow.{Follows, sealed, next_entries, shown}
+use Rattle.log_laws.specs.Follow.{Follows, sealed, next_entries}
 use Rattle.log_laws.specs.Tail.{whole, next_lsn}
 use Rattle.checkpoint.specs.declared.master.Master.{Master}
 use Rattle.image_meaning.specs.Meaning.{logical_image_under, versions_on}

@@ -7,9 +7,8 @@ use Rattle.image_changes.specs.Rings.{master_shape}
 use Rattle.record_model.specs.State.{Content}
 use Rattle.log_records.specs.declared.log_record.LogRecord.{LogRecord}
 use Rattle.log_records.specs.declared.log_record.LogRecord.TheVariants.{Update}
-use Rattle.log_records.specs.Log.{Entry}
+use Rattle.log_records.specs.Log.{Entry, shown}
 use Rattle.log_records.specs.Sound.{AreOrderly, from_block}
-use Rattle.log_laws.specs.Follow.{shown}
 use Rattle.buffer_pool.specs.Frames.{front_of}
 use Rattle.checkpoint.specs.declared.master.Master.{Master}
 use Rattle.checkpoint.specs.declared.pairs.Pair.{Pair}
