@@ -7,8 +7,7 @@ use Rattle.log_records.specs.declared.log_record.LogRecord.TheVariants.{Begin}
 use Rattle.record_model.specs.State.{Content}
 use Rattle.log_records.specs.Log.{Entry, is_of, is_closed, entries_of, after_of, last_on}
 use Rattle.log_records.specs.Unfinished.{open_updates, losers}
-use Rattle.log_records.specs.Sound.{InTurn, IsInOrder, HaveBegunBefore, last_lsn}
-use Rattle.image_check.specs.Draft.{IsLoserChain, Continues}
+use Rattle.log_records.specs.Sound.{InTurn, IsInOrder, IsLoserChain, HaveBegunBefore, Continues, last_lsn}
 use Rattle.image_check.specs.declared.chain.Chain.{Chain}
 use Rattle.image_check.specs.declared.chains.Chains.{Chains}
 use Rattle.image_check.specs.declared.undoable.Undoing.{Undoing}

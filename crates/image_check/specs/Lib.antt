@@ -1,7 +1,6 @@
 pub mod Chaining
 pub mod Counting
 pub mod Deciding
-pub mod Draft
 pub mod Holding
 pub mod Judgement
 pub mod Judging

@@ -2,8 +2,7 @@
 ghost use Rattle.std.specs.Prelude.{◌≡◌, ◌↔◌, ◌++◌, ◌∷◌, [], ℕ, List, true, drop, IsTrue};
 ghost use Rattle.log_records.specs.Log.{Entry, entries_of, is_update};
 ghost use Rattle.log_records.specs.Unfinished.{is_clr, open_updates};
-ghost use Rattle.log_records.specs.Sound.{Compensates, Undoes};
-ghost use Rattle.image_check.specs.Draft.{Continues};
+ghost use Rattle.log_records.specs.Sound.{Compensates, Undoes, Continues};
 ghost use Rattle.image_check.specs.Chaining.{IsKept, HearsOwn, begin_at};
 ghost use Rattle.image_check.specs.Judging.{OrMemory};
 

@@ -104,10 +104,10 @@ fn find_open<S: Site>(
 }
 
 /// The fourth rule, of devices that meet the third one, by what is left unfinished: the first unfinished transaction
-/// that hasn't its Begin, then Updates, then compensation records of the last of these backwards; `None` exactly where
-/// there is none. It reads each kept block once, and once more where the last record of a transaction doesn't close it
-/// and its Begin isn't there; it holds the transactions that are open, and of the unfinished ones what remains of their
-/// Updates.
+/// that hasn't its Begin, then Updates and CLRs, each CLR of the last Update that is left, each Update from what the
+/// transaction has written there last; `None` exactly where there is none. It reads each kept block once, and once more
+/// where the last record of a transaction doesn't close it and its Begin isn't there; it holds the transactions that
+/// are open, and of the unfinished ones what remains of their Updates and what they have written last on each number.
 pub fn rule_undoable<S: Site>(
     alloc: Global,
     site: &mut S,
