@@ -9,11 +9,11 @@ use Rattle.std.proofs.lemmas.Option.{same_Some}
 use Rattle.std_lemmas.proofs.AllOf.{all_weaker}
 use Rattle.record_model.specs.State.{Content, Write}
 use Rattle.log_records.specs.declared.log_record.LogRecord.TheVariants.{Begin, Update, Clr, Commit, End}
-use Rattle.log_records.specs.Log.{Entry, Version, txn_of, is_of, is_on, is_number, number_of, is_closing, is_closed, entries_of, shown}
-use Rattle.log_records.specs.Unfinished.{clrs_in, left_open}
-use Rattle.log_records.specs.Sound.{Master, IsOpen, IsLoserChain, Undoes, Continues, Compensates, HoldsOff, last_lsn}
-use Rattle.log_laws.specs.Follow.{Follows, CanBeUndone, IsUndone, IsFresh, IsFreeFor, has_written, write_of}
-use Rattle.log_laws.proofs.Values.{with}
+use Rattle.log_records.specs.Log.{Entry, Version, txn_of, is_of, is_on, is_number, number_of, is_closing, is_closed, entries_of, last_on, shown}
+use Rattle.log_records.specs.Unfinished.{left_open}
+use Rattle.log_records.specs.Sound.{Master, IsOpen, IsLoserChain, Undoes, Continues, Compensates, HoldsOff, ShowsLast, last_lsn}
+use Rattle.log_laws.specs.Follow.{Follows, CanBeUndone, IsUndoable, IsUndone, IsFresh, IsFreeFor, has_written, write_of}
+use Rattle.log_laws.proofs.Values.{with, shown_begins}
 use Rattle.log_laws.proofs.Orders.{filter_none, InTurn-append}
 
 -- Chains.
@@ -82,13 +82,18 @@ module _ (m : Master) (pages : List Version) (log : List Entry) where
   chain_more e chain c = subst (IsLoserChain (txn_of e)) (sym (entries_push e)) (chain_push (txn_of e) (entries_of (txn_of e) log) e chain c)
 
   pub update_follows : (lsn t prev page slot : ℕ) (before after : Content) → 32 * page + slot < 32 * length pages → IsOpen m log t →
-      IsLoserChain t (entries_of t log) → clrs_in (entries_of t log) ≡ [] → prev ≡ last_lsn (entries_of t log) →
+      IsUndoable log → IsLoserChain t (entries_of t log) → prev ≡ last_lsn (entries_of t log) →
       IsFreeFor log t (32 * page + slot) → before ≡ shown log pages (32 * page + slot) →
       Follows m pages log (record { lsn = lsn; rec = Update t prev page slot before after })
-  update_follows lsn t prev page slot before after within lives chain none last free is = record {
+  update_follows lsn t prev page slot before after within lives undoable chain last free is = record {
     in_table = λ number h. subst (λ n. n < 32 * length pages) (same_Some (32 * page + slot) number h) within;
     of_open = λ other. lives;
-    can_be_undone = λ loser. chain_more (record { lsn = lsn; rec = Update t prev page slot before after }) chain (record { linked = last; undoes = tt; updates_first = λ h. none });
+    can_be_undone = λ loser. chain_more (record { lsn = lsn; rec = Update t prev page slot before after }) chain (record {
+      linked = last;
+      undoes = tt;
+      begins_there = λ number h n. subst (λ k. ShowsLast before (last_on (entries_of t log) k)) (same_Some (32 * page + slot) number n)
+          (shown_begins log pages t (32 * page + slot) before undoable lives.not_closed is);
+    });
     held_off = free_off log t (32 * page + slot) (record { lsn = lsn; rec = Update t prev page slot before after }) refl refl free;
     from_shown = λ number h n. is ∙ ap (shown log pages) (same_Some (32 * page + slot) number n);
     ends_undone = λ h. absurd (grind arith);
@@ -103,7 +108,7 @@ module _ (m : Master) (pages : List Version) (log : List Entry) where
     in_table = λ number h. subst (λ n. n < 32 * length pages) (same_Some (32 * page + slot) number h) within;
     of_open = λ other. lives;
     can_be_undone = λ loser. chain_more (record { lsn = lsn; rec = Clr t prev undo_next page slot after }) chain
-        (record { linked = last; undoes = subst (λ (l : List Entry). Undoes l (Clr t prev undo_next page slot after)) (sym next) back; updates_first = λ h. absurd (grind arith) });
+        (record { linked = last; undoes = subst (λ (l : List Entry). Undoes l (Clr t prev undo_next page slot after)) (sym next) back; begins_there = λ number h. absurd (grind arith) });
     held_off = off;
     from_shown = λ number h. absurd (grind arith);
     ends_undone = λ h. absurd (grind arith);

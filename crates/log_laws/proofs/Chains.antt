@@ -1,20 +1,20 @@
 -- What an unfinished transaction has on a record of the table.
 use Rattle.std.proofs.lemmas.Grind.{common_steps}
 use Rattle.std.proofs.Common.{◌≡◌, ℕ, ◌+◌, ◌*◌, ◌⊎◌, inl, inr, ⊎_elim, Bool, true, false, cond, ◌||◌, List, [], ◌∷◌, ◌++◌, length, drop, Some, None, refl, sym, ap, subst, ◌∙◌, append_assoc, arith}
-use Rattle.std.specs.Prelude.{Option, find, ⊤}
+use Rattle.std.specs.Prelude.{Option, find, IsTrue, ⊤}
 use Rattle.std.specs.List.{list_any}
 use Rattle.std.specs.Option.{option_or}
 use Rattle.std.proofs.lemmas.List.{append-nil}
 use Rattle.std.proofs.lemmas.List.Elements.{filter-append}
 use Rattle.std.proofs.lemmas.List.Folds.{list_any-append, find-append}
-use Rattle.std.proofs.lemmas.Bool.{or_left, or_right, or_cases}
+use Rattle.std.proofs.lemmas.Bool.{or_left, or_right, or_cases, eqb-true}
 use Rattle.std_lemmas.proofs.Options.{option_or_none}
 use Rattle.log_records.specs.declared.log_record.LogRecord.{LogRecord}
 use Rattle.log_records.specs.declared.log_record.LogRecord.TheVariants.{Begin, Update, Clr, Commit, End}
-use Rattle.log_records.specs.Log.{Entry, is_on, number_of, is_update, updates_in, last_where, before_of, before_first, after_of}
+use Rattle.log_records.specs.Log.{Entry, is_on, number_of, is_update, updates_in, last_where, last_on, before_of, before_first, after_of}
 use Rattle.log_records.specs.Unfinished.{clrs_in, open_by, open_updates}
-use Rattle.log_records.specs.Sound.{Compensates, Undoes, Continues, IsLoserChain, InTurn}
-use Rattle.log_laws.proofs.Lists.{or_is_none, some_or_none, last_any, any_find}
+use Rattle.log_records.specs.Sound.{Compensates, Undoes, Continues, IsLoserChain, InTurn, ShowsLast}
+use Rattle.log_laws.proofs.Lists.{or_is_none, last_any, any_find}
 use Rattle.log_records.proofs.Lists.{one, last_where-append}
 
 -- a CLR and its Update are on one record, and the CLR leaves what stood before
@@ -82,12 +82,12 @@ Agrees _ _ _ = ⊥
 abbrev AgreesAt : ℕ → List Entry → Type 0
 AgreesAt number entries = Agrees (find (is_on number) (updates_in entries)) (last_where (is_on number) entries) (last_where (is_on number) (open_updates [] entries))
 
-update_step : (f x o : Option Entry) (e : Entry) (b : Bool) → Agrees f x o → (o ≡ None → f ≡ None) → Agrees (option_or f (cond b (Some e) None)) (option_or (cond b (Some e) None) x) (option_or o (cond b (Some e) None))
+update_step : (f x o : Option Entry) (e : Entry) (b : Bool) → Agrees f x o → (b ≡ true → ShowsLast (before_of e.rec) x) → Agrees (option_or f (cond b (Some e) None)) (option_or (cond b (Some e) None) x) (option_or o (cond b (Some e) None))
 update_step None None None e true h n = refl
 update_step None None None e false h n = tt
 update_step (Some f) (Some x) (Some o) e true h n = h
 update_step (Some f) (Some x) (Some o) e false h n = h
-update_step (Some f) (Some x) None e true h n = absurd (let never = n refl in grind arith)
+update_step (Some f) (Some x) None e true h n = n refl ∙ h
 update_step (Some f) (Some x) None e false h n = h
 update_step None (Some x) o e b h n = absurd h
 update_step None None (Some o) e b h n = absurd h
@@ -105,42 +105,6 @@ clr_step None (Some x) (Some o) e u true p h = absurd h
 clr_step (Some f) None None e u true p h = absurd h
 clr_step (Some f) None (Some o) e u true p h = absurd h
 
--- without CLRs all Updates are left
-stays_open : (test : Entry → Bool) (updates entries : List Entry) → clrs_in entries ≡ [] → list_any test updates ≡ true → list_any test (open_updates updates entries) ≡ true
-stays_open test updates [] n h = h
-stays_open test updates (e ∷ entries) n h = by_rec e.lsn e.rec n (λ m us k. stays_open test us entries m k)
-  where
-    by_rec : (lsn : ℕ) (rec : LogRecord) → clrs_in (record { lsn = lsn; rec = rec } ∷ entries) ≡ [] → (clrs_in entries ≡ [] → (us : List Entry) → list_any test us ≡ true → list_any test (open_updates us entries) ≡ true) →
-        list_any test (open_updates (open_by updates (record { lsn = lsn; rec = rec }) rec) entries) ≡ true
-    by_rec lsn Begin n f = f n updates h
-    by_rec lsn (Commit txn number) n f = f n updates h
-    by_rec lsn (End txn) n f = f n updates h
-    by_rec lsn (Clr txn prev undo_next page slot after) n f = absurd (let l = ap length n in omega (arith, l))
-    by_rec lsn (Update txn prev page slot before after) n f = f n (record { lsn = lsn; rec = Update txn prev page slot before after } ∷ updates) (or_right (test (record { lsn = lsn; rec = Update txn prev page slot before after })) (list_any test updates) h)
-
-all_open : (test : Entry → Bool) (updates entries : List Entry) → clrs_in entries ≡ [] → list_any test (updates_in entries) ≡ true → list_any test (open_updates updates entries) ≡ true
-all_open test updates [] n h = absurd (grind arith)
-all_open test updates (e ∷ entries) n h = by_rec e.lsn e.rec n h (λ m us k. all_open test us entries m k)
-  where
-    by_rec : (lsn : ℕ) (rec : LogRecord) → clrs_in (record { lsn = lsn; rec = rec } ∷ entries) ≡ [] → list_any test (updates_in (record { lsn = lsn; rec = rec } ∷ entries)) ≡ true →
-        (clrs_in entries ≡ [] → (us : List Entry) → list_any test (updates_in entries) ≡ true → list_any test (open_updates us entries) ≡ true) →
-        list_any test (open_updates (open_by updates (record { lsn = lsn; rec = rec }) rec) entries) ≡ true
-    by_rec lsn Begin n h f = f n updates h
-    by_rec lsn (Commit txn number) n h f = f n updates h
-    by_rec lsn (End txn) n h f = f n updates h
-    by_rec lsn (Clr txn prev undo_next page slot after) n h f = absurd (let l = ap length n in omega (arith, l))
-    by_rec lsn (Update txn prev page slot before after) n h f =
-        let e : Entry = record { lsn = lsn; rec = Update txn prev page slot before after } in
-        ⊎_elim (λ a. stays_open test (e ∷ updates) entries n (or_left (test e) (list_any test updates) a)) (λ b. f n (e ∷ updates) b) (or_cases (test e) (list_any test (updates_in entries)) h)
-
-find_any : (test : Entry → Bool) (xs : List Entry) (x : Entry) → find test xs ≡ Some x → list_any test xs ≡ true
-find_any test [] x h = absurd (grind arith)
-find_any test (y ∷ ys) x h = by_test (test y) (find_any test ys x) h
-  where
-    by_test : (b : Bool) → (find test ys ≡ Some x → list_any test ys ≡ true) → cond b (Some y) (find test ys) ≡ Some x → (b || list_any test ys) ≡ true
-    by_test true f h = refl
-    by_test false f h = f h
-
 pub none_any : (test : Entry → Bool) (xs : List Entry) → last_where test xs ≡ None → list_any test xs ≡ false
 none_any test [] h = refl
 none_any test (x ∷ xs) h =
@@ -151,13 +115,24 @@ none_any test (x ∷ xs) h =
     by_test true h = absurd (grind arith)
     by_test false h = refl
 
-none_first : (number : ℕ) (entries : List Entry) → clrs_in entries ≡ [] → last_where (is_on number) (open_updates [] entries) ≡ None → find (is_on number) (updates_in entries) ≡ None
-none_first number entries n h = ⊎_elim (λ a. a)
-    (λ f. absurd (let never = sym (none_any (is_on number) (open_updates [] entries) h) ∙ all_open (is_on number) [] entries n (find_any (is_on number) (updates_in entries) f.0 f.1) in grind arith))
-    (some_or_none (find (is_on number) (updates_in entries)))
-
 agrees_more : (number : ℕ) (earlier : List Entry) (e : Entry) → Continues earlier e → AgreesAt number earlier → AgreesAt number (with_entry earlier e)
-agrees_more number earlier e c h = grind (arith, common_steps, open_append, last_where-append, one, filter-append, find-append, update_step, none_first, option_or_none, clr_step, puts_back, same_number)
+agrees_more number earlier e c h =
+    subst (λ (us : List Entry). Agrees (find (is_on number) (updates_in (with_entry earlier e))) (last_where (is_on number) (with_entry earlier e)) (last_where (is_on number) us)) (sym (open_append [] earlier (e ∷ [])))
+    (by_rec e.lsn e.rec (open_updates [] earlier) c.undoes c.begins_there h)
+  where
+    first : List Entry → Option Entry
+    first entries = find (is_on number) (updates_in entries)
+
+    last : List Entry → Option Entry
+    last entries = last_where (is_on number) entries
+
+    by_rec : (lsn : ℕ) (rec : LogRecord) (us : List Entry) → Undoes us rec →
+        ((n : ℕ) → IsTrue (is_update rec) → number_of rec ≡ Some n → ShowsLast (before_of rec) (last_on earlier n)) →
+        Agrees (first earlier) (last earlier) (last us) →
+        Agrees (first (earlier ++ record { lsn = lsn; rec = rec } ∷ [])) (last (earlier ++ record { lsn = lsn; rec = rec } ∷ [])) (last (open_by us (record { lsn = lsn; rec = rec }) rec))
+    by_rec lsn (Update txn prev page slot before after) us u begins k = grind (arith, common_steps, last_where-append, one, filter-append, find-append, update_step, eqb-true)
+    by_rec lsn (Clr txn prev undo_next page slot after) (v ∷ us) u begins k = grind (arith, common_steps, last_where-append, one, filter-append, find-append, clr_step, puts_back, same_number, option_or_none)
+    by_rec lsn _ _ u begins k = absurd u
 
 agrees_all : (number : ℕ) (earlier entries : List Entry) → InTurn Continues earlier entries → AgreesAt number earlier → AgreesAt number (earlier ++ entries)
 agrees_all number earlier [] c h = subst (AgreesAt number) (sym (append-nil earlier)) h

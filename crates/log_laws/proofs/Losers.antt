@@ -17,14 +17,14 @@ use Rattle.log_records.specs.declared.log_record.LogRecord.TheVariants.{Begin, U
 use Rattle.log_records.specs.Log.{Entry, Version, txn_of, is_of, is_on, is_update, is_closing, is_closed, is_loser, entries_of, updates_in, first_update, shown}
 use Rattle.log_records.specs.Unfinished.{is_begin, is_clr, clrs_in, open_by, open_updates, left_open, losers, owed_by}
 use Rattle.log_records.specs.Sound.{Active, Master, LogicalImage, IsOpen, IsInTable, is_known, before_block, from_block, last_lsn, last_number}
-use Rattle.log_laws.specs.Follow.{Follows, IsActive, IsFresh, IsFreeFor, IsUndoable, next_entries, write_of}
+use Rattle.log_laws.specs.Follow.{Follows, CanBeUndone, IsActive, IsFresh, IsFreeFor, IsUndoable, next_entries, write_of}
 use Rattle.log_laws.specs.Tail.{Carries, whole, next_lsn}
 use Rattle.log_laws.proofs.Lists.{any_find, some_or_none}
 use Rattle.log_laws.proofs.Values.{with, closed_same, closed_by, last_is_own, update_of}
 use Rattle.log_laws.proofs.Chains.{any_open, none_any}
 use Rattle.log_laws.proofs.Orders.{filter_none, all_from, entries_in_order}
 use Rattle.log_laws.proofs.Parts.{parts_at}
-use Rattle.log_laws.proofs.Appends.{begins, chain_start, chain_more, fresh_entries, fresh_open, update_follows, clr_follows, free_off, has_written_is}
+use Rattle.log_laws.proofs.Appends.{begins, chain_start, fresh_entries, fresh_open, update_follows, clr_follows, free_off, has_written_is}
 use Rattle.log_laws.proofs.Owing.{left_is_written}
 use Rattle.log_laws.proofs.Tails.{whole_in_order, whole_is_undoable}
 
@@ -56,23 +56,27 @@ open_more m log e t o h = record { known = known_more m.active m.redo log e t o.
 
 -- Transactions at work.
 
+pub loser_goes_on : (log : List Entry) (e : Entry) → is_closing e.rec ≡ false → is_closed log (txn_of e) ≡ false → is_loser (with log e) (txn_of e) ≡ true
+loser_goes_on log e c lives = grind (arith, and_from, list_any-append, or_right, or_left, eq-eqb, not_from_false, closed_same, and_right)
+
 pub active_begun : (m : Master) (log : List Entry) (lsn : ℕ) → IsFresh lsn log → 512 * m.redo ≤ lsn → IsActive m (with log (record { lsn = lsn; rec = Begin })) lsn lsn []
 active_begun m log lsn fresh late = grind (arith, common_steps, with, begins, entries_own, eq-eqb, fresh_entries, known_begun, closed_same, and_right, fresh_open, chain_start)
 
 pub active_may_write : (m : Master) (pages : List Version) (log : List Entry) (lsn t last page slot : ℕ) (writes : List Write) (before after : Content) →
-    IsActive m log t last writes → 32 * page + slot < 32 * length pages → IsFreeFor log t (32 * page + slot) → before ≡ shown log pages (32 * page + slot) →
+    IsUndoable log → IsActive m log t last writes → 32 * page + slot < 32 * length pages → IsFreeFor log t (32 * page + slot) → before ≡ shown log pages (32 * page + slot) →
     Follows m pages log (record { lsn = lsn; rec = Update t last page slot before after })
-active_may_write m pages log lsn t last page slot writes before after a within free is =
-    update_follows m pages log lsn t last page slot before after within a.lives a.chain a.no_clrs a.last_is free is
+active_may_write m pages log lsn t last page slot writes before after undoable a within free is =
+    update_follows m pages log lsn t last page slot before after within a.lives undoable a.chain a.last_is free is
 
 pub active_writes : (m : Master) (log : List Entry) (lsn t last page slot : ℕ) (writes : List Write) (before after : Content) → IsActive m log t last writes →
+    CanBeUndone (with log (record { lsn = lsn; rec = Update t last page slot before after })) t →
     IsActive m (with log (record { lsn = lsn; rec = Update t last page slot before after })) t lsn (writes ++ (32 * page + slot, after) ∷ [])
-active_writes m log lsn t last page slot writes before after a =
+active_writes m log lsn t last page slot writes before after a undone =
     let e : Entry = record { lsn = lsn; rec = Update t last page slot before after } in
     let entries = entries_own log e t (eq-eqb t t refl) in
     record {
       lives = open_more m log e t a.lives (and_right (t == t) false refl);
-      chain = chain_more m [] log e a.chain (record { linked = a.last_is; undoes = tt; updates_first = λ h. a.no_clrs });
+      chain = undone (loser_goes_on log e refl a.lives.not_closed);
       no_clrs = ap clrs_in entries ∙ filter-append (λ x. is_clr x.rec) (entries_of t log) (e ∷ []) ∙ ap (λ (l : List Entry). l ++ []) a.no_clrs;
       last_is = sym (ap last_lsn entries ∙ last_number_of 0 (entries_of t log) e);
       writes_are = ap (λ (l : List Write). l ++ (32 * page + slot, after) ∷ []) a.writes_are
@@ -89,9 +93,6 @@ active_owes m log t last writes a = ap (λ n. n + 1) (left_is_written log t a.ch
 
 pub loser_stays : (log : List Entry) (e : Entry) (t : ℕ) → is_of t e ≡ false → is_loser (with log e) t ≡ is_loser log t
 loser_stays log e t h = grind (arith, list_any-append, or_without_last, closed_same, and_left)
-
-pub loser_goes_on : (log : List Entry) (e : Entry) → is_closing e.rec ≡ false → is_closed log (txn_of e) ≡ false → is_loser (with log e) (txn_of e) ≡ true
-loser_goes_on log e c lives = grind (arith, and_from, list_any-append, or_right, or_left, eq-eqb, not_from_false, closed_same, and_right)
 
 pub loser_is_closed : (log : List Entry) (e : Entry) → is_closing e.rec ≡ true → is_loser (with log e) (txn_of e) ≡ false
 loser_is_closed log e c = grind (arith, closed_by, and_from, eq-eqb, and_right)

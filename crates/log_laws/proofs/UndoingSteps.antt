@@ -1,87 +1,209 @@
 -- One step of undo.
-use Rattle.std.proofs.Common.{◌≡◌, ℕ, ◌+◌, ◌*◌, ◌<◌, true, false, not, List, [], ◌∷◌, length, drop, Some, refl, sym, ap, subst, ◌∙◌, arith}
+use Rattle.std.proofs.lemmas.Grind.{common_steps}
+use Rattle.std.proofs.Common.{◌≡◌, ℕ, ◌+◌, ◌*◌, ◌<◌, ◌≤◌, Bool, true, false, cond, not, List, [], ◌∷◌, ◌++◌, length, drop, Some, refl, sym, ap, subst, ◌∙◌, arith}
 use Rattle.std.specs.Prelude.{find, ◌==◌}
 use Rattle.std.specs.List.{AllByRecursion, list_any}
+use Rattle.std.specs.Option.{option_or}
 use Rattle.std.proofs.lemmas.Bool.{and_from, eq-eqb, not_from_false, or_left}
+use Rattle.std.proofs.lemmas.List.Folds.{find-append}
 use Rattle.record_model.specs.State.{Write}
 use Rattle.log_records.specs.declared.log_record.LogRecord.{LogRecord}
 use Rattle.log_records.specs.declared.log_record.LogRecord.TheVariants.{Update, Clr, End}
-use Rattle.log_records.specs.Log.{Entry, txn_of, is_of, is_closing, is_closed, is_loser, entries_of}
-use Rattle.log_records.specs.Unfinished.{left_open}
-use Rattle.log_records.specs.Sound.{Master, LogicalImage, IsInOrder, IsInTable, IsOpen}
+use Rattle.log_records.specs.Log.{Entry, txn_of, is_of, is_update, is_closing, is_closed, is_loser, entries_of, updates_in}
+use Rattle.log_records.specs.Unfinished.{is_clr, open_updates, left_open}
+use Rattle.log_records.specs.Sound.{Master, LogicalImage, IsInOrder, IsInTable, IsOpen, last_lsn}
 use Rattle.log_laws.specs.Follow.{Follows, IsActive}
-use Rattle.log_laws.specs.Tail.{Carries, whole, next_lsn}
-use Rattle.log_laws.specs.Analysis.{Unfinished, IsUnfinished, unfinished_at, after_record}
-use Rattle.log_laws.specs.UndoLaws.{IsNext}
+use Rattle.log_laws.specs.Tail.{Carries, whole}
+use Rattle.log_laws.specs.Analysis.{Unfinished, IsUnfinished, past_clr, after_clr}
+use Rattle.log_laws.specs.UndoLaws.{IsLink, IsUndoChain, goes_back}
 use Rattle.log_laws.specs.UndoSteps.{IsToUndo}
 use Rattle.log_laws.proofs.Values.{with}
 use Rattle.log_laws.proofs.Appends.{end_follows}
 use Rattle.log_laws.proofs.Owing.{left_is_written}
-use Rattle.log_laws.proofs.Losers.{any_of_those, clr_of_last_follows, left_keep, loser_goes_on, loser_is_not_closed, loser_is_known}
-use Rattle.log_laws.proofs.Tails.{whole_in_order, whole_in_table, whole_is_undoable}
-use Rattle.log_laws.proofs.Undoing.{next_to_undo, next_of_active}
-use Rattle.log_laws.proofs.Analysing.{at_own}
+use Rattle.log_laws.proofs.Losers.{any_of_those, clr_of_last_follows, entries_other, last_more, left_keep, loser_goes_on, loser_is_not_closed, loser_is_known, loser_stays}
+use Rattle.log_laws.proofs.OpenUpdates.{left_after_clr}
+use Rattle.log_laws.proofs.Tails.{whole_in_table, whole_is_undoable}
+use Rattle.log_laws.proofs.Undoing.{unfinished_from_last}
 
-none_left : (us : List Entry) → length us ≡ 0 → us ≡ []
-none_left [] h = refl
-none_left (u ∷ us) h = absurd (omega (arith, h))
+-- What is read next.
 
-some_left : (us : List Entry) → 0 < length us → (u : Entry) × (rest : List Entry) × (us ≡ u ∷ rest)
-some_left [] h = absurd (omega (arith, h))
-some_left (u ∷ rest) h = (u, rest, refl)
+-- each record of a chain stands behind the Begin
+chain_late : (log : List Entry) (begin from : ℕ) (chain : List Entry) → IsUndoChain log begin from chain → begin ≤ from
+chain_late log begin from [] is = omega (arith, is)
+chain_late log begin from (e ∷ chain) is = let late = is.0.late in let falls = is.0.falls in omega (arith, late, falls)
+
+-- at the Begin nothing more is read, and behind it a record is
+pub chain_ends : (log : List Entry) (begin from : ℕ) (chain : List Entry) → IsUndoChain log begin from chain → from ≡ begin → chain ≡ []
+chain_ends log begin from [] is end = refl
+chain_ends log begin from (e ∷ chain) is end = absurd (let late = is.0.late in let falls = is.0.falls in omega (arith, late, falls, end))
+
+pub chain_goes_on : (log : List Entry) (begin from : ℕ) (chain : List Entry) → IsUndoChain log begin from chain → begin < from → (e : Entry) × (rest : List Entry) × (chain ≡ e ∷ rest)
+chain_goes_on log begin from [] is less = absurd (omega (arith, is, less))
+chain_goes_on log begin from (e ∷ rest) is less = (e, rest, refl)
+
+-- more records behind a log leave its chains
+pub chain_stays : (log more : List Entry) (begin from : ℕ) (chain : List Entry) → IsUndoChain log begin from chain → IsUndoChain (log ++ more) begin from chain
+chain_stays log more begin from [] is = is
+chain_stays log more begin from (e ∷ chain) is = (
+  record {
+    lsn = is.0.lsn;
+    found = find-append (λ x. x.lsn == from) log more ∙ ap (λ o. option_or o (find (λ x. x.lsn == from) more)) is.0.found;
+    own = is.0.own;
+    change = is.0.change;
+    late = is.0.late;
+    falls = is.0.falls;
+  },
+  chain_stays log more begin (goes_back e.rec) chain is.1,
+)
+
+-- what a chain of an Update, or of a CLR, and those below reads
+reads_update : (u : Entry) (rest : List Entry) → is_update u.rec ≡ true → updates_in (u ∷ rest) ≡ u ∷ updates_in rest
+reads_update u rest update = ap (λ b. cond b (u ∷ updates_in rest) (updates_in rest)) update
+
+reads_clr : (c : Entry) (rest : List Entry) → is_clr c.rec ≡ true → updates_in (c ∷ rest) ≡ updates_in rest
+reads_clr c rest clr = ap (λ b. cond b (c ∷ updates_in rest) (updates_in rest)) (no_update c.rec clr)
+  where
+    no_update : (rec : LogRecord) → is_clr rec ≡ true → is_update rec ≡ false
+    no_update (Clr txn prev undo_next page slot after) h = refl
+    no_update _ h = absurd (grind arith)
+
+module _ (log : List Entry) (x : Unfinished) (is : IsUnfinished log x) where
+  pub next_is_late : x.txn ≤ x.next
+  next_is_late = chain_late log x.txn x.next x.chain is.chain_is
+
+  -- what is read first
+  pub first_read : (e : Entry) (rest : List Entry) → x.chain ≡ e ∷ rest → IsLink log x.txn x.next e × IsUndoChain log x.txn (goes_back e.rec) rest
+  first_read e rest split = subst (IsUndoChain log x.txn x.next) split is.chain_is
+
+  -- an Update that is read first is the last one that is left
+  pub update_is_last : (u : Entry) (rest : List Entry) → x.chain ≡ u ∷ rest → is_update u.rec ≡ true → left_open log x.txn ≡ u ∷ updates_in rest
+  update_is_last u rest split update = sym is.left_is ∙ ap updates_in split ∙ reads_update u rest update
+
+  -- where something is left something is read, and where nothing is read nothing is left
+  pub some_read : 0 < x.remaining → (e : Entry) × (rest : List Entry) × (x.chain ≡ e ∷ rest)
+  some_read some = by_chain x.chain refl
+    where
+      by_chain : (chain : List Entry) → x.chain ≡ chain → (e : Entry) × (rest : List Entry) × (x.chain ≡ e ∷ rest)
+      by_chain [] none = absurd (let left = is.remaining_is ∙ ap length (sym is.left_is ∙ ap updates_in none) in omega (arith, left, some))
+      by_chain (e ∷ rest) split = (e, rest, split)
+
+  pub nothing_left : x.chain ≡ [] → left_open log x.txn ≡ []
+  nothing_left none = sym is.left_is ∙ ap updates_in none
+
+  pub none_remains : x.chain ≡ [] → x.remaining ≡ 0
+  none_remains none = is.remaining_is ∙ ap length (nothing_left none)
+
+  -- A CLR is read, and undoing goes on where it says.
+  pub clr_is_read : (c : Entry) (rest : List Entry) → x.chain ≡ c ∷ rest → is_clr c.rec ≡ true → IsUnfinished log (past_clr x c)
+  clr_is_read c rest split clr =
+      let first = first_read c rest split in
+      let rest_is : drop 1 x.chain ≡ rest = ap (drop 1) split in
+      record {
+        loser = is.loser;
+        last_is = is.last_is;
+        chain_is = subst (IsUndoChain log x.txn (goes_back c.rec)) (sym rest_is) first.1;
+        left_is = ap updates_in rest_is ∙ sym (reads_clr c rest clr) ∙ ap updates_in (sym split) ∙ is.left_is;
+        early = let falls = first.0.falls in let early = is.early in omega (arith, falls, early);
+        remaining_is = is.remaining_is;
+      }
+
+  -- An Update is read, and the CLR that compensates it is written.
+  pub clr_is_written : (u : Entry) (rest : List Entry) (e : Entry) → x.chain ≡ u ∷ rest → is_update u.rec ≡ true → is_clr e.rec ≡ true → txn_of e ≡ x.txn → goes_back e.rec ≡ goes_back u.rec → x.last ≤ e.lsn →
+      IsUnfinished (with log e) (after_clr x e)
+  clr_is_written u rest e split update clr own back late =
+      let first = first_read u rest split in
+      let left : left_open (with log e) x.txn ≡ updates_in rest = left_after_clr log e x.txn clr own ∙ ap (drop 1) (update_is_last u rest split update) in
+      let rest_is : drop 1 x.chain ≡ rest = ap (drop 1) split in
+      record {
+        loser = subst (λ t. is_loser (with log e) t ≡ true) own (loser_goes_on log e (closes_nothing e.rec clr) (subst (λ t. is_closed log t ≡ false) (sym own) (loser_is_not_closed log x.txn is.loser)));
+        last_is = sym (last_more log e x.txn ∙ ap (λ b. cond b e.lsn (last_lsn (entries_of x.txn log))) (eq-eqb (txn_of e) x.txn own));
+        chain_is = subst (λ n. IsUndoChain (with log e) x.txn n (drop 1 x.chain)) (sym back)
+            (subst (IsUndoChain (with log e) x.txn (goes_back u.rec)) (sym rest_is) (chain_stays log (e ∷ []) x.txn (goes_back u.rec) rest first.1));
+        left_is = ap updates_in rest_is ∙ sym left;
+        early = let falls = first.0.falls in let early = is.early in omega (arith, falls, early, late, back);
+        remaining_is =
+            let now = ap length left in
+            let was = is.remaining_is ∙ ap length (update_is_last u rest split update) in
+            omega (arith, now, was);
+      }
+    where
+      closes_nothing : (rec : LogRecord) → is_clr rec ≡ true → is_closing rec ≡ false
+      closes_nothing (Clr txn prev undo_next page slot after) h = refl
+      closes_nothing _ h = absurd (grind arith)
+
+  -- A record of another transaction is written.
+  pub other_is_written : (e : Entry) → is_of x.txn e ≡ false → IsUnfinished (with log e) x
+  other_is_written e other =
+      let entries = entries_other log e x.txn other in
+      record {
+        loser = loser_stays log e x.txn other ∙ is.loser;
+        last_is = is.last_is ∙ ap last_lsn (sym entries);
+        chain_is = chain_stays log (e ∷ []) x.txn x.next x.chain is.chain_is;
+        left_is = is.left_is ∙ ap left_of (sym entries);
+        early = is.early;
+        remaining_is = is.remaining_is ∙ ap (λ (l : List Entry). length (left_of l)) (sym entries);
+      }
+    where
+      left_of : List Entry → List Entry
+      left_of entries = open_updates [] entries
 
 module _ (p : LogicalImage) (tail : List LogRecord) (x : Unfinished) (c : Carries p tail) (is : IsUnfinished (whole p tail) x) where
   lives : IsOpen p.master (whole p tail) x.txn
   lives = loser_is_known p tail x.txn c is.loser
 
-  to_undo : (at : ℕ) (rec : LogRecord) (rest : List Entry) → left_open (whole p tail) x.txn ≡ record { lsn = at; rec = rec } ∷ rest → IsNext (whole p tail) x.txn (record { lsn = at; rec = rec }) rest →
+  to_undo : (at : ℕ) (rec : LogRecord) (rest : List Entry) → is_update rec ≡ true → left_open (whole p tail) x.txn ≡ record { lsn = at; rec = rec } ∷ rest → IsLink (whole p tail) x.txn x.next (record { lsn = at; rec = rec }) →
       IsInTable p.pages (record { lsn = at; rec = rec }) → IsToUndo p (whole p tail) x rec
-  to_undo at (Update txn prev page slot before after) rest left n in_table = let next = is.next_is in
-      let nn = n.next in
-      let falls = n.falls in
-      let early = n.early in
-      let last = is.last_is in (
-        n.own,
-        n.late,
-        omega (arith, next, nn, falls),
-        omega (arith, next, nn, early, last),
-        in_table (32 * page + slot) refl,
-        λ lsn. subst (λ l. Follows p.master p.pages (whole p tail) (record { lsn = lsn; rec = Clr x.txn l prev page slot before })) (sym last)
-            (clr_of_last_follows p.master p.pages (whole p tail) lsn x.txn txn at prev page slot before after rest (whole_is_undoable p tail c) lives is.loser (whole_in_table p tail c) left),
-      )
-  to_undo at _ rest left n in_table = absurd (let u = n.update in grind arith)
+  to_undo at (Update txn prev page slot before after) rest update left n in_table = (
+    n.own,
+    n.late,
+    n.falls,
+    is.early,
+    in_table (32 * page + slot) refl,
+    λ lsn. subst (λ l. Follows p.master p.pages (whole p tail) (record { lsn = lsn; rec = Clr x.txn l prev page slot before })) (sym is.last_is)
+        (clr_of_last_follows p.master p.pages (whole p tail) lsn x.txn txn at prev page slot before after rest (whole_is_undoable p tail c) lives is.loser (whole_in_table p tail c) left),
+  )
+  to_undo at _ rest update left n in_table = absurd (grind arith)
 
-  pub undo_step : 0 < x.remaining → (u : Entry) × (find (λ e. e.lsn == x.next) (whole p tail) ≡ Some u) × IsToUndo p (whole p tail) x u.rec
-  undo_step some =
-      let remains = is.remaining_is in
-      let left = some_left (left_open (whole p tail) x.txn) (omega (arith, some, remains)) in
-      let u = left.0 in
-      let rest = left.1 in
-      let n = next_to_undo (512 * p.master.kept) (next_lsn p tail) (whole p tail) x.txn u rest (whole_in_order p tail c) ((whole_is_undoable p tail c).undone x.txn is.loser) left.2 in
-      let in_table = (subst (AllByRecursion (IsInTable p.pages)) left.2 (left_keep (IsInTable p.pages) (whole p tail) x.txn (whole_in_table p tail c))).0 in
-      (u, ap (λ k. find (λ e. e.lsn == k) (whole p tail)) (is.next_is ∙ n.next) ∙ n.found, to_undo u.lsn u.rec rest left.2 n in_table)
+  -- an Update that is read first is to be undone
+  pub undo_step : (u : Entry) (rest : List Entry) → x.chain ≡ u ∷ rest → is_update u.rec ≡ true → IsToUndo p (whole p tail) x u.rec
+  undo_step u rest split update =
+      let left = update_is_last (whole p tail) x is u rest split update in
+      let in_table = (subst (AllByRecursion (IsInTable p.pages)) left (left_keep (IsInTable p.pages) (whole p tail) x.txn (whole_in_table p tail c))).0 in
+      to_undo u.lsn u.rec (updates_in rest) update left (first_read (whole p tail) x is u rest split).0 in_table
 
+  -- where nothing is left an End may come
   pub undo_end : x.remaining ≡ 0 → (lsn : ℕ) → Follows p.master p.pages (whole p tail) (record { lsn = lsn; rec = End x.txn })
   undo_end none lsn = end_follows p.master p.pages (whole p tail) lsn x.txn lives (none_left (left_open (whole p tail) x.txn) (sym is.remaining_is ∙ none))
+    where
+      none_left : (us : List Entry) → length us ≡ 0 → us ≡ []
+      none_left [] h = refl
+      none_left (u ∷ us) h = absurd (omega (arith, h))
 
-pub unfinished_step : (log : List Entry) (e : Entry) (x : Unfinished) → IsUnfinished log x → x.txn ≡ txn_of e → is_closing e.rec ≡ false → IsUnfinished (with log e) (after_record x e)
-unfinished_step log e x is own c =
-    let it : x ≡ unfinished_at log x.txn = λ k. record { txn = x.txn; last = is.last_is k; next = is.next_is k; remaining = is.remaining_is k } in
-    let now : after_record x e ≡ unfinished_at (with log e) x.txn = ap (λ (y : Unfinished). after_record y e) it ∙ sym (at_own log e x.txn (eq-eqb (txn_of e) x.txn (sym own))) in
-    record {
-      loser = subst (λ t. is_loser (with log e) t ≡ true) (sym own) (loser_goes_on log e c (subst (λ t. is_closed log t ≡ false) own (loser_is_not_closed log x.txn is.loser)));
-      last_is = ap (λ (y : Unfinished). y.last) now;
-      next_is = ap (λ (y : Unfinished). y.next) now;
-      remaining_is = ap (λ (y : Unfinished). y.remaining) now;
-    }
+-- A transaction that was never undone: its Updates are read, and nothing else.
+
+all_are_updates : (entries : List Entry) → length entries ≤ length (updates_in entries) → updates_in entries ≡ entries
+all_are_updates [] h = refl
+all_are_updates (e ∷ entries) h = by (is_update e.rec) h (all_are_updates entries) (updates_few entries)
+  where
+    updates_few : (xs : List Entry) → length (updates_in xs) ≤ length xs
+    updates_few [] = omega arith
+    updates_few (y ∷ ys) = grind (arith, (updates_few ys))
+
+    by : (b : Bool) → length (e ∷ entries) ≤ length (cond b (e ∷ updates_in entries) (updates_in entries)) → (length entries ≤ length (updates_in entries) → updates_in entries ≡ entries) →
+        length (updates_in entries) ≤ length entries → cond b (e ∷ updates_in entries) (updates_in entries) ≡ e ∷ entries
+    by true h f few = ap (λ (l : List Entry). e ∷ l) (f (omega (arith, h)))
+    by false h f few = absurd (omega (arith, h, few))
 
 pub active_is_unfinished : (m : Master) (from to : ℕ) (log : List Entry) (t last : ℕ) (writes : List Write) → IsInOrder from log to → IsActive m log t last writes →
-    IsUnfinished log (record { txn = t; last = last; next = last; remaining = length writes })
-active_is_unfinished m from to log t last writes order a = record {
-  loser = and_from (list_any (is_of t) log) (not (is_closed log t))
-      (any_of_those (is_of t) (is_of t) log (ap (list_any (is_of t)) a.chain.begins ∙ or_left (t == t) (list_any (is_of t) (drop 1 (entries_of t log))) (eq-eqb t t refl)))
-      (not_from_false (is_closed log t) a.lives.not_closed);
-  last_is = a.last_is;
-  next_is = sym (next_of_active m from to log t last writes order a);
-  remaining_is = ap length a.writes_are ∙ sym (left_is_written log t a.chain a.no_clrs);
-}
+    IsUnfinished log (record { txn = t; last = last; next = last; remaining = length writes; chain = left_open log t })
+active_is_unfinished m from to log t last writes order a =
+    let begun : is_loser log t ≡ true = and_from (list_any (is_of t) log) (not (is_closed log t))
+    (any_of_those (is_of t) (is_of t) log (ap (list_any (is_of t)) a.chain.begins ∙ or_left (t == t) (list_any (is_of t) (drop 1 (entries_of t log))) (eq-eqb t t refl)))
+    (not_from_false (is_closed log t) a.lives.not_closed) in
+    let found = unfinished_from_last from to log t order a.chain last (length writes) begun a.last_is (ap length a.writes_are ∙ sym (left_is_written log t a.chain a.no_clrs)) in
+    let is = found.1 in
+    let few = found.2 in
+    let none = ap length a.no_clrs in
+    let many = ap length is.left_is in
+    let same : found.0 ≡ left_open log t = sym (all_are_updates found.0 (omega (arith, few, none, many))) ∙ is.left_is in
+    subst (λ (l : List Entry). IsUnfinished log (record { txn = t; last = last; next = last; remaining = length writes; chain = l })) same is
