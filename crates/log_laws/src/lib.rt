@@ -4,4 +4,4 @@
 
 mod examples;
 
-pub use examples::{a_loser, a_stray};
+pub use examples::{a_loser, a_second_try, a_stray};

@@ -80,6 +80,37 @@ pub undone : table_of ended versions ≡ slice_set (replicate 64 None) 5 (Some (
 unfolding spelling
 undone = refl
 
+-- A third block: it writes on behind its CLR, 33 and 34, undoes the latter and writes 33 once more. All counts as undone.
+abbrev second_try : List LogRecord
+second_try =
+    Update 514 591 1 1 None (Some (0x02 ∷ []))
+    ∷ Update 514 1026 1 2 None (Some (0x03 ∷ []))
+    ∷ Clr 514 1051 1026 1 2 None
+    ∷ Update 514 1076 1 1 (Some (0x02 ∷ [])) (Some (0x04 ∷ []))
+    ∷ []
+
+pub still_undone : table_of (log_from 0 (first_set ∷ loser ∷ second_try ∷ [])) versions ≡ slice_set (replicate 64 None) 5 (Some (0x0a ∷ 0x0b ∷ []))
+unfolding spelling
+still_undone = refl
+
+pub the_last_counts : table_of (log_from 0 (first_set ∷ loser ∷ second_try ∷ (Commit 514 2 ∷ []) ∷ [])) versions ≡ slice_set (replicate 64 None) 33 (Some (0x04 ∷ []))
+unfolding spelling
+the_last_counts = refl
+
+-- and so once undoing has gone back over both CLRs
+abbrev all_undone : List LogRecord
+all_undone =
+    Clr 514 1107 1076 1 1 (Some (0x02 ∷ []))
+    ∷ Clr 514 1538 591 1 1 None
+    ∷ Clr 514 1570 515 0 5 (Some (0x01 ∷ []))
+    ∷ Clr 514 1601 514 0 5 (Some (0x0a ∷ 0x0b ∷ []))
+    ∷ End 514
+    ∷ []
+
+pub ended_twice : table_of (log_from 0 (first_set ∷ loser ∷ second_try ∷ all_undone ∷ [])) versions ≡ slice_set (replicate 64 None) 5 (Some (0x0a ∷ 0x0b ∷ []))
+unfolding spelling
+ended_twice = refl
+
 -- A slot counts only where the log has no record on it.
 abbrev older : List Version
 older = record { lsn = 3; slots = None ∷ Some (0x07 ∷ []) ∷ None ∷ None ∷ None ∷ Some (0x08 ∷ []) ∷ [] } ∷ []

@@ -102,6 +102,52 @@ fn spells_a_compensation(rt: HostRuntime) {
     assert_eq!(rt; read_record(&COMPENSATION, 0, 32), Ok((undo, 32)));
 }
 
+// The second block of a log, in which a transaction undoes an Update and writes on: the CLR at 2,
+// behind it an Update of the same record.
+const SECOND_BLOCK: [u8; 58] = [
+    0x00, 0x3a, // used
+    0x03, // Clr
+    0x00, 0x00, 0x00, 0x00, 0x00, 0x00, 0x00, 0x02, // txn
+    0x00, 0x00, 0x00, 0x00, 0x00, 0x00, 0x00, 0x03, // prev
+    0x00, 0x00, 0x00, 0x00, 0x00, 0x00, 0x00, 0x02, // undo_next
+    0x00, 0x00, 0x00, 0x00, // page
+    0x05, // slot
+    0x00, // after
+    0x02, // Update
+    0x00, 0x00, 0x00, 0x00, 0x00, 0x00, 0x00, 0x02, // txn
+    0x00, 0x00, 0x00, 0x00, 0x00, 0x00, 0x02, 0x02, // prev
+    0x00, 0x00, 0x00, 0x00, // page
+    0x05, // slot
+    0x00, // before
+    0x02, 0x0c, // after
+];
+
+#[test]
+fn reads_an_update_behind_a_compensation(rt: HostRuntime) {
+    let mut content = [0; BLOCK_LEN];
+    content[..58].copy_from_slice(&SECOND_BLOCK);
+    assert_eq!(rt; check_block(&content), Ok(58));
+    let undone = LogRecord::Clr {
+        txn: 2,
+        prev: 3,
+        undo_next: 2,
+        page: 0,
+        slot: 5,
+        after: None,
+    };
+    assert_eq!(rt; read_record(&content, 2, 58), Ok((undone, 33)));
+    let after = Octets::from_slice(&[0x0c]);
+    let again = LogRecord::Update {
+        txn: 2,
+        prev: 514,
+        page: 0,
+        slot: 5,
+        before: None,
+        after,
+    };
+    assert_eq!(rt; read_record(&content, 33, 58), Ok((again, 58)));
+}
+
 #[test]
 fn spells_an_end(rt: HostRuntime) {
     let mut octets = [0xff; 11];
