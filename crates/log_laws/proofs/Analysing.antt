@@ -135,6 +135,7 @@ unfinished_closed from to log e front x back order c split own =
     (losers_split log front x back split ∙ ap (λ n. map (λ (z : Summary). z.txn) front ++ n ∷ map (λ (z : Summary). z.txn) back) own))
     ∙ one_leaves log e from (losers log) front x back (losers_ascend (is_listed log) from log to order) split own
 
+-- what is listed is a loser, as the log says of it
 pub unfinished_there : (log : List Entry) (front : List Summary) (x : Summary) (back : List Summary) → unfinished_in log ≡ front ++ x ∷ back → IsTrue (is_loser log x.txn) × (x ≡ unfinished_at log x.txn)
 unfinished_there log front x back split =
     (all_right (λ (z : Summary). IsTrue (is_loser log z.txn) × (z ≡ unfinished_at log z.txn)) front (x ∷ back) (subst (AllByRecursion (λ (z : Summary). IsTrue (is_loser log z.txn) × (z ≡ unfinished_at log z.txn))) split
