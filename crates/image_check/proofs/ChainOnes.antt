@@ -1,19 +1,22 @@
 -- One unfinished transaction after one record more.
-use Rattle.std.proofs.Common.{◌≡◌, ℕ, ◌-◌, Bool, true, false, true≢false, not, ◌||◌, cond, List, [], ◌∷◌, ◌++◌, length, map, take, drop, Option, Some, None, refl, sym, ap, subst, ◌∙◌, arith}
+use Rattle.std.proofs.Common.{◌≡◌, ℕ, ◌-◌, ◌==◌, nat_eq, Bool, true, false, true≢false, cond, List, [], ◌∷◌, ◌++◌, length, map, take, drop, Option, Some, None, option_map, refl, sym, ap, subst, ◌∙◌, arith}
 use Rattle.std.specs.Prelude.{reverse}
-use Rattle.std.specs.List.{list_any}
-use Rattle.std.proofs.lemmas.Bool.{not-true, not_from_false}
 use Rattle.std.proofs.lemmas.List.{append-nil, length-append, reverse-append, reverse-reverse, take_at}
 use Rattle.std.proofs.lemmas.List.Elements.{filter-append}
-use Rattle.std.proofs.lemmas.List.Folds.{list_any-append}
+use Rattle.std.proofs.lemmas.Option.{same_Some}
+use Rattle.std_lemmas.proofs.Options.{option_or_none}
+use Rattle.indexmap.specs.IndexMap.{IndexMap, get}
+use Rattle.record_model.specs.State.{Content}
 use Rattle.log_records.specs.declared.log_record.LogRecord.{LogRecord}
 use Rattle.log_records.specs.declared.log_record.LogRecord.TheVariants.{Begin, Update, Clr, Commit, End}
-use Rattle.log_records.specs.Log.{Entry, is_of, is_update, entries_of}
-use Rattle.log_records.specs.Unfinished.{is_clr, clrs_in, prev_of, open_by, open_updates}
-use Rattle.log_records.specs.Sound.{Continues, Undoes, last_number}
+use Rattle.log_records.specs.Log.{Entry, is_of, is_update, entries_of, number_of, is_number, before_of, after_of, last_on}
+use Rattle.log_records.specs.Unfinished.{is_clr, prev_of, open_by, open_updates}
+use Rattle.log_records.specs.Sound.{Continues, Undoes, ShowsLast, last_number}
 use Rattle.log_laws.proofs.Orders.{InTurn-append}
+use Rattle.log_laws.proofs.Values.{last_same, last_new}
 use Rattle.image_check.specs.declared.chain.Chain.{Chain}
-use Rattle.image_check.specs.Chaining.{IsKept, Keeps, begin_at}
+use Rattle.image_check.specs.Chaining.{AreLast, IsKept, Keeps, begin_at}
+use Rattle.image_check.specs.Showing.{IsAs}
 
 -- One record more.
 
@@ -25,35 +28,24 @@ last_push : (n : ℕ) (rest : List Entry) (e : Entry) → last_number n (map (λ
 last_push n [] e = refl
 last_push n (x ∷ rest) e = last_push x.lsn rest e
 
-none_more : (b : Bool) → (b || (false || false)) ≡ b
-none_more true = refl
-none_more false = refl
-
-one_more : (b : Bool) → (b || (true || false)) ≡ true
-one_more true = refl
-one_more false = refl
-
 map_drop : (us : List Entry) → drop 1 (map (λ (u : Entry). u.rec) us) ≡ map (λ (u : Entry). u.rec) (drop 1 us)
 map_drop [] = refl
 map_drop (u ∷ us) = refl
 
-any_push : (rest : List Entry) (e : Entry) → list_any (λ x. is_clr x.rec) (rest ++ e ∷ []) ≡ (list_any (λ x. is_clr x.rec) rest || (is_clr e.rec || false))
-any_push rest e = list_any-append (λ x. is_clr x.rec) rest (e ∷ [])
-
 pub kept_update : (t : ℕ) (c : Chain) (new : List LogRecord) (rest : List Entry) (lsn : ℕ) (rec : LogRecord) → is_update rec ≡ true → reverse new ≡ rec ∷ reverse c.updates.items → IsKept t c rest →
-    Continues (begin_at t ∷ rest) (record { lsn = lsn; rec = rec }) → (d : Chain) → d.last ≡ lsn → d.updates.items ≡ new → d.undoing ≡ c.undoing → IsKept t d (rest ++ record { lsn = lsn; rec = rec } ∷ [])
-kept_update t c new rest lsn (Update txn prev page slot before after) is pushed k goes d last items undoing =
+    Continues (begin_at t ∷ rest) (record { lsn = lsn; rec = rec }) → (d : Chain) → d.last ≡ lsn → d.updates.items ≡ new → AreLast (rest ++ record { lsn = lsn; rec = rec } ∷ []) d.written.last → IsKept t d (rest ++ record { lsn = lsn; rec = rec } ∷ [])
+kept_update t c new rest lsn (Update txn prev page slot before after) is pushed k goes d last items written =
     let e : Entry = record { lsn = lsn; rec = Update txn prev page slot before after } in
     record {
       continues = InTurn-append Continues (begin_at t ∷ []) rest e k.continues goes;
       last = last ∙ sym (last_push t rest e);
       left = ap reverse items ∙ pushed ∙ ap (λ (l : List LogRecord). e.rec ∷ l) k.left ∙ ap (map (λ (u : Entry). u.rec)) (sym (open_push [] rest e));
-      undoing = undoing ∙ k.undoing ∙ sym (any_push rest e ∙ none_more (list_any (λ x. is_clr x.rec) rest));
+      written = written;
     }
-kept_update t c new rest lsn Begin is pushed k goes d last items undoing = absurd (true≢false (sym is))
-kept_update t c new rest lsn (Clr txn prev undo_next page slot after) is pushed k goes d last items undoing = absurd (true≢false (sym is))
-kept_update t c new rest lsn (Commit txn number) is pushed k goes d last items undoing = absurd (true≢false (sym is))
-kept_update t c new rest lsn (End txn) is pushed k goes d last items undoing = absurd (true≢false (sym is))
+kept_update t c new rest lsn Begin is pushed k goes d last items written = absurd (true≢false (sym is))
+kept_update t c new rest lsn (Clr txn prev undo_next page slot after) is pushed k goes d last items written = absurd (true≢false (sym is))
+kept_update t c new rest lsn (Commit txn number) is pushed k goes d last items written = absurd (true≢false (sym is))
+kept_update t c new rest lsn (End txn) is pushed k goes d last items written = absurd (true≢false (sym is))
 
 undoes_none : (us : List Entry) (rec : LogRecord) → is_update rec ≡ false → is_clr rec ≡ false → Undoes us rec → ⊥
 undoes_none [] Begin a b undoes = undoes
@@ -66,19 +58,19 @@ undoes_none [] (End txn) a b undoes = undoes
 undoes_none (u ∷ us) (End txn) a b undoes = undoes
 
 pub kept_clr : (t : ℕ) (c : Chain) (new : List LogRecord) (rest : List Entry) (lsn : ℕ) (rec : LogRecord) → is_update rec ≡ false → reverse new ≡ drop 1 (reverse c.updates.items) → IsKept t c rest →
-    Continues (begin_at t ∷ rest) (record { lsn = lsn; rec = rec }) → (d : Chain) → d.last ≡ lsn → d.updates.items ≡ new → d.undoing ≡ true → IsKept t d (rest ++ record { lsn = lsn; rec = rec } ∷ [])
-kept_clr t c new rest lsn (Clr txn prev undo_next page slot after) is popped k goes d last items undoing =
+    Continues (begin_at t ∷ rest) (record { lsn = lsn; rec = rec }) → (d : Chain) → d.last ≡ lsn → d.updates.items ≡ new → AreLast (rest ++ record { lsn = lsn; rec = rec } ∷ []) d.written.last → IsKept t d (rest ++ record { lsn = lsn; rec = rec } ∷ [])
+kept_clr t c new rest lsn (Clr txn prev undo_next page slot after) is popped k goes d last items written =
     let e : Entry = record { lsn = lsn; rec = Clr txn prev undo_next page slot after } in
     record {
       continues = InTurn-append Continues (begin_at t ∷ []) rest e k.continues goes;
       last = last ∙ sym (last_push t rest e);
       left = ap reverse items ∙ popped ∙ ap (drop 1) k.left ∙ map_drop (open_updates [] rest) ∙ ap (map (λ (u : Entry). u.rec)) (sym (open_push [] rest e));
-      undoing = undoing ∙ sym (any_push rest e ∙ one_more (list_any (λ x. is_clr x.rec) rest));
+      written = written;
     }
-kept_clr t c new rest lsn (Update txn prev page slot before after) is popped k goes d last items undoing = absurd (true≢false is)
-kept_clr t c new rest lsn Begin is popped k goes d last items undoing = absurd (undoes_none (open_updates [] rest) Begin refl refl goes.undoes)
-kept_clr t c new rest lsn (Commit txn number) is popped k goes d last items undoing = absurd (undoes_none (open_updates [] rest) (Commit txn number) refl refl goes.undoes)
-kept_clr t c new rest lsn (End txn) is popped k goes d last items undoing = absurd (undoes_none (open_updates [] rest) (End txn) refl refl goes.undoes)
+kept_clr t c new rest lsn (Update txn prev page slot before after) is popped k goes d last items written = absurd (true≢false is)
+kept_clr t c new rest lsn Begin is popped k goes d last items written = absurd (undoes_none (open_updates [] rest) Begin refl refl goes.undoes)
+kept_clr t c new rest lsn (Commit txn number) is popped k goes d last items written = absurd (undoes_none (open_updates [] rest) (Commit txn number) refl refl goes.undoes)
+kept_clr t c new rest lsn (End txn) is popped k goes d last items written = absurd (undoes_none (open_updates [] rest) (End txn) refl refl goes.undoes)
 
 -- the Updates without the last one
 pub popped_is : (old new : List LogRecord) → new ≡ take (length old - 1) old → reverse new ≡ drop 1 (reverse old)
@@ -94,37 +86,58 @@ popped_is old new is = ap reverse is ∙ by (reverse old) (sym (reverse-reverse 
         ∙ ap reverse (take_at (reverse back) (x ∷ []) (length (reverse back)) refl)
         ∙ reverse-reverse back
 
--- no CLR so far
+-- An Update begins with what was written last on its number.
 
-no_clrs : (rest : List Entry) → list_any (λ x. is_clr x.rec) rest ≡ false → clrs_in rest ≡ []
-no_clrs [] none = refl
-no_clrs (x ∷ rest) none = by (is_clr x.rec) none (no_clrs rest)
-  where
-    by : (b : Bool) → (b || list_any (λ y. is_clr y.rec) rest) ≡ false → (list_any (λ y. is_clr y.rec) rest ≡ false → clrs_in rest ≡ []) → cond b (x ∷ clrs_in rest) (clrs_in rest) ≡ []
-    by true is again = absurd (true≢false is)
-    by false is again = again is
+as_shown : (slot : Content) (o : Option Entry) → IsAs slot (option_map (λ (x : Entry). after_of x.rec) o) → ShowsLast slot o
+as_shown slot None same = tt
+as_shown slot (Some x) same = same
 
-clrs_none : (rest : List Entry) → clrs_in rest ≡ [] → list_any (λ x. is_clr x.rec) rest ≡ false
-clrs_none [] none = refl
-clrs_none (x ∷ rest) none = by (is_clr x.rec) none (clrs_none rest)
-  where
-    by : (b : Bool) → cond b (x ∷ clrs_in rest) (clrs_in rest) ≡ [] → (clrs_in rest ≡ [] → list_any (λ y. is_clr y.rec) rest ≡ false) → (b || list_any (λ y. is_clr y.rec) rest) ≡ false
-    by true is again = let never : ⊥ = cc in absurd never
-    by false is again = again is
+shown_as : (slot : Content) (o : Option Entry) → ShowsLast slot o → IsAs slot (option_map (λ (x : Entry). after_of x.rec) o)
+shown_as slot None same = tt
+shown_as slot (Some x) same = same
 
-pub update_goes_on : (t : ℕ) (c : Chain) (rest : List Entry) (lsn : ℕ) (rec : LogRecord) → is_update rec ≡ true → prev_of rec ≡ c.last → not c.undoing ≡ true → IsKept t c rest → Continues (begin_at t ∷ rest) (record { lsn = lsn; rec = rec })
-update_goes_on t c rest lsn (Update txn prev page slot before after) is linked calm k = record {
+-- the Begin is on no number
+behind_begin : (t : ℕ) (rest : List Entry) (number : ℕ) → last_on (begin_at t ∷ rest) number ≡ last_on rest number
+behind_begin t rest number = option_or_none (last_on rest number)
+
+pub update_goes_on : (t : ℕ) (c : Chain) (rest : List Entry) (lsn : ℕ) (rec : LogRecord) (number : ℕ) → is_update rec ≡ true → number_of rec ≡ Some number → prev_of rec ≡ c.last →
+    IsAs (before_of rec) (get nat_eq c.written.last number) → IsKept t c rest → Continues (begin_at t ∷ rest) (record { lsn = lsn; rec = rec })
+update_goes_on t c rest lsn (Update txn prev page slot before after) number is on linked same k = record {
   linked = linked ∙ k.last;
   undoes = tt;
-  updates_first = λ update. no_clrs rest (sym k.undoing ∙ not-true c.undoing calm);
+  begins_there = λ n update there.
+      let here : IsAs before (get nat_eq c.written.last n) = subst (λ (m : ℕ). IsAs before (get nat_eq c.written.last m)) (same_Some number n (sym on ∙ there)) same in
+      subst (ShowsLast before) (sym (behind_begin t rest n)) (as_shown before (last_on rest n) (subst (IsAs before) (k.written.each n) here));
 }
-update_goes_on t c rest lsn Begin is linked calm k = absurd (true≢false (sym is))
-update_goes_on t c rest lsn (Clr txn prev undo_next page slot after) is linked calm k = absurd (true≢false (sym is))
-update_goes_on t c rest lsn (Commit txn number) is linked calm k = absurd (true≢false (sym is))
-update_goes_on t c rest lsn (End txn) is linked calm k = absurd (true≢false (sym is))
+update_goes_on t c rest lsn Begin number is on linked same k = absurd (true≢false (sym is))
+update_goes_on t c rest lsn (Clr txn prev undo_next page slot after) number is on linked same k = absurd (true≢false (sym is))
+update_goes_on t c rest lsn (Commit txn n) number is on linked same k = absurd (true≢false (sym is))
+update_goes_on t c rest lsn (End txn) number is on linked same k = absurd (true≢false (sym is))
 
-pub calm_before : (t : ℕ) (c : Chain) (rest : List Entry) (lsn : ℕ) (rec : LogRecord) → is_update rec ≡ true → IsKept t c rest → Continues (begin_at t ∷ rest) (record { lsn = lsn; rec = rec }) → not c.undoing ≡ true
-calm_before t c rest lsn rec is k goes = not_from_false c.undoing (k.undoing ∙ clrs_none rest (goes.updates_first is))
+pub update_begins : (t : ℕ) (c : Chain) (rest : List Entry) (lsn : ℕ) (rec : LogRecord) (number : ℕ) → is_update rec ≡ true → number_of rec ≡ Some number → IsKept t c rest →
+    Continues (begin_at t ∷ rest) (record { lsn = lsn; rec = rec }) → IsAs (before_of rec) (get nat_eq c.written.last number)
+update_begins t c rest lsn rec number is on k goes =
+    subst (IsAs (before_of rec)) (sym (k.written.each number))
+    (shown_as (before_of rec) (last_on rest number) (subst (ShowsLast (before_of rec)) (behind_begin t rest number) (goes.begins_there number is on)))
+
+-- What was written last on each number, with one record more.
+
+pub last_unwritten : {S : Type 0} (records : List Entry) (e : Entry) (contents : IndexMap ℕ Content S) → number_of e.rec ≡ None → AreLast records contents → AreLast (records ++ e ∷ []) contents
+last_unwritten records e contents none are = record {
+  each = λ number. are.each number ∙ sym (ap (option_map (λ (x : Entry). after_of x.rec)) (last_same records e number (ap (is_number number) none)));
+}
+
+pub last_written : {S : Type 0} (records : List Entry) (e : Entry) (m : ℕ) (old new : IndexMap ℕ Content S) → number_of e.rec ≡ Some m →
+    ((n : ℕ) → get nat_eq new n ≡ cond (m == n) (Some (after_of e.rec)) (get nat_eq old n)) → AreLast records old → AreLast (records ++ e ∷ []) new
+last_written records e m old new on updates are = record { each = λ n. updates n ∙ by n (m == n) refl }
+  where
+    by : (n : ℕ) (b : Bool) → (m == n) ≡ b → cond (m == n) (Some (after_of e.rec)) (get nat_eq old n) ≡ option_map (λ (x : Entry). after_of x.rec) (last_on (records ++ e ∷ []) n)
+    by n true here =
+        ap (λ (b : Bool). cond b (Some (after_of e.rec)) (get nat_eq old n)) here
+        ∙ sym (ap (option_map (λ (x : Entry). after_of x.rec)) (last_new records e n (ap (is_number n) on ∙ here)))
+    by n false other =
+        ap (λ (b : Bool). cond b (Some (after_of e.rec)) (get nat_eq old n)) other ∙ are.each n
+        ∙ sym (ap (option_map (λ (x : Entry). after_of x.rec)) (last_same records e n (ap (is_number n) on ∙ other)))
 
 -- The records of one transaction.
 
@@ -147,11 +160,11 @@ pub kept_behind : (t : ℕ) (records : List Entry) (e : Entry) → is_of t e ≡
 kept_behind t records e own is = sym (ap (drop 1) (own_more t records e own ∙ ap (λ (l : List Entry). l ++ e ∷ []) is))
 
 -- what is kept before the first record
-pub kept_first : (t : ℕ) (c : Chain) → c.last ≡ t → c.updates.items ≡ [] → c.undoing ≡ false → IsKept t c []
-kept_first t c last none calm = record { continues = tt; last = last; left = ap reverse none; undoing = calm }
+pub kept_first : (t : ℕ) (c : Chain) → c.last ≡ t → c.updates.items ≡ [] → AreLast [] c.written.last → IsKept t c []
+kept_first t c last none written = record { continues = tt; last = last; left = ap reverse none; written = written }
 
 pub kept_where : (t : ℕ) (c : Chain) (found : Option Chain) → found ≡ Some c → (rest : List Entry) → Keeps t found rest → IsKept t c rest
 kept_where t c found is rest keeps = subst (λ (o : Option Chain). Keeps t o rest) is keeps
 
-pub kept_nowhere : (t : ℕ) (c : Chain) (found : Option Chain) → found ≡ None → c.last ≡ t → c.updates.items ≡ [] → c.undoing ≡ false → (rest : List Entry) → Keeps t found rest → IsKept t c rest
-kept_nowhere t c found is last none calm rest keeps = subst (IsKept t c) (sym (subst (λ (o : Option Chain). Keeps t o rest) is keeps)) (kept_first t c last none calm)
+pub kept_nowhere : (t : ℕ) (c : Chain) (found : Option Chain) → found ≡ None → c.last ≡ t → c.updates.items ≡ [] → AreLast [] c.written.last → (rest : List Entry) → Keeps t found rest → IsKept t c rest
+kept_nowhere t c found is last none written rest keeps = subst (IsKept t c) (sym (subst (λ (o : Option Chain). Keeps t o rest) is keeps)) (kept_first t c last none written)

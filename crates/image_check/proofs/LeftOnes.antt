@@ -22,9 +22,8 @@ use Rattle.log_records.specs.declared.log_record.LogRecord.TheVariants.{Begin, U
 use Rattle.log_records.specs.Log.{Entry, txn_of, is_of, is_closing, is_closed, entries_of}
 use Rattle.log_records.specs.Unfinished.{is_begin, losers, open_by, open_updates}
 use Rattle.log_records.specs.Sound.{Active, IsInOrder, last_lsn, before_block, active_in}
-use Rattle.log_laws.specs.Analysis.{Unfinished, unfinished_at, unfinished_in, remaining_by, after_record}
+use Rattle.log_laws.specs.Analysis.{Summary, unfinished_at, unfinished_in, remaining_by, after_record}
 use Rattle.log_laws.specs.Follow.{IsFresh}
-use Rattle.log_laws.specs.UndoLaws.{next_in}
 use Rattle.log_laws.proofs.Parts.{all_below, all_made, filter_same}
 use Rattle.log_laws.proofs.Values.{closed_push}
 use Rattle.log_laws.proofs.Analysing.{unfinished_begin, unfinished_more, unfinished_closed, unfinished_there}
@@ -62,7 +61,7 @@ losers_same log e old others =
 -- a record of another transaction changes nothing of one
 at_other : (log : List Entry) (e : Entry) (t : ℕ) → is_of t e ≡ false → unfinished_at (log ++ e ∷ []) t ≡ unfinished_at log t
 at_other log e t other =
-    ap (λ (own : List Entry). record { txn = t; last = last_lsn own; next = next_in t own; remaining = length (open_updates [] own) })
+    ap (λ (own : List Entry). record { txn = t; last = last_lsn own; remaining = length (open_updates [] own) })
     (filter-append (is_of t) log (e ∷ []) ∙ ap (λ (b : Bool). entries_of t log ++ cond b (e ∷ []) []) other ∙ append-nil (entries_of t log))
 
 pub unfinished_same : (log : List Entry) (e : Entry) → is_begin e.rec ≡ false → AllByRecursion (λ n. (txn_of e == n) ≡ false) (losers log) → unfinished_in (log ++ e ∷ []) ≡ unfinished_in log
@@ -82,17 +81,17 @@ absent log t (n ∷ ns) none = by (t == n) refl (ap (λ (b : Bool). cond b (Some
     by true is found rest = absurd (none-some (left_of (unfinished_at log n)) (sym found))
     by false is none rest = (is, rest none)
 
-record Split (us : List Unfinished) (t : ℕ) (v : Left) : Type 0 where
-  pub front : List Unfinished
-  pub x : Unfinished
-  pub back : List Unfinished
+record Split (us : List Summary) (t : ℕ) (v : Left) : Type 0 where
+  pub front : List Summary
+  pub x : Summary
+  pub back : List Summary
   pub is : us ≡ front ++ x ∷ back
   pub own : x.txn ≡ t
   pub read : v ≡ left_of x
   pub removed : remove_entry (is_at (nat_cmp t)) (map entry_of us) ≡ map entry_of (front ++ back)
-  pub changed : (y : Unfinished) → y.txn ≡ t → set_value (is_at (nat_cmp t)) (map entry_of us) (left_of y) ≡ map entry_of (front ++ y ∷ back)
+  pub changed : (y : Summary) → y.txn ≡ t → set_value (is_at (nat_cmp t)) (map entry_of us) (left_of y) ≡ map entry_of (front ++ y ∷ back)
 
-split : (us : List Unfinished) (t : ℕ) (v : Left) → lookup (is_at (nat_cmp t)) (map entry_of us) ≡ Some v → Split us t v
+split : (us : List Summary) (t : ℕ) (v : Left) → lookup (is_at (nat_cmp t)) (map entry_of us) ≡ Some v → Split us t v
 split [] t v found = absurd (none-some v found)
 split (u ∷ us) t v found = by (is_at (nat_cmp t) u.txn) refl found (split us t v)
   where
@@ -119,7 +118,7 @@ split (u ∷ us) t v found = by (is_at (nat_cmp t) u.txn) refl found (split us t
           front = u ∷ at.front;
           x = at.x;
           back = at.back;
-          is = ap (λ (l : List Unfinished). u ∷ l) at.is;
+          is = ap (λ (l : List Summary). u ∷ l) at.is;
           own = at.own;
           read = at.read;
           removed = ap (λ (b : Bool). cond b rest (entry_of u ∷ remove_entry (is_at (nat_cmp t)) rest)) other ∙ ap (λ (l : List (ℕ × Left)). entry_of u ∷ l) at.removed;
@@ -157,9 +156,9 @@ passed_few test xs =
     let few = count_by-le-length test xs in
     omega (arith, count, few)
 
-remaining_few : (log : List Entry) (front : List Unfinished) (x : Unfinished) (back : List Unfinished) → unfinished_in log ≡ front ++ x ∷ back → x.remaining ≤ length log
+remaining_few : (log : List Entry) (front : List Summary) (x : Summary) (back : List Summary) → unfinished_in log ≡ front ++ x ∷ back → x.remaining ≤ length log
 remaining_few log front x back is =
-    let there = (unfinished_there log front x back is).remaining_is in
+    let there : x.remaining ≡ length (open_updates [] (entries_of x.txn log)) = ap (λ (z : Summary). z.remaining) (unfinished_there log front x back is).1 in
     let few = open_few [] (entries_of x.txn log) in
     let all = passed_few (is_of x.txn) log in
     omega (arith, there, few, all)
@@ -184,7 +183,7 @@ left_begins records from lsn rec old new begins order fresh is put =
     subst (λ (r : LogRecord). AreLeft (records ++ record { lsn = lsn; rec = r } ∷ []) new) (sym (begin_only rec begins)) (record {
       are = put ∙ ap (λ (l : List (ℕ × Left)). insert_entry nat_cmp l lsn first) is.are
           ∙ insert_last lsn first (map entry_of (unfinished_in records)) (listed_below records (is_listed records) lsn records (all_below from records lsn order))
-          ∙ sym (map-append entry_of (unfinished_in records) (record { txn = lsn; last = lsn; next = lsn; remaining = 0 } ∷ []))
+          ∙ sym (map-append entry_of (unfinished_in records) (record { txn = lsn; last = lsn; remaining = 0 } ∷ []))
           ∙ ap (map entry_of) (sym (unfinished_begin records lsn fresh));
     })
 

@@ -1,6 +1,6 @@
 -- Calls that only read, one after the other, and walks over the log that was found.
-use Rattle.std.proofs.Common.{◌≡◌, ℕ, ◌+◌, ◌*◌, List, [], ◌∷◌, ◌++◌, length, sym, ap, ◌∙◌, subst, arith}
-use Rattle.std.specs.Prelude.{Option, Some, None, Result, Ok, Err}
+use Rattle.std.proofs.Common.{◌≡◌, ℕ, ◌+◌, ◌*◌, ◌≤◌, List, [], ◌∷◌, ◌++◌, length, sym, ap, ◌∙◌, subst, arith}
+use Rattle.std.specs.Prelude.{Option, Some, None, Result, Ok, Err, IfSome}
 use Rattle.site.specs.declared.outside.Stop.{Stop}
 use Rattle.site.specs.declared.outside.Stop.TheVariants.{Device, Memory}
 use Rattle.site.specs.State.{State, Image}
@@ -12,12 +12,12 @@ use Rattle.log_records.specs.Sound.{IsInOrder}
 use Rattle.log_store.specs.Representation.{Finds, HasBlocks}
 use Rattle.image_form.specs.declared.formed.Found.{Found}
 use Rattle.image_form.specs.declared.walk.Walk.{Walk}
-use Rattle.image_form.specs.Walking.{MayWalk, StandsBefore, Gives}
+use Rattle.image_form.specs.Walking.{MayWalk, StandsBefore, Gives, unread}
 use Rattle.image_form.proofs.BlockLists.{log_in_order}
 use Rattle.image_form.proofs.BlocksJudged.{finds_later}
 use Rattle.image_form.proofs.FirstRule.{may_be_read_later}
 use Rattle.image_form.proofs.Walks.{Walked, walked_none, walked_more, walked_all, gives_at}
-use Rattle.image_check.specs.Judging.{MayBeJudged, Sees, Judges, OrMemory, records_of}
+use Rattle.image_check.specs.Judging.{MayBeJudged, Sees, JudgesBy, OrMemory, records_of, kept_blocks}
 
 -- What was found is there after calls that only read.
 
@@ -60,15 +60,17 @@ pub record WalksOver (found : Found) (walk : Walk) (old now : State) (P : List (
   pub walks : MayWalk found.log walk
   pub heard : (blocks : List (List LogRecord)) → Sees found blocks old → (w : Walked walk found.log old.image (records_of found blocks)) × P blocks w.done
   pub reads : OnlyReads {T = Unit {0}} (Ok tt) old now
+  pub few : now.log_reads + unread found.log walk ≤ old.log_reads + kept_blocks found
 
-pub walk_begins : {found : Found} {walk : Walk} {site : State} → MayBeJudged found site → MayWalk found.log walk →
+pub walk_begins : {found : Found} {walk : Walk} {site : State} → MayBeJudged found site → MayWalk found.log walk → walk.block ≡ found.master.kept →
     ((image : Image) (blocks : List (List LogRecord)) → HasBlocks found.log.geometry found.master.kept blocks image → StandsBefore walk found.log image (records_of found blocks)) →
     (P : List (List LogRecord) → List Entry → Type 0) → ((blocks : List (List LogRecord)) → Sees found blocks site → P blocks []) → OnlyReads {T = Unit {0}} (Ok tt) site site → WalksOver found walk site site P
-walk_begins {found = found} {walk = walk} {site = site} may walks stands P holds reads = record {
+walk_begins {found = found} {walk = walk} {site = site} may walks first stands P holds reads = record {
   may = may;
   walks = walks;
   heard = λ blocks sees. walked_none walk found.log site.image (records_of found blocks) (stands site.image blocks sees.has) (P blocks) (holds blocks sees);
   reads = reads;
+  few = omega (arith, first);
 }
 
 -- where a record stands among those of the log
@@ -99,27 +101,37 @@ module _ {found : Found} {walk : Walk} {old now : State} {P : List (List LogReco
         let one = more blocks sees in
         record { front = so.0.done; back = one.0; is = so.0.split ∙ ap (λ (l : List Entry). so.0.done ++ l) one.1; holds = so.1 }
 
-    pub walk_goes_on : {next : State} → MayWalk found.log new → OnlyReads {T = Option (ℕ × LogRecord)} (Ok answer) now next → (Q : List (List LogRecord) → List Entry → Type 0) →
+    pub walk_goes_on : {next : State} → MayWalk found.log new → OnlyReads {T = Option (ℕ × LogRecord)} (Ok answer) now next → IfSome answer (λ found'. next.log_reads + unread found.log new ≤ now.log_reads + unread found.log walk) → (Q : List (List LogRecord) → List Entry → Type 0) →
         ((blocks : List (List LogRecord)) → Sees found blocks old → (at : StandsAmong found blocks e (P blocks)) → Q blocks (at.front ++ e ∷ [])) → WalksOver found new old next Q
     unfolding walk_at
-    walk_goes_on {next = next} walks reads Q holds = record {
+    walk_goes_on {next = next} walks reads few Q holds = record {
       may = may_later reads so_far.may;
       walks = walks;
       heard = λ blocks sees. walked_more walk new found.log old.image (records_of found blocks) (so_far.heard blocks sees).0 lsn rec (more blocks sees) (Q blocks) (holds blocks sees (walk_at blocks sees));
       reads = looks_then tt _ old now next so_far.reads (looks_answered answer tt now next reads);
+      few =
+          let before = so_far.few in
+          let more : next.log_reads + unread found.log new ≤ now.log_reads + unread found.log walk =
+          subst (λ (o : Option (ℕ × LogRecord)). IfSome o (λ found'. next.log_reads + unread found.log new ≤ now.log_reads + unread found.log walk)) is few in
+          omega (arith, before, more);
     }
 
-    pub judged_at : {next : State} {B : Type 0} (y : B) (Says : List (List LogRecord) → B → Type 0) → OnlyReads {T = Option (ℕ × LogRecord)} (Ok answer) now next →
-        ((blocks : List (List LogRecord)) → Sees found blocks old → StandsAmong found blocks e (P blocks) → Says blocks y) → Judges {T = B} found (Ok y) old next Says
-    judged_at {next = next} y Says reads says = record { says = λ blocks sees. says blocks sees (walk_at blocks sees); reads = looks_then tt _ old now next so_far.reads (looks_answered answer y now next reads) }
+    pub judged_at : {next : State} {B : Type 0} (y : B) (Says : List (List LogRecord) → B → Type 0) → OnlyReads {T = Option (ℕ × LogRecord)} (Ok answer) now next → next.log_reads ≤ now.log_reads + unread found.log walk →
+        ((blocks : List (List LogRecord)) → Sees found blocks old → StandsAmong found blocks e (P blocks) → Says blocks y) → JudgesBy {T = B} found 1 (Ok y) old next Says
+    judged_at {next = next} y Says reads ends says = record {
+      says = λ blocks sees. says blocks sees (walk_at blocks sees);
+      reads = looks_then tt _ old now next so_far.reads (looks_answered answer y now next reads);
+      few = let before = so_far.few in omega (arith, before, ends);
+    }
 
   -- where none is left
-  pub judged_end : {next : State} {B : Type 0} (y : B) (Says : List (List LogRecord) → B → Type 0) → answer ≡ None → OnlyReads {T = Option (ℕ × LogRecord)} (Ok answer) now next →
-      ((blocks : List (List LogRecord)) → Sees found blocks old → P blocks (records_of found blocks) → Says blocks y) → Judges {T = B} found (Ok y) old next Says
-  judged_end {next = next} y Says is reads says = record {
+  pub judged_end : {next : State} {B : Type 0} (y : B) (Says : List (List LogRecord) → B → Type 0) → answer ≡ None → OnlyReads {T = Option (ℕ × LogRecord)} (Ok answer) now next → next.log_reads ≤ now.log_reads + unread found.log walk →
+      ((blocks : List (List LogRecord)) → Sees found blocks old → P blocks (records_of found blocks) → Says blocks y) → JudgesBy {T = B} found 1 (Ok y) old next Says
+  judged_end {next = next} y Says is reads ends says = record {
     says = λ blocks sees.
         let so = so_far.heard blocks sees in
         let none : so.0.left ≡ [] = subst (λ (o : Option (ℕ × LogRecord)). Gives o so.0.left new found.log old.image) is (given blocks sees) in
         says blocks sees (subst (P blocks) (sym (walked_all walk found.log old.image (records_of found blocks) so.0 none)) so.1);
     reads = looks_then tt _ old now next so_far.reads (looks_answered answer y now next reads);
+    few = let before = so_far.few in omega (arith, before, ends);
   }

@@ -1,11 +1,12 @@
 -- Unfinished transactions, record by record.
 use Rattle.std.specs.Prelude.{◌≡◌, ◌⊎◌, ℕ, Bool, List, [], ◌∷◌, ◌++◌, map, reverse, drop, true, false, ◌==◌, ◌||◌}
-use Rattle.std.specs.Prelude.{nat_eq, Option, Some, None, is_some, IfSome}
+use Rattle.std.specs.Prelude.{nat_eq, Option, Some, None, is_some, option_map, IfSome}
 use Rattle.indexmap.specs.IndexMap.{IndexMap, get}
 use Rattle.std.specs.List.{list_any}
 use Rattle.log_records.specs.declared.log_record.LogRecord.TheVariants.{Begin}
-use Rattle.log_records.specs.Log.{Entry, is_of, is_closed, entries_of}
-use Rattle.log_records.specs.Unfinished.{is_clr, open_updates, losers}
+use Rattle.record_model.specs.State.{Content}
+use Rattle.log_records.specs.Log.{Entry, is_of, is_closed, entries_of, after_of, last_on}
+use Rattle.log_records.specs.Unfinished.{open_updates, losers}
 use Rattle.log_records.specs.Sound.{InTurn, IsInOrder, IsLoserChain, HaveBegunBefore, Continues, last_lsn}
 use Rattle.image_check.specs.declared.chain.Chain.{Chain}
 use Rattle.image_check.specs.declared.chains.Chains.{Chains}
@@ -15,13 +16,17 @@ use Rattle.image_check.specs.declared.undoable.Undoing.{Undoing}
 abbrev pub begin_at : ℕ → Entry
 begin_at t = record { lsn = t; rec = Begin }
 
+-- of each number that these records are on: what the last of them there has written
+pub record AreLast {S : Type 0} (records : List Entry) (contents : IndexMap ℕ Content S) : Type 0 where
+  pub each : (number : ℕ) → get nat_eq contents number ≡ option_map (λ e. after_of e.rec) (last_on records number)
+
 -- what is kept of it behind its Begin: these records continue it, the last one has this LSN, these of its Updates no
--- CLR compensates, and there was a CLR
+-- CLR compensates, and this was written last on each number
 pub record IsKept (t : ℕ) (c : Chain) (rest : List Entry) : Type 0 where
   pub continues : InTurn Continues (begin_at t ∷ []) rest
   pub last : c.last ≡ last_lsn (begin_at t ∷ rest)
   pub left : reverse c.updates.items ≡ map (λ u. u.rec) (open_updates [] rest)
-  pub undoing : c.undoing ≡ list_any (λ e. is_clr e.rec) rest
+  pub written : AreLast rest c.written.last
 
 -- a record is the Begin, before which there is none of the transaction, or stands behind it
 pub record StandsThere (t : ℕ) (records : List Entry) (e : Entry) : Type 0 where

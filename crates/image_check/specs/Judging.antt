@@ -1,5 +1,5 @@
 -- What judges of a log and the calls below them say, however they end.
-use Rattle.std.specs.Prelude.{◌≡◌, ◌+◌, ◌-◌, ◌≤◌, IfOk, IfErr, List, Result}
+use Rattle.std.specs.Prelude.{◌≡◌, ℕ, ◌+◌, ◌-◌, ◌*◌, ◌≤◌, IfOk, IfErr, List, Result}
 use Rattle.site.specs.declared.outside.Stop.{Stop}
 use Rattle.site.specs.declared.outside.Stop.TheVariants.{Memory}
 use Rattle.site.specs.State.{State}
@@ -35,6 +35,18 @@ pub record Judges {T : Type 0} (found : Found) (result : Result T Stop) (old new
     (Says : List (List LogRecord) → T → Type 0) : Type 0 where
   pub says : IfOk result (λ x. (blocks : List (List LogRecord)) → Sees found blocks old → Says blocks x)
   pub reads : OnlyReads result old new
+
+-- how many blocks the log has from the oldest kept one on
+abbrev pub kept_blocks : Found → ℕ
+kept_blocks found = found.log.ring.hi - found.master.kept
+
+-- The same by so many walks over the kept blocks at most, whatever the site: each walk reads each of them once, and
+-- nothing else of the log is read.
+pub record JudgesBy {T : Type 0} (found : Found) (walks : ℕ) (result : Result T Stop) (old new : State)
+    (Says : List (List LogRecord) → T → Type 0) : Type 0 where
+  pub says : IfOk result (λ x. (blocks : List (List LogRecord)) → Sees found blocks old → Says blocks x)
+  pub reads : OnlyReads result old new
+  pub few : new.log_reads ≤ old.log_reads + walks * kept_blocks found
 
 -- what is said of an answer; an error is want of memory
 pub record OrMemory {T : Type 0} (result : Result T Stop) (Done : T → Type 0) : Type 0 where

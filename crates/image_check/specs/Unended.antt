@@ -4,14 +4,14 @@ use Rattle.std.specs.BTreeMap.{BTreeMap}
 use Rattle.log_records.specs.Log.{Entry}
 use Rattle.log_records.specs.Sound.{IsInOrder}
 use Rattle.log_laws.specs.Follow.{IsFresh}
-use Rattle.log_laws.specs.Analysis.{Unfinished, unfinished_in}
+use Rattle.log_laws.specs.Analysis.{Summary, unfinished_in}
 use Rattle.image_check.specs.declared.unfinished.Left.{Left}
 
 -- what is kept of one, by the LSN of its Begin
-abbrev pub left_of : Unfinished → Left
+abbrev pub left_of : Summary → Left
 left_of x = record { last = x.last; remaining = x.remaining }
 
-abbrev pub entry_of : Unfinished → ℕ × Left
+abbrev pub entry_of : Summary → ℕ × Left
 entry_of x = (x.txn, left_of x)
 
 -- these are the transactions that records leave unfinished, in the order of their Begins

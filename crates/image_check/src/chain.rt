@@ -6,6 +6,7 @@ ghost use Rattle.log_records.specs.Sound.{Compensates, Undoes, Continues};
 ghost use Rattle.image_check.specs.Chaining.{IsKept, HearsOwn, begin_at};
 ghost use Rattle.image_check.specs.Judging.{OrMemory};
 
+use crate::contents::Contents;
 use crate::txns::txn_of;
 use log_records::LogRecord;
 use site::Stop;
@@ -57,12 +58,12 @@ fn updates(rec: &LogRecord) -> bool
 }
 
 /// What is kept of a transaction behind its Begin: the LSN of its last record, its Updates that no CLR compensates, the
-/// last one last, and whether there was a CLR.
+/// last one last, and what it has written last on each number.
 #[derive(Drop)]
 pub struct Chain {
     pub last: u64,
     pub updates: Vec<LogRecord>,
-    pub undoing: bool,
+    pub written: Contents,
 }
 
 impl Chain {
@@ -83,11 +84,18 @@ impl Chain {
             → IsTrue result ↔ Continues (begin_at t ∷ rest) (record { lsn = lsn; rec = rec.now }) }
     {
         match rec {
-            LogRecord::Update { prev, .. } => {
+            LogRecord::Update {
+                prev,
+                page,
+                slot,
+                before,
+                ..
+            } => {
                 if *prev != self.last {
                     return false;
                 }
-                !self.undoing
+                self.written
+                    .admits(32 * *page as u64 + *slot as u64, before)
             }
             LogRecord::Clr { prev, .. } => {
                 if *prev != self.last {
@@ -106,9 +114,11 @@ impl Chain {
             → IsKept t self.new (rest ++ record { lsn = lsn; rec = rec } ∷ [])) }
     {
         self.last = lsn;
+        if let Err(stop) = self.written.hear(&rec) {
+            return Err(stop);
+        }
         if !updates(&rec) {
             self.updates.pop();
-            self.undoing = true;
             return Ok(());
         }
         let Ok(()) = self.updates.push(rec) else {

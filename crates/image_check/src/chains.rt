@@ -8,6 +8,7 @@ ghost use Rattle.image_check.specs.Chaining.{AreChains, Keeps, IsKept, StandsIn}
 ghost use Rattle.image_check.specs.Judging.{OrMemory};
 
 use crate::chain::Chain;
+use crate::contents::Contents;
 use crate::txns::txn_of;
 use indexmap::IndexMap;
 use log_records::LogRecord;
@@ -58,7 +59,7 @@ impl Chains {
             None => Chain {
                 last: txn,
                 updates: Vec::new(self.alloc),
-                undoing: false,
+                written: Contents::new(self.alloc),
             },
         }
     }

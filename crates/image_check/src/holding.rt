@@ -2,7 +2,7 @@
 ghost use Rattle.std.specs.Prelude.{◌≡◌, ◌↔◌, ◌+◌, ◌++◌, ◌∷◌, [], nat_eq, List, is_none, IsTrue, IfOk};
 ghost use Rattle.indexmap.specs.IndexMap.{get};
 ghost use Rattle.log_records.specs.Log.{Entry, txn_by, number_of};
-ghost use Rattle.image_check.specs.Judging.{Judges, MayBeJudged, OrMemory, reading_of, records_of};
+ghost use Rattle.image_check.specs.Judging.{JudgesBy, MayBeJudged, OrMemory, reading_of, records_of};
 ghost use Rattle.image_check.specs.Unended.{AreLeft};
 ghost use Rattle.image_check.specs.Holding.{AreHeld, IsListed, clashes_by};
 ghost use Rattle.image_form.specs.Verdict.{LosersCanBeUndone, LosersHoldOthersOff, logical_image_of};
@@ -83,7 +83,7 @@ pub fn rule_apart<S: Site>(
 ) -> Result<Option<Place>, Stop>
     requires { MayBeJudged found.now (S.state site.old) }
 
-    ensures { Judges found.now result (S.state site.old) (S.state site.new) (λ blocks failing.
+    ensures { JudgesBy found.now 1 result (S.state site.old) (S.state site.new) (λ blocks failing.
         LosersCanBeUndone (logical_image_of (reading_of found.now blocks) (S.state site.old).image)
         → AreLeft (records_of found.now blocks) left.now.left
         → (IsTrue (is_none failing)

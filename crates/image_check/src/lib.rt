@@ -4,6 +4,7 @@
 mod chain;
 mod chains;
 mod commits;
+mod contents;
 mod holding;
 mod laws;
 mod showing;

@@ -5,7 +5,7 @@ ghost use Rattle.log_records.specs.Log.{Entry};
 ghost use Rattle.log_records.specs.Sound.{before_block};
 ghost use Rattle.image_check.specs.Counting.{NumbersAre};
 ghost use Rattle.image_check.specs.Deciding.{IsSurveyOf};
-ghost use Rattle.image_check.specs.Judging.{Judges, MayBeJudged, OrMemory, reading_of};
+ghost use Rattle.image_check.specs.Judging.{JudgesBy, MayBeJudged, OrMemory, reading_of};
 ghost use Rattle.image_check.specs.Surveying.{Surveys};
 ghost use Rattle.image_check.specs.Unended.{AreLeft, Comes};
 ghost use Rattle.image_form.specs.Verdict.{RecordsFollowBegins, logical_image_of};
@@ -88,7 +88,7 @@ pub fn rule_transactions<S: Site>(
 ) -> Result<Result<Survey, Place>, Stop>
     requires { MayBeJudged found.now (S.state site.old) }
 
-    ensures { Judges found.now result (S.state site.old) (S.state site.new) (λ blocks answer. (IsTrue (is_ok answer)
+    ensures { JudgesBy found.now 1 result (S.state site.old) (S.state site.new) (λ blocks answer. (IsTrue (is_ok answer)
         ↔ RecordsFollowBegins (logical_image_of (reading_of found.now blocks) (S.state site.old).image))
         × IfOk answer (λ survey. IsSurveyOf found.now blocks survey)) }
 {

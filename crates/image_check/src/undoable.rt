@@ -5,7 +5,7 @@ ghost use Rattle.log_records.specs.Log.{Entry, is_closed};
 ghost use Rattle.log_records.specs.Sound.{HaveBegunBefore};
 ghost use Rattle.image_check.specs.Unended.{AreLeft};
 ghost use Rattle.image_check.specs.Chaining.{IsUndoing, StandsIn};
-ghost use Rattle.image_check.specs.Judging.{Judges, MayBeJudged, OrMemory, reading_of, records_of};
+ghost use Rattle.image_check.specs.Judging.{JudgesBy, MayBeJudged, OrMemory, reading_of, records_of};
 ghost use Rattle.image_form.specs.Verdict.{RecordsFollowBegins, LosersCanBeUndone, logical_image_of};
 
 use crate::chains::Chains;
@@ -61,7 +61,7 @@ impl Undoing {
     ) -> Result<Undoing, Stop>
         requires { MayBeJudged found.now (S.state site.old) }
 
-        ensures { Judges found.now result (S.state site.old) (S.state site.new) (λ blocks undoing.
+        ensures { JudgesBy found.now 1 result (S.state site.old) (S.state site.new) (λ blocks undoing.
             HaveBegunBefore (records_of found.now blocks) → AreLeft (records_of found.now blocks) left.now.left
             → IsUndoing (records_of found.now blocks) (records_of found.now blocks) undoing) }
     {
@@ -84,7 +84,7 @@ fn find_open<S: Site>(
 ) -> Result<Option<Place>, Stop>
     requires { MayBeJudged found.now (S.state site.old) }
 
-    ensures { Judges found.now result (S.state site.old) (S.state site.new) (λ blocks failing.
+    ensures { JudgesBy found.now 1 result (S.state site.old) (S.state site.new) (λ blocks failing.
         IsTrue (is_none failing) ↔ ((t : ℕ) → is_some (get nat_eq strays.txns t) ≡ true
         → is_closed (records_of found.now blocks) t ≡ true)) }
 {
@@ -104,10 +104,10 @@ fn find_open<S: Site>(
 }
 
 /// The fourth rule, of devices that meet the third one, by what is left unfinished: the first unfinished transaction
-/// that hasn't its Begin, then Updates, then compensation records of the last of these backwards; `None` exactly where
-/// there is none. It reads each kept block once, and once more where the last record of a transaction doesn't close it
-/// and its Begin isn't there; it holds the transactions that are open, and of the unfinished ones what remains of their
-/// Updates.
+/// that hasn't its Begin, then Updates and CLRs, each CLR of the last Update that is left, each Update from what the
+/// transaction has written there last; `None` exactly where there is none. It reads each kept block once, and once more
+/// where the last record of a transaction doesn't close it and its Begin isn't there; it holds the transactions that
+/// are open, and of the unfinished ones what remains of their Updates and what they have written last on each number.
 pub fn rule_undoable<S: Site>(
     alloc: Global,
     site: &mut S,
@@ -116,7 +116,7 @@ pub fn rule_undoable<S: Site>(
 ) -> Result<Option<Place>, Stop>
     requires { MayBeJudged found.now (S.state site.old) }
 
-    ensures { Judges found.now result (S.state site.old) (S.state site.new) (λ blocks failing.
+    ensures { JudgesBy found.now 2 result (S.state site.old) (S.state site.new) (λ blocks failing.
         RecordsFollowBegins (logical_image_of (reading_of found.now blocks) (S.state site.old).image)
         → AreLeft (records_of found.now blocks) left.now.left
         → (IsTrue (is_none failing)

@@ -11,7 +11,7 @@ ghost use Rattle.image_meaning.specs.Meaning.{version_in, versions_on};
 ghost use Rattle.image_form.specs.Octets.{AreVersions};
 ghost use Rattle.image_form.specs.Findings.{AreFound};
 ghost use Rattle.image_form.specs.Newest.{AreLive};
-ghost use Rattle.image_check.specs.Judging.{Judges, MayBeJudged, OrMemory, reading_of, records_of};
+ghost use Rattle.image_check.specs.Judging.{Judges, JudgesBy, MayBeJudged, OrMemory, reading_of, records_of};
 ghost use Rattle.image_check.specs.Showing.{FindsVersions, AreExpected, IsKnownEarly, HasContents};
 ghost use Rattle.image_check.specs.Values.{Hears, ShowsLog};
 ghost use Rattle.image_form.specs.Verdict.{OctetsAreFormed, logical_image_of};
@@ -102,7 +102,7 @@ impl Logged {
     ) -> Result<Result<Logged, Place>, Stop>
         requires { MayBeJudged found.now (S.state site.old) }
 
-        ensures { Judges found.now result (S.state site.old) (S.state site.new) (λ blocks answer. (IsTrue (is_ok answer)
+        ensures { JudgesBy found.now 1 result (S.state site.old) (S.state site.new) (λ blocks answer. (IsTrue (is_ok answer)
             ↔ AllByRecursion (IsKnownEarly found.now.master.redo lsns.now) (records_of found.now blocks))
             × IfOk answer (λ logged.
             Hears found.now.master.redo lsns.now (records_of found.now blocks) logged (records_of found.now blocks))) }

@@ -91,6 +91,32 @@ const SECOND_SLOT_AT: u64 = BLOCK_AT + 60;
 
 const SECOND_USED: u8 = 0x38;
 
+// What the unfinished one has written behind its Update, from octet 38 on: it has undone it, and written the number
+// again.
+const AGAIN: &[u8] = &[
+    0x03, // CLR
+    0x00, 0x00, 0x00, 0x00, 0x00, 0x00, 0x00, 0x02, // txn
+    0x00, 0x00, 0x00, 0x00, 0x00, 0x00, 0x00, 0x03, // prev
+    0x00, 0x00, 0x00, 0x00, 0x00, 0x00, 0x00, 0x02, // undo_next
+    0x00, 0x00, 0x00, 0x00, // page
+    0x05, // slot
+    0x00, // after
+    0x02, // Update
+    0x00, 0x00, 0x00, 0x00, 0x00, 0x00, 0x00, 0x02, // txn
+    0x00, 0x00, 0x00, 0x00, 0x00, 0x00, 0x00, 0x1d, // prev
+    0x00, 0x00, 0x00, 0x00, // page
+    0x05, // slot
+    0x00, // before
+    0x03, 0x0a, 0x0b, // after
+];
+
+// The slot and the first octet of what stood before in the second Update, and where the records end.
+const AGAIN_SLOT_AT: u64 = BLOCK_AT + 90;
+
+const BEFORE_AT: u64 = BLOCK_AT + 91;
+
+const AGAIN_USED: u8 = 0x56;
+
 // The front of group 0 in its slot: a clean frame of page 0.
 const GROUP: &[u8] = &[
     0xa5, // gate
@@ -131,7 +157,7 @@ macro_rules! blank {
 }
 
 // A block at the front of the log, with another octet at a place of it: the first commit, the first transaction without
-// its Commit, and two transactions without Commits.
+// its Commit, the same that has written again behind a CLR, and two transactions without Commits.
 macro_rules! finished {
     ($at:expr, $octet:literal) => {
         &[(Dev::Log, BLOCK_AT, BLOCK), (Dev::Log, $at, &[$octet])]
@@ -141,6 +167,17 @@ macro_rules! finished {
 macro_rules! unfinished {
     ($at:expr, $octet:literal) => {
         &[(Dev::Log, BLOCK_AT, UNFINISHED), (Dev::Log, $at, &[$octet])]
+    };
+}
+
+macro_rules! written_again {
+    ($at:expr, $octet:literal) => {
+        &[
+            (Dev::Log, BLOCK_AT, UNFINISHED),
+            (Dev::Log, BLOCK_AT + 38, AGAIN),
+            (Dev::Log, USED_AT, &[AGAIN_USED]),
+            (Dev::Log, $at, &[$octet]),
+        ]
     };
 }
 
@@ -410,7 +447,7 @@ fn play(alloc: Global, rows: &[(Written, Finds)]) -> Result<usize, Fail> {
 }
 
 // The tests by their names: devices and what is found on them.
-const TESTS: [(&str, &[(Written, Finds)]); 15] = [
+const TESTS: [(&str, &[(Written, Finds)]); 16] = [
     (
         "a finished transaction",
         &[
@@ -444,6 +481,37 @@ const TESTS: [(&str, &[(Written, Finds)]); 15] = [
             (
                 unfinished!(PREV_AT, 1),
                 Finds::OnLog(LogRule::Undoable, false),
+            ),
+        ],
+    ),
+    (
+        "an unfinished transaction that has written again behind a CLR",
+        &[
+            (
+                written_again!(GATE_AT, 0xa5),
+                Finds::OnLog(LogRule::Undoable, true),
+            ),
+            (
+                written_again!(BEFORE_AT, 1),
+                Finds::OnLog(LogRule::Undoable, false),
+            ),
+            (
+                written_again!(AGAIN_SLOT_AT, 6),
+                Finds::OnLog(LogRule::Undoable, true),
+            ),
+            (
+                written_again!(GATE_AT, 0xa5),
+                Finds::Judged(Verdict::Sound {
+                    records: 0,
+                    commits: 0,
+                }),
+            ),
+            (
+                written_again!(BEFORE_AT, 1),
+                Finds::Judged(Verdict::Unsound {
+                    rule: 4,
+                    place: Place::Transaction(2),
+                }),
             ),
         ],
     ),

@@ -49,7 +49,8 @@ pub record RecordsFollowBegins (p : LogicalImage) : Type 0 where
   pub open_transactions : InTurn (IsOfOpenTransaction p.master) [] p.log
   pub begun : HaveBegunBefore p.log
 
--- 4. An unfinished transaction has its Begin, then Updates, then compensation records of the last of these backwards.
+-- 4. An unfinished transaction has its Begin, then Updates and CLRs: each CLR is of the last Update that is left, and
+-- an Update begins with what the transaction has written on its number last.
 abbrev pub LosersCanBeUndone : LogicalImage → Type 0
 LosersCanBeUndone p = (t : ℕ) → IsTrue (is_loser p.log t) → IsLoserChain t (entries_of t p.log)
 

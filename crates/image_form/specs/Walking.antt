@@ -41,6 +41,10 @@ Gives None left walk log image = left ≡ []
 Gives (Some found) left walk log image = (rest : List Entry) × (left ≡ record { lsn = found.0; rec = found.1 } ∷ rest)
     × StandsBefore walk log image rest
 
+-- the blocks that it hasn't read
+abbrev pub unread : LogStore → Walk → ℕ
+unread log walk = log.ring.hi - walk.block
+
 -- what is left to be read falls with each record
 abbrev pub to_go : LogStore → Walk → ℕ
 to_go log walk = 512 * (log.ring.hi - walk.block) + (walk.used - walk.at)

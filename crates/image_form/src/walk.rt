@@ -5,7 +5,7 @@ ghost use Rattle.log_records.specs.Log.{Entry, log_from};
 ghost use Rattle.log_records.specs.declared.log_record.LogRecord.{LogRecord};
 ghost use Rattle.log_store.specs.Representation.{Invariant, Finds, HasBlocks};
 ghost use Rattle.site.specs.Work.{OnlyReads};
-ghost use Rattle.image_form.specs.Walking.{MayWalk, StandsBefore, Gives, to_go};
+ghost use Rattle.image_form.specs.Walking.{MayWalk, StandsBefore, Gives, to_go, unread};
 
 use log_records::{BLOCK_LEN, LogRecord, read_record};
 use log_store::LogStore;
@@ -28,6 +28,7 @@ impl Walk {
     pub fn start(log: &LogStore, kept: u64) -> Walk
         requires { log.now.ring.hi ≤ kept + (log.now.geometry.blocks - 1) }
         ensures walk { MayWalk log.now result }
+        ensures first { result.block ≡ kept }
         ensures stands { (image : Image) (blocks : List (List LogRecord)) → HasBlocks log.now.geometry kept blocks image
             → StandsBefore result log.now image (log_from kept blocks) }
     {
@@ -54,6 +55,9 @@ impl Walk {
         ensures some { IfOk result (λ more. IsTrue more → self.new.at < self.new.used) }
         ensures walk { IfOk result (λ more. MayWalk log.now self.new) }
         ensures shorter { IfOk result (λ more. to_go log.now self.new ≤ to_go log.now self.old) }
+        ensures few { IfOk result (λ more. IsTrue more → (S.state site.new).log_reads + unread log.now self.new
+            ≤ (S.state site.old).log_reads + unread log.now self.old) }
+        ensures ends { (S.state site.new).log_reads ≤ (S.state site.old).log_reads + unread log.now self.old }
         ensures reads { OnlyReads result (S.state site.old) (S.state site.new) }
     {
         if self.at < self.used {
@@ -89,6 +93,9 @@ impl Walk {
         ensures walk { IfOk result (λ found. MayWalk log.now self.new) }
         ensures shorter { IfOk result (λ found. IfSome found (λ found. to_go log.now self.new
             < to_go log.now self.old)) }
+        ensures few { IfOk result (λ found. IfSome found (λ found. (S.state site.new).log_reads
+            + unread log.now self.new ≤ (S.state site.old).log_reads + unread log.now self.old)) }
+        ensures ends { (S.state site.new).log_reads ≤ (S.state site.old).log_reads + unread log.now self.old }
         ensures reads { OnlyReads result (S.state site.old) (S.state site.new) }
     {
         let more = match self.fill(site, log) {

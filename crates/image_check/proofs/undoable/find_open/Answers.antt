@@ -1,4 +1,4 @@
-use Rattle.std.proofs.Common.{rules, ◌≡◌, ◌==◌, ◌&&◌, ℕ, Bool, true, false, true≢false, not, nat_eq, cond, refl, sym, ap, ◌∙◌}
+use Rattle.std.proofs.Common.{arith, rules, ◌≡◌, ◌==◌, ◌&&◌, ℕ, Bool, true, false, true≢false, not, nat_eq, cond, refl, sym, ap, ◌∙◌}
 use Rattle.std.specs.Prelude.{is_some}
 use Rattle.std.proofs.lemmas.Bool.{and_parts, not-true}
 use Rattle.std.proofs.lemmas.Result.{err_from_is_err_and}
@@ -12,13 +12,13 @@ use Rattle.image_check.proofs.Walking.{walk_begins, walk_goes_on, judged_end}
 use Rattle.image_check.proofs.undoable.find_open.Goals as goal
 
 pub loop-strays-init : goal.loop-strays-init
-loop-strays-init g c = walk_begins c.requires c.start-walk.ensures.walk c.start-walk.ensures.stands _ (λ blocks sees t. sym (and_true (is_some (get nat_eq c.args.strays.txns t)))) (search rules)
+loop-strays-init g c = walk_begins c.requires c.start-walk.ensures.walk c.start-walk.ensures.first c.start-walk.ensures.stands _ (λ blocks sees t. sym (and_true (is_some (get nat_eq c.args.strays.txns t)))) (search rules)
 
 pub returns-in_err-lsn : goal.returns-in_err-lsn
 returns-in_err-lsn g c =
     let p = err_from_is_err_and c.from_residual.result c.from_residual.ensures.1 in
     let now = g.S.Site.state c.loop-strays.site in
-    record { says = search rules; reads = rw (p.1, p.2) (looks_then tt _ _ now _ c.loop-strays.invariant.reads (looks_failed c.in_err-lsn.field-0.0 now _ c.in_err-lsn.ensures.reads)) }
+    record { says = search rules; reads = rw (p.1, p.2) (looks_then tt _ _ now _ c.loop-strays.invariant.reads (looks_failed c.in_err-lsn.field-0.0 now _ c.in_err-lsn.ensures.reads)); few = let before = c.loop-strays.invariant.few in let ends = c.in_err-lsn.ensures.ends in omega (arith, before, ends) }
 
 stays : (q k b : Bool) → k ≡ false → b ≡ cond (q && k) false b
 stays q k b off = by q ∙ ap (λ (x : Bool). cond (q && x) false b) (sym off)
@@ -28,7 +28,7 @@ stays q k b off = by q ∙ ap (λ (x : Bool). cond (q && x) false b) (sym off)
     by false = refl
 
 pub loop-strays-preserved-then-closes : goal.loop-strays-preserved-then-closes
-loop-strays-preserved-then-closes g c = walk_goes_on c.loop-strays.invariant c.in_ok-lsn.field-0 c.next.new.self c.in_ok-lsn.ensures.next c.in-Some.lsn c.in-Some.rec c.in-Some.is c.in_ok-lsn.ensures.walk c.in_ok-lsn.ensures.reads _ (λ blocks sees at t.
+loop-strays-preserved-then-closes g c = walk_goes_on c.loop-strays.invariant c.in_ok-lsn.field-0 c.next.new.self c.in_ok-lsn.ensures.next c.in-Some.lsn c.in-Some.rec c.in-Some.is c.in_ok-lsn.ensures.walk c.in_ok-lsn.ensures.reads c.in_ok-lsn.ensures.few _ (λ blocks sees at t.
     let e : Entry = record { lsn = c.in-Some.lsn; rec = c.in-Some.rec } in
     let some : Bool = is_some (get nat_eq c.args.strays.txns t) in
     let left : Bool = some && not (is_closed at.front t) in
@@ -40,13 +40,13 @@ loop-strays-preserved-then-closes g c = walk_goes_on c.loop-strays.invariant c.i
     ∙ closing_more at.front e t some)
 
 pub loop-strays-preserved : goal.loop-strays-preserved
-loop-strays-preserved g c = walk_goes_on c.loop-strays.invariant c.in_ok-lsn.field-0 c.next.new.self c.in_ok-lsn.ensures.next c.in-Some.lsn c.in-Some.rec c.in-Some.is c.in_ok-lsn.ensures.walk c.in_ok-lsn.ensures.reads _ (λ blocks sees at t.
+loop-strays-preserved g c = walk_goes_on c.loop-strays.invariant c.in_ok-lsn.field-0 c.next.new.self c.in_ok-lsn.ensures.next c.in-Some.lsn c.in-Some.rec c.in-Some.is c.in_ok-lsn.ensures.walk c.in_ok-lsn.ensures.reads c.in_ok-lsn.ensures.few _ (λ blocks sees at t.
     let e : Entry = record { lsn = c.in-Some.lsn; rec = c.in-Some.rec } in
     let some : Bool = is_some (get nat_eq c.args.strays.txns t) in
     at.holds t ∙ stays (txn_of e == t) (is_closing e.rec) (some && not (is_closed at.front t)) (sym c.closes.ensures ∙ c.if-closes.false) ∙ closing_more at.front e t some)
 
 pub returns-in-Some-first : goal.returns-in-Some-first
-returns-in-Some-first g c = judged_end c.loop-strays.invariant c.in_ok-lsn.field-0 c.next.new.self c.in_ok-lsn.ensures.next _ _ c.in_default.is c.in_ok-lsn.ensures.reads (λ blocks sees all. (
+returns-in-Some-first g c = judged_end c.loop-strays.invariant c.in_ok-lsn.field-0 c.next.new.self c.in_ok-lsn.ensures.next _ _ c.in_default.is c.in_ok-lsn.ensures.reads c.in_ok-lsn.ensures.ends (λ blocks sees all. (
   λ wrong. absurd (true≢false (sym wrong)),
   λ closed.
       let t : ℕ = c.in-Some-first.txn in
@@ -56,7 +56,7 @@ returns-in-Some-first g c = judged_end c.loop-strays.invariant c.in_ok-lsn.field
 ))
 
 pub returns : goal.returns
-returns g c = judged_end c.loop-strays.invariant c.in_ok-lsn.field-0 c.next.new.self c.in_ok-lsn.ensures.next _ _ c.in_default.is c.in_ok-lsn.ensures.reads (λ blocks sees all. (
+returns g c = judged_end c.loop-strays.invariant c.in_ok-lsn.field-0 c.next.new.self c.in_ok-lsn.ensures.next _ _ c.in_default.is c.in_ok-lsn.ensures.reads c.in_ok-lsn.ensures.ends (λ blocks sees all. (
   λ there t some.
       closed_there (is_closed (records_of c.args.found.now blocks) t) (ap (λ (b : Bool). b && not (is_closed (records_of c.args.found.now blocks) t)) (sym some) ∙ sym (all t) ∙ c.in-None.ensures.none t),
   λ closed. refl,

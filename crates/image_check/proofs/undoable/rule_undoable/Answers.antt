@@ -1,4 +1,4 @@
-use Rattle.std.proofs.Common.{rules, ◌≡◌, ◌==◌, ℕ, Option, true, true≢false, sym, subst}
+use Rattle.std.proofs.Common.{arith, rules, ◌≡◌, ◌==◌, ℕ, Option, true, true≢false, sym, subst}
 use Rattle.std.specs.Prelude.{IfSome}
 use Rattle.std.specs.List.{list_any}
 use Rattle.log_records.specs.Log.{entries_of}
@@ -24,6 +24,7 @@ returns-in-Some g c = record {
         λ rule. absurd (found.1 (chains_of p rule c.in-Some.txn found.0)),
       );
   reads = search rules;
+  few = let ends = c.in-Ok.ensures.few in omega (arith, ends);
 }
 
 pub returns-in-Ok-find_open : goal.returns-in-Ok-find_open
@@ -37,4 +38,5 @@ returns-in-Ok-find_open g c = record {
         λ rule. closed.1 (closed_of p txns undoing.strays rule),
       );
   reads = search rules;
+  few = let first = c.in-Ok.ensures.few in let second = c.in-Ok-find_open.ensures.few in omega (arith, first, second);
 }

@@ -58,4 +58,9 @@ loop-block-preserved g c =
           let here = c.are_on_pages.ensures.0 c.if-not-are_on_pages.false in
           one_is log old c.args.kept c.loop-block.block c.read_block.new.into is (here.0, subst (λ (n : ℕ). IsBlockOn n c.read_block.new.into here.0) pages here.1) (c.loop-block.invariant.stand finds);
       reads = search rules;
+      few =
+          let below : c.loop-block.block < log.ring.hi = omega (arith, c.loop-block-test.true, c.sealed_end-hi.ensures) in
+          let once = c.in-Ok.ensures.reads.reads in
+          let so_far = c.loop-block.invariant.few in
+          omega (arith, below, once, so_far);
     }

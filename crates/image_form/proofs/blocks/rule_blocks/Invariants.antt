@@ -1,4 +1,4 @@
-use Rattle.std.proofs.Common.{ℕ, ◌≤◌, ◌<◌, List}
+use Rattle.std.proofs.Common.{ℕ, ◌+◌, ◌-◌, ◌≤◌, ◌<◌, List}
 use Rattle.std.specs.Prelude.{Ok}
 use Rattle.sealed_ring.specs.Ring.{IsLive}
 use Rattle.image_changes.specs.Rings.{log_shape}
@@ -17,4 +17,5 @@ invariant-loop-block g l =
       stand : Finds l.log old → (n : ℕ) → IsLive (log_shape l.log.geometry) l.log.ring.hi n → l.kept ≤ n → n < l.block →
           (records : List LogRecord) × IsBlockOn l.log.geometry.pages (block_on l.log.geometry old.image n) records;
       reads : OnlyReads {T = Unit {0}} (Ok tt) old now;
+      few : now.log_reads + (l.log.ring.hi - l.block) ≤ old.log_reads + (l.log.ring.hi - l.kept);
     }

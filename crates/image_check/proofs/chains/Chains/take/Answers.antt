@@ -8,5 +8,5 @@ returns-in-Some-clause-taken c rest keeps = kept_where c.args.txn c.in-Some.chai
 
 pub returns-in-None-clause-taken : goal.returns-in-None-clause-taken
 returns-in-None-clause-taken c rest keeps =
-    let first : Chain = record { last = c.args.txn; updates = c.new.result; undoing = false } in
-    kept_nowhere c.args.txn first _ (sym c.swap_remove.ensures.value ∙ c.in-None.is) refl c.new.ensures.items refl rest keeps
+    let first : Chain = record { last = c.args.txn; updates = c.new.result; written = c.new-in-None.result } in
+    kept_nowhere c.args.txn first _ (sym c.swap_remove.ensures.value ∙ c.in-None.is) refl c.new.ensures.items c.new-in-None.ensures rest keeps
