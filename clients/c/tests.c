@@ -124,14 +124,13 @@ static vulzhorn_error answer(const char *folder, vulzhorn_options options, const
 
 static void try_openings(void) {
     vulzhorn_options none = {.pool = 0}, sizes = {.pages = 16, .groups = 8, .blocks = 64}, others = sizes;
-    vulzhorn_options wrong_pool = {.pool = 5000}, no_program = {.program = "/nowhere/face"}, batch = {.word = "batch"};
+    vulzhorn_options wrong_pool = {.pool = 5000}, no_program = {.program = "/nowhere/face"};
     others.pages = 17;
     check(answer("here", sizes, NULL) == VULZHORN_OK, "it is made");
     check(answer("here", sizes, NULL) == VULZHORN_OK, "and opened by its sizes");
     check(answer("here", none, NULL) == VULZHORN_OK, "or without");
     check(answer("here", others, "these sizes ask for") == VULZHORN_WRONG_SIZES, "other sizes");
     check(answer("here", wrong_pool, "fault words") == VULZHORN_WRONG_SIZES, "a pool that is too large");
-    check(answer("here", batch, NULL) == VULZHORN_OK, "a word that the program may not know");
     check(answer(".", none, "has no database") == VULZHORN_NO_DATABASE, "no database");
     check(answer("here", no_program, NULL) == VULZHORN_UNUSABLE, "no program");
     check(answer("nowhere", none, NULL) == VULZHORN_UNUSABLE, "no folder");

@@ -20,7 +20,6 @@
 #ifndef PIPE_BUF
 #define PIPE_BUF _POSIX_PIPE_BUF
 #endif
-#define WORD "run" /* the word that serves lines, where the options name none */
 
 enum { LINE_MAX_OCTETS = 500, SESSIONS = 8, OUT_ROOM = 65536, IN_ROOM = 65536, NOT_STARTED = 127 };
 
@@ -29,6 +28,7 @@ struct vulzhorn {
     pthread_cond_t stepped;
     bool stepping; /* a thread waits for the pipes, without the lock */
     int to, from;  /* its ends of the pipes */
+    int kept;      /* the other end of `to`: where it is open no write ends the caller by a signal */
     pid_t process;
     vulzhorn_error ended;           /* VULZHORN_OK as long as the program runs */
     vulzhorn_request *first, *last; /* those under way, in the order of their lines */
@@ -121,13 +121,23 @@ static vulzhorn_error of_status(int status, const char *said) {
     return VULZHORN_ENDED;
 }
 
+static void shut(int *end) {
+    if (*end >= 0) close(*end);
+    *end = -1;
+}
+
+static void shut_all(vulzhorn *database) {
+    shut(&database->to);
+    shut(&database->from);
+    shut(&database->kept);
+}
+
 /* The program has told all: finds out why it ended, and tells all that wait. */
 static void finish(vulzhorn *database) {
     int status = 0;
     while (waitpid(database->process, &status, 0) < 0 && errno == EINTR) continue;
     database->ended = of_status(WIFEXITED(status) ? WEXITSTATUS(status) : -1, database->said);
-    close(database->from);
-    if (database->to >= 0) close(database->to);
+    shut_all(database);
     for (; database->first != NULL; database->first = database->first->next) {
         database->first->error = VULZHORN_UNANSWERED;
         database->first->answered = true;
@@ -136,25 +146,21 @@ static void finish(vulzhorn *database) {
 
 /* --- moving octets; the lock is held */
 
-/* Keeps what is no reply: a fault, and what the program says on standard error, which is the same pipe. */
-static void keep(vulzhorn *database, const char *line) {
-    size_t length = strlen(database->said);
-    snprintf(database->said + length, sizeof database->said - length, "%s\n", line);
-}
-
+/* Takes a line of the program: of standard error too, which is the same pipe. */
 static void hear(vulzhorn *database, const char *line) {
     vulzhorn_request *request = database->first;
-    const char *rest = behind(line, "item ");
+    const char *item = behind(line, "item ");
+    size_t said = strlen(database->said);
     if (behind(line, "face.")) return; /* how far `new` has come */
-    if (database->said[0] != '\0' || behind(line, "fault ") || behind(line, "face: ")) {
-        keep(database, line);
-    } else if (request == NULL || !(rest != NULL ? read_item(rest, request) : read_reply(line, request))) {
-        keep(database, line);
-        kill(database->process, SIGKILL); /* it would be taken for the reply to something else */
-    } else if (rest == NULL) {
+    bool is_last = said > 0 || behind(line, "fault ") || behind(line, "face: ");
+    if (!is_last && request != NULL && (item ? read_item(item, request) : read_reply(line, request))) {
+        if (item) return;
         database->first = request->next;
         request->answered = true;
+        return;
     }
+    if (!is_last) kill(database->process, SIGKILL); /* it would be taken for the reply to something else */
+    snprintf(database->said + said, sizeof database->said - said, "%s\n", line);
 }
 
 static void receive(vulzhorn *database) {
@@ -175,26 +181,12 @@ static void receive(vulzhorn *database) {
     if (database->in_length == IN_ROOM) kill(database->process, SIGKILL); /* no line is so long */
 }
 
-/* Writes with no signal where nobody reads any more. */
-static ssize_t write_quietly(int to, const char *octets, size_t length) {
-    sigset_t pipe, before, pending;
-    sigemptyset(&pipe);
-    sigaddset(&pipe, SIGPIPE);
-    sigpending(&pending);
-    pthread_sigmask(SIG_BLOCK, &pipe, &before);
-    ssize_t written = write(to, octets, length);
-    if (written < 0 && errno == EPIPE && !sigismember(&pending, SIGPIPE))
-        while (sigtimedwait(&pipe, NULL, &(struct timespec){0}) < 0 && errno == EINTR) continue;
-    pthread_sigmask(SIG_SETMASK, &before, NULL);
-    return written;
-}
-
 /* Writes the whole lines that there is room for. Where the program has ended `receive` finds it. */
 static void transmit(vulzhorn *database) {
     while (database->out_length > 0) {
         size_t length = database->out_length < PIPE_BUF ? database->out_length : PIPE_BUF;
         while (database->out[length - 1] != '\n') length--;
-        if (write_quietly(database->to, database->out, length) < 0) return;
+        if (write(database->to, database->out, length) < 0) return;
         database->out_length -= length;
         memmove(database->out, database->out + length, database->out_length);
     }
@@ -252,9 +244,7 @@ static bool make_pipe(int ends[2]) {
         ends[i] = fcntl(low, F_DUPFD_CLOEXEC, 3);
         close(low);
     }
-    if (ends[0] >= 0 && ends[1] >= 0) return true;
-    close(ends[0] >= 0 ? ends[0] : ends[1]);
-    return false;
+    return ends[0] >= 0 && ends[1] >= 0;
 }
 
 /* What the child does: calls that are safe between fork and exec. */
@@ -273,14 +263,13 @@ static bool spawn(vulzhorn *database, const char *folder, char *const words[]) {
     pthread_mutex_lock(&one_at_a_time);
     database->process = make_pipe(input) && make_pipe(output) ? fork() : -1;
     if (database->process == 0) become(folder, words, input[0], output[1]);
-    bool failed = database->process < 0;
-    int ends[] = {input[0], output[1], failed ? input[1] : -1, failed ? output[0] : -1};
-    for (size_t i = 0; i < sizeof ends / sizeof *ends; i++)
-        if (ends[i] >= 0) close(ends[i]);
+    shut(&output[1]);
     pthread_mutex_unlock(&one_at_a_time);
+    database->kept = input[0];
     database->to = input[1];
     database->from = output[0];
-    return !failed;
+    if (database->process < 0) shut_all(database);
+    return database->process >= 0;
 }
 
 /* Runs the program with these words, and waits for the first line that it tells. */
@@ -302,8 +291,7 @@ static vulzhorn_error start(vulzhorn *database, const char *folder, char *const 
 static void end(vulzhorn *database) {
     pthread_mutex_lock(&database->lock);
     while (database->ended == VULZHORN_OK && database->out_length > 0) step(database);
-    if (database->ended == VULZHORN_OK) close(database->to);
-    database->to = -1;
+    if (database->ended == VULZHORN_OK) shut(&database->to);
     while (database->ended == VULZHORN_OK) step(database);
     pthread_mutex_unlock(&database->lock);
 }
@@ -331,18 +319,13 @@ vulzhorn_error vulzhorn_open(const char *folder, const vulzhorn_options *options
     database->ended = VULZHORN_ENDED;
     const char *named = getenv("FACE");
     named = options->program ? options->program : named ? named : "face";
-    char pool[16], run[] = "run", *program = strchr(named, '/') ? realpath(named, NULL) : strdup(named);
-    char *word = strdup(options->word ? options->word : WORD), *words[] = {program, word, pool, NULL};
+    char pool[16], word[] = "run", *program = strchr(named, '/') ? realpath(named, NULL) : strdup(named);
+    char *words[] = {program, word, pool, NULL};
     snprintf(pool, sizeof pool, "%u", options->pool ? options->pool : 64);
-    vulzhorn_error error = program && word ? VULZHORN_OK : program ? VULZHORN_SYSTEM : VULZHORN_UNUSABLE;
+    vulzhorn_error error = program ? VULZHORN_OK : VULZHORN_UNUSABLE;
     if (error == VULZHORN_OK && options->pages > 0) error = make(database, folder, program, options);
     if (error == VULZHORN_OK) error = start(database, folder, words);
-    if (error == VULZHORN_WRONG_SIZES && word && strcmp(word, run) != 0) {
-        words[1] = run;
-        error = start(database, folder, words);
-    }
     free(program);
-    free(word);
     return error;
 }
 
@@ -452,18 +435,11 @@ vulzhorn_error vulzhorn_scan(vulzhorn *database, unsigned session, uint32_t firs
     return request.error;
 }
 
-vulzhorn_error vulzhorn_commit(vulzhorn *database, unsigned session) {
-    return leave(database, "commit %u\n", session);
-}
-
-vulzhorn_error vulzhorn_abort(vulzhorn *database, unsigned session) {
-    return leave(database, "abort %u\n", session);
-}
+vulzhorn_error vulzhorn_commit(vulzhorn *database, unsigned session) { return leave(database, "commit %u\n", session); }
+vulzhorn_error vulzhorn_abort(vulzhorn *database, unsigned session) { return leave(database, "abort %u\n", session); }
 
 uint64_t vulzhorn_commits(const vulzhorn *database) { return database->commits; }
-
 pid_t vulzhorn_process(const vulzhorn *database) { return database->process; }
-
 const char *vulzhorn_said(const vulzhorn *database) { return database->said; }
 
 const char *vulzhorn_sentence(vulzhorn_error error) {

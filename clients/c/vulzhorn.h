@@ -57,7 +57,6 @@ typedef struct {
 /* How a database is opened. What is zero is left to the client. */
 typedef struct {
     const char *program; /* its path; else FACE names it, or it is `face` of the PATH */
-    const char *word;    /* the word that serves lines; a program that doesn't know it is called with `run` */
     unsigned pool;       /* the pages that memory holds; else 64 */
     unsigned pages;      /* where it isn't 0 the database is made if there is none; else it must have these sizes */
     unsigned groups, blocks;

@@ -132,17 +132,19 @@ class Shell(cmd.Cmd):
             raise Wrong(f"{name} is no command; help lists them")
         kinds = COMMANDS[name][0].split()
         if not len([kind for kind in kinds if kind[0] != "["]) <= len(words) <= len(kinds):
-            raise Wrong(f"the form is {name} {COMMANDS[name][0]}, for example {COMMANDS[name][2]}")
+            raise Wrong(f"the form is {' '.join([name, *kinds])}, for example {COMMANDS[name][2]}")
         method = getattr(self, f"do_{name.lstrip('.')}")
         return method(*(self._argument(kind.strip("[]"), word) for kind, word in zip(kinds, words)))
 
     def _argument(self, kind: str, word: str) -> Any:
-        if kind in ("FILE", "COMMAND"):
+        if kind == "FILE" or (kind == "COMMAND" and word in COMMANDS):
             return word
         if kind == "VALUE":
             return read_value(word)
-        if not re.fullmatch(r"\d{1,9}", word):
-            raise Wrong(f"{word} is no {kind}, which is a number")
+        if kind == "COMMAND":
+            raise Wrong(f"{word} is no command; help lists them")
+        if not re.fullmatch(r"[0-9]{1,9}", word):
+            raise Wrong(f"{word} is no {kind}, which is a number of up to nine digits")
         if kind == "SESSION" and int(word) not in self.sessions:
             raise Wrong(f"session {word} isn't open; begin opens one")
         return self.sessions[int(word)] if kind == "SESSION" else int(word)
@@ -166,24 +168,17 @@ class Shell(cmd.Cmd):
             session.erase(record)
 
     def do_scan(self, first: int, count: int) -> str:
-        with self.database.transaction(0) as session:
-            items = session.scan(first, count)
-            session.abort()
-        return listed(items)
+        return listed(self.database.scan(first, count, 0))
 
     def do_begin(self) -> str:
-        session = self.database.begin(0)
+        session = self.database.transaction(0)
         self.sessions[session.session] = session
         return f"session {session.session} is open"
 
     def do_read(self, session: Transaction, record: int) -> str:
         return shown(session.read(record))
 
-    def do_write(self, session: Transaction, record: int, value: bytes) -> None:
-        session.write(record, value)
-
-    def do_erase(self, session: Transaction, record: int) -> None:
-        session.erase(record)
+    do_write, do_erase = staticmethod(Transaction.write), staticmethod(Transaction.erase)
 
     def do_list(self, session: Transaction, first: int, count: int) -> str:
         return listed(session.scan(first, count))

@@ -6,17 +6,15 @@ import os
 import queue
 import random
 import time
-from contextlib import contextmanager, suppress
-from typing import Callable, Iterator, List, Optional, Tuple, Type, TypeVar, Union
+from contextlib import AbstractContextManager, suppress
+from typing import Any, Callable, List, Optional, Tuple, Type, TypeVar, Union
 
-from .errors import Busy, Ended, Error, NoSession, NoSuchRecord, NotBlank, Unanswered, WrongSizes
+from .errors import Busy, Ended, Error, NoSession, NoSuchRecord, NotBlank, WrongSizes
 from .program import Program, Reply, find_program
 
 WORD = "run"  # the word that serves lines; a program that doesn't know it is called with `run`
 SESSIONS = 8
 SCAN_MAX = 64  # records of one scan
-RECORD_OCTETS = 4096 // 32  # of the disk, for each record of a page
-Item = Tuple[int, bytes]
 Answer = TypeVar("Answer")
 
 
@@ -29,8 +27,9 @@ def _spelled(argument: Union[int, bytes]) -> str:
     return str(number)
 
 
-class Transaction:
-    """A transaction of a database: until it ends others can't change what it has read, nor read what it has written."""
+class Transaction(AbstractContextManager):
+    """A transaction of a database: until it ends others can't change what it has read, nor read what it has written.
+    A `with` commits it at its end, and aborts it where an exception leaves the block."""
 
     def __init__(self, database: Database, session: int) -> None:
         self._database, self.session, self.is_open = database, session, True
@@ -53,7 +52,7 @@ class Transaction:
         """Takes the value of a record away."""
         self.submit("erase", record).result()
 
-    def scan(self, first: int, count: int) -> List[Item]:
+    def scan(self, first: int, count: int) -> List[Tuple[int, bytes]]:
         """Number and value of those of so many records, from the first on, that have a value."""
         end = first + count
         replies = [self.submit("scan", at, min(SCAN_MAX, end - at)) for at in range(first, end, SCAN_MAX)]
@@ -67,7 +66,7 @@ class Transaction:
         """Drops what was written."""
         self._end("abort")
 
-    def _end(self, word: str) -> int:
+    def _end(self, word: str) -> Any:
         try:
             return self.submit(word).result()
         finally:
@@ -75,13 +74,20 @@ class Transaction:
                 self.is_open = False
                 self._database._free.put(self.session)
 
+    def __exit__(self, kind: Optional[Type[BaseException]], *_: object) -> None:
+        if kind is None and self.is_open:
+            self.commit()
+        elif kind:
+            with suppress(Error):
+                self.abort()
 
-class Database:
+
+class Database(AbstractContextManager):
     """The database in a folder, served by a program of its own until `close`. `db[7]` is the value of record 7 or None.
 
     With sizes (pages, groups, blocks) it is made where there is none; else it must have them. `pool` is how many pages
-    memory holds, `program` the path of another program than that of `find_program`. Threads may share it, and its eight
-    sessions. `commits` is how many commits it had when it was opened, `pid` the number of the program's process."""
+    memory holds, `program` the path of another program. Threads may share it, and its eight sessions. `commits` is how
+    many commits it had when it was opened, `pid` the program's process."""
 
     __iter__ = None  # else `in` and `for` would ask for one record after the other; `scan` asks for many
 
@@ -105,15 +111,11 @@ class Database:
 
     def _start(self, *words: Union[str, int]) -> None:
         self._program = Program([self._face, *map(str, words)], self.folder)
-        self.pid = self._program.pid
-        try:
-            self.commits: int = self._program.opening.result()
-        except Unanswered as error:
-            raise (error.__cause__ or error) from None
+        self.pid, self.commits = self._program.pid, self._program.opening.result()
 
     def __len__(self) -> int:
         """How many records it has, with a value or without."""
-        return os.path.getsize(os.path.join(self.folder, "face.disk")) // RECORD_OCTETS
+        return os.path.getsize(os.path.join(self.folder, "face.disk")) // 4096 * 32  # for each page
 
     def submit(self, word: str, *arguments: Union[int, bytes]) -> Reply:
         """Sends `get`, `set`, `checkpoint`, `stat` or `cache` with its arguments; answers the future of the reply."""
@@ -129,16 +131,15 @@ class Database:
         with self.transaction() as transaction:
             transaction.erase(record)
 
-    def scan(self, first: int, count: int) -> List[Item]:
+    def scan(self, first: int, count: int, timeout: Optional[float] = None) -> List[Tuple[int, bytes]]:
         """Number and value of those of so many records, from the first on, that have a value, all of one moment."""
-        transaction = self.begin()
-        try:
-            return transaction.scan(first, count)
-        finally:
+        with self.transaction(timeout) as transaction:
+            items = transaction.scan(first, count)
             transaction.abort()
+        return items
 
-    def begin(self, timeout: Optional[float] = None) -> Transaction:
-        """Opens a transaction, once a session is free. It holds the session until it is committed or aborted."""
+    def transaction(self, timeout: Optional[float] = None) -> Transaction:
+        """Opens a transaction once a session is free, which it holds until it ends: NoSession after so many seconds."""
         try:
             session = self._free.get(timeout=timeout)
         except queue.Empty:
@@ -152,39 +153,20 @@ class Database:
             raise
         return Transaction(self, session)
 
-    @contextmanager
-    def transaction(self, timeout: Optional[float] = None) -> Iterator[Transaction]:
-        """A transaction that commits at the end of its block, and aborts where an exception leaves it."""
-        transaction = self.begin(timeout)
-        try:
-            yield transaction
-        except BaseException:
-            with suppress(Error):
-                transaction.abort()
-            raise
-        if transaction.is_open:
-            transaction.commit()
-
     def transact(self, function: Callable[[Transaction], Answer], tries: int = 200, pause: float = 0.0005,
                  again: Tuple[Type[Error], ...] = (Busy,)) -> Answer:
         """Calls the function with a transaction, commits, and answers what it answered. Where that raises Busy, or
         another of `again`, it aborts, and tries again behind a random pause, which grows from `pause` seconds on."""
-        for number in range(1, tries + 1):
-            try:
-                with self.transaction() as transaction:
-                    return function(transaction)
-            except again:
-                if number == tries:
-                    raise
+        for number in range(1, tries):
+            with suppress(*again), self.transaction() as transaction:
+                return function(transaction)
             time.sleep(random.uniform(0, min(0.1, pause * 2 ** min(number, 20))))
-        raise ValueError("it takes one try at least")
+        with self.transaction() as transaction:
+            return function(transaction)
 
     def close(self) -> None:
         """Waits until all that was asked is answered and the program has ended. Open transactions are undone."""
         self._program.end()
-
-    def __enter__(self) -> Database:
-        return self
 
     def __exit__(self, *_: object) -> None:
         self.close()

@@ -6,9 +6,10 @@ import shutil
 import subprocess
 import threading
 from collections import deque
-from typing import Any, Deque, Iterator, List, Optional, Sequence
+from contextlib import suppress
+from typing import Any, Deque, Optional, Sequence
 
-from .errors import Ended, Error, Refused, Unanswered, ValueTooLong, ended, refusal
+from .errors import Ended, Error, Unanswered, ValueTooLong, ended, refusal
 
 LINE_MAX = 500  # octets of a line, so a pipe takes it by one write, whole or not at all
 
@@ -18,8 +19,7 @@ def find_program() -> str:
     which = os.path.join(os.path.dirname(os.path.realpath(__file__)), "../../../bin/which")
     found = os.environ.get("FACE")
     if not found and os.access(which, os.X_OK):
-        told = subprocess.run([which], stdout=subprocess.PIPE, stderr=subprocess.DEVNULL, check=False).stdout
-        found = told.decode().strip()
+        found = subprocess.run([which], capture_output=True, text=True, check=False).stdout.strip()
     found = found or shutil.which("face")
     if not found:
         raise FileNotFoundError("there is no program: FACE names it, bin/build makes it, bin/install puts it on PATH")
@@ -35,8 +35,7 @@ class Reply:
 
     def __init__(self, line: str) -> None:
         self.line = line
-        self._items: List[Any] = []
-        self._result: Any = None
+        self._result: Any = []  # the items so far, until the last line is heard
         self._error: Optional[Error] = None
         self._awaited = threading.Lock()
         self._awaited.acquire()  # until it is heard
@@ -55,36 +54,32 @@ class Reply:
         return self._result
 
     def hear(self, line: str) -> bool:
-        """Takes a line, and answers whether it is the last of this reply."""
+        """Takes a line, and answers whether it is the last of this reply. Raises ValueError where it is none."""
         word, _, rest = line.partition(" ")
         if word in ("item", "frame", "pool"):
             number, _, value = rest.partition(" ")
-            self._items.append((int(number), octets(value)) if word == "item" else line)
+            self._result.append((int(number), octets(value)) if word == "item" else line)
             return False
-        try:
-            self.settle(self._meaning(line, word, rest))
-        except Refused as error:
-            self.settle(None, error)
+        if word == "value":
+            self._result = octets(rest)
+        elif word in ("open", "ready", "committed"):
+            self._result = int(rest.split(" ")[0])
+        elif word == "stat":
+            words = rest.split(" ")
+            self._result = dict(zip(words[::2], map(int, words[1::2])))
+        elif word in ("busy", "full", "refused"):
+            self._error = refusal(line)
+        elif word in ("none", "ok", "aborted", "checkpoint"):
+            self._result = None
+        elif word != "end":
+            raise ValueError(line)
+        self._awaited.release()
         return True
 
-    def settle(self, result: Any, error: Optional[Error] = None) -> None:
-        """Lets go all that wait."""
-        self._result, self._error = result, error
+    def lose(self, error: Error) -> None:
+        """Tells all that wait why no reply comes."""
+        self._error = error
         self._awaited.release()
-
-    def _meaning(self, line: str, word: str, rest: str) -> Any:
-        if word == "value":
-            return octets(rest)
-        if word in ("none", "ok", "aborted", "checkpoint"):
-            return None
-        if word in ("open", "ready", "committed"):
-            return int(rest.split(" ")[0])
-        if word == "end":
-            return self._items
-        if word == "stat":
-            words = rest.split(" ")
-            return dict(zip(words[::2], map(int, words[1::2])))
-        raise refusal(line)
 
 
 class Program:
@@ -92,8 +87,8 @@ class Program:
 
     def __init__(self, words: Sequence[str], folder: str) -> None:
         # In a session of its own Ctrl-C doesn't reach it. Where the caller ends, so does its input, and so does it.
-        self._process = subprocess.Popen(words, cwd=folder, bufsize=0, start_new_session=True, stdin=subprocess.PIPE,
-                                         stdout=subprocess.PIPE, stderr=subprocess.PIPE)
+        self._process = subprocess.Popen(words, cwd=folder, encoding="latin-1", start_new_session=True,
+                                         stdin=subprocess.PIPE, stdout=subprocess.PIPE, stderr=subprocess.PIPE)
         self.pid = self._process.pid
         self.opening = Reply("")
         self._ended: Optional[Ended] = None
@@ -112,9 +107,8 @@ class Program:
                 raise self._ended.with_traceback(None)
             try:
                 self._waiting.append(reply)
-                os.write(self._process.stdin.fileno(), f"{line}\n".encode())
-            except BrokenPipeError:
-                pass  # it has ended; who hears the replies tells all that wait
+                with suppress(BrokenPipeError):  # it has ended; who hears the replies tells all that wait
+                    os.write(self._process.stdin.fileno(), f"{line}\n".encode())
             except BaseException:
                 self._process.kill()  # whether the line went out isn't known, so a reply might be taken for another's
                 raise
@@ -130,26 +124,19 @@ class Program:
     def _hear_all(self) -> None:
         fault = ""
         try:
-            for line in self._lines():
+            for text in self._process.stdout:
+                line, newline, _ = text.partition("\n")
                 if line.startswith("fault "):
                     fault = line
-                elif self._waiting[0].hear(line):
+                elif newline and self._waiting[0].hear(line):  # where it is killed, a part of a line is no reply
                     self._waiting.popleft()
         except (IndexError, ValueError):
             self._process.kill()  # what it told is no reply of this program
         # What it says on standard error comes at its end, and is less than a pipe holds.
-        said = self._process.stderr.read().decode(errors="replace")
+        said = self._process.stderr.read()
         cause = ended(self._process.wait(), fault, said)
-        with self._lock:
+        with self._lock, self._process:  # which closes the pipes
             if cause.status or not self._ended:
                 self._ended = cause
-            for stream in (self._process.stdin, self._process.stdout, self._process.stderr):
-                stream.close()
         for reply in self._waiting:
-            reply.settle(None, Unanswered(reply.line, cause))
-
-    def _lines(self) -> Iterator[str]:
-        rest = ""
-        while heard := os.read(self._process.stdout.fileno(), 65536):
-            *lines, rest = (rest + heard.decode("latin-1")).split("\n")
-            yield from lines
+            reply.lose(cause if reply is self.opening else Unanswered(reply.line, cause))

@@ -2,20 +2,22 @@
 ghost use Rattle.std.specs.Prelude.{◌≡◌, ◌≤◌, ◌<◌, ◌+◌, length, false, IsTrue, IfOk, IfErr, OnOk, OnErr};
 ghost use Rattle.site.specs.declared.outside.Stop.{Stop};
 ghost use Rattle.file_site.specs.declared.book.Book.{Book};
+ghost use Rattle.file_site.specs.declared.folder.NoFolder.{NoFolder};
+ghost use Rattle.file_site.specs.declared.trouble.NoFiles.{NoFiles};
 ghost use Rattle.file_site.specs.Counting.{state_of, reads_after, faulted, IsBare, IsFresh};
 
 use crate::book::Book;
-use crate::device::Devices;
-use crate::folder::Folder;
+use crate::device::{DEVS, Devices};
+use crate::folder::{Folder, file_name};
 use crate::intake::Intake;
 use crate::lock::LockFile;
 use crate::making::{Lengths, fresh};
 use crate::opening::{existing, hold_streams, looked_at};
 use crate::outlet::tells;
 use crate::progress::{Pace, Reading, note_read, say_heard};
-use crate::trouble::{Absence, Call, Failure, Failures};
+use crate::trouble::{Absence, Call, Failure, Failures, NoFiles};
 use crate::watch::Watch;
-use site::{Dev, Failed, Site, Stop};
+use site::{Dev, Failed, Geometry, Site, Stop};
 use std::alloc::Global;
 use std::io::{Eprint, Input, Print};
 use std::os::unix::fs::FileExt;
@@ -244,6 +246,36 @@ where
     {
         let folder = Folder::current(alloc)?;
         FileSite::fresh_in(rt, alloc, &folder, log, flash, disk)
+    }
+
+    /// The files of the folder with this path, to work on: those that are there, or, where each that is there is blank
+    /// and has its length, new ones of these sizes. All three are files then, which no other program holds.
+    pub fn open_or_make(
+        rt: R,
+        alloc: Global,
+        path: &str,
+        sizes: &Geometry,
+    ) -> Result<FileSite<R>, NoFiles>
+        ensures fresh { IfOk result (λ site. IsFresh (state_of site.book)) }
+        ensures short { IfOk result (λ _. length path.now ≤ 4080) }
+        ensures long { IfErr result (λ why. why ≡ NoFiles.Folder NoFolder.TooLong → 4080 < length path.now) }
+    {
+        let folder = match Folder::new(alloc, path) {
+            Ok(folder) => folder,
+            Err(why) => return Err(NoFiles::Folder(why)),
+        };
+        let (log, flash, disk) = sizes.lengths();
+        let Ok(site) = FileSite::fresh_in(rt, alloc, &folder, log, flash, disk) else {
+            return Err(NoFiles::Memory);
+        };
+        for dev in DEVS {
+            match site.absence(dev) {
+                None => {}
+                Some(Absence::Busy(name)) => return Err(NoFiles::Busy(name)),
+                Some(_) => return Err(NoFiles::Unopened(file_name(dev))),
+            }
+        }
+        Ok(site)
     }
 }
 

@@ -20,5 +20,5 @@ pub use folder::{Folder, NoFolder, file_name};
 pub use intake::Intake;
 pub use lock::LockFile;
 pub use outlet::tell_line;
-pub use trouble::{Absence, Call, Failure};
+pub use trouble::{Absence, Call, Failure, NoFiles};
 pub use watch::Watch;

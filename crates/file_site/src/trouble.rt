@@ -1,8 +1,27 @@
 // What went wrong at the system, kept for the words that are said of it.
 ghost use Rattle.std.specs.Prelude.{◌≡◌, IsTrue, false, OnOk, OnErr};
 
+use crate::folder::NoFolder;
 use site::Dev;
 use std::io;
+use thiserror::Error;
+
+/// Why a folder has no files to work on. A name is that of a file in the folder, or `.` for the folder itself.
+#[derive(Clone, Copy, Debug, PartialEq, Eq, Drop, Error)]
+pub enum NoFiles {
+    /// The text names no folder that a database may lie in.
+    #[error("{0}")]
+    Folder(NoFolder),
+    /// Another program holds what has this name.
+    #[error("another program works on {0}")]
+    Busy(&'static str),
+    /// The file with this name can't be used, or made where it is missing.
+    #[error("{0} can't be opened or made")]
+    Unopened(&'static str),
+    /// Memory lacked.
+    #[error("out of memory")]
+    Memory,
+}
 
 /// Why no file stands for a device. A name is that of a file in its folder, or `.` for the folder itself.
 #[derive(Clone, Copy)]
