@@ -36,8 +36,8 @@ pub(crate) const COMPENSATED: &[Row] = &[
     Row::PageLsn(514),
 ];
 
-// Transaction 2 has Updates at 3 and 30, the CLR of the second one at 57, and an Update behind it at 89, whose CLR comes
-// at 514. Undo goes on at 57, passes over that CLR, and goes on at 3, whose CLR comes at 546.
+// Transaction 2 has Updates at 3 and 30, the CLR of the second one at 57, and an Update behind it at 89, whose CLR
+// comes at 514. Undo goes on at 57, passes over that CLR, and goes on at 3, whose CLR comes at 546.
 pub(crate) const BEHIND_A_CLR: &[Row] = &[
     Row::Begin(2),
     Row::Update(3, 2, 2, 5),
