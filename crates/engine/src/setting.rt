@@ -32,7 +32,7 @@ use site::{Site, Stop};
 
 impl Engine {
     // Logs the Begin of a transaction that sets one record, and its Update, and changes the record's page. Answers the
-    // transaction.
+    // transaction. Where the page has no room for the value it answers Foreign, and logs no Update.
     fn log_set<S: Site>(
         &mut self,
         site: &mut S,
@@ -68,6 +68,9 @@ impl Engine {
         match self.store.touch(site, number) {
             Ok(()) => {}
             Err(stop) => return Err(stop),
+        }
+        if !self.store.fits(number, after) {
+            return Err(Stop::Foreign);
         }
         match self.store.update(site, txn, txn, number, after) {
             Ok(_) => Ok(txn),

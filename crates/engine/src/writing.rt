@@ -29,7 +29,8 @@ use site::{Site, Stop};
 use txn_table::Active;
 
 impl Engine {
-    // A session that may writes a record.
+    // A session that may writes a record. Where the record's page has no room for the value it answers Foreign, and
+    // logs nothing.
     fn carry_out_write<S: Site>(
         &mut self,
         site: &mut S,
@@ -60,6 +61,9 @@ impl Engine {
         match self.store.touch(site, number) {
             Ok(()) => {}
             Err(stop) => return Err(stop),
+        }
+        if !self.store.fits(number, after) {
+            return Err(Stop::Foreign);
         }
         match self.locks.add(entry.session, number, true) {
             Ok(()) => {}

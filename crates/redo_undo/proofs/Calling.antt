@@ -170,6 +170,9 @@ logs_then {r = r} first second =
 pub logs_answered : {A B : Type 0} {a : A} {b : B} {old new : LogStore} {pages pages' : PageStore} {before now : State} → LogsNothing {T = A} (Ok a) old new pages pages' before now → LogsNothing {T = B} (Ok b) old new pages pages' before now
 logs_answered first = record { works = works_answered first.works; blocks = first.blocks; hi = first.hi; log_reads = first.log_reads }
 
+pub logs_foreign : {A B : Type 0} {a : A} {old new : LogStore} {pages pages' : PageStore} {before now : State} → LogsNothing {T = A} (Ok a) old new pages pages' before now → LogsNothing {T = B} (Err Foreign) old new pages pages' before now
+logs_foreign first = record { works = works_foreign first.works; blocks = tt; hi = tt; log_reads = first.log_reads }
+
 -- The log alone, on every site.
 
 log_unchanged : (site : State) → ChangesOnly Log site site

@@ -4,16 +4,18 @@ use Rattle.image_meaning.proofs.Versions.{length-versions}
 use Rattle.log_laws.proofs.Losers.{loser_is_not_closed}
 use Rattle.log_laws.proofs.Owing.{owed_clr}
 use Rattle.log_laws.proofs.Tails.{whole_is_undoable}
-use Rattle.log_laws.proofs.UndoingSteps.{undo_step, unfinished_step}
-use Rattle.std.proofs.Common.{◌≡◌, ℕ, ◌+◌, ◌-◌, ◌*◌, ◌≤◌, ◌<◌, ◌==◌, Bool, true, false, List, [], ◌∷◌, ◌++◌, length, Option, None, Some, true≢false, refl, sym, ap, subst, ◌∙◌, arith}
+use Rattle.log_laws.proofs.UndoingSteps.{clr_is_written, first_read, undo_step, update_is_last}
+use Rattle.std.proofs.Common.{◌≡◌, ℕ, ◌+◌, ◌-◌, ◌*◌, ◌≤◌, ◌<◌, ◌==◌, ◌||◌, Bool, true, false, List, [], ◌∷◌, ◌++◌, length, Option, None, Some, true≢false, refl, sym, ap, subst, ◌∙◌, arith}
 use Rattle.std.specs.Prelude.{if◌then◌else◌, find}
+use Rattle.std.proofs.lemmas.Option.{none-some, same_Some}
 use Rattle.site.specs.declared.geometry.Geometry.{Geometry}
 use Rattle.site.specs.State.{State, Image}
 use Rattle.record_model.specs.State.{Content}
 use Rattle.log_records.specs.declared.log_record.LogRecord.{LogRecord}
 use Rattle.log_records.specs.declared.log_record.LogRecord.TheVariants.{Begin, Update, Clr, Commit, End}
 use Rattle.log_records.specs.Unfinished.{is_clr, left_open, owed}
-use Rattle.log_records.specs.Log.{Entry, Version, txn_of, is_closed, is_update, log_from, entries_from, entries_of}
+use Rattle.log_records.specs.Log.{Entry, Version, txn_by, txn_of, number_of, before_of, is_closed, is_update, log_from, entries_from, entries_of}
+use Rattle.log_laws.specs.UndoLaws.{IsLink, goes_back}
 use Rattle.log_records.specs.Sound.{LogicalImage, IsLoserChain, AreOrderly}
 use Rattle.log_laws.specs.Follow.{Follows, IsUndoable}
 use Rattle.log_laws.specs.Tail.{whole}
@@ -27,7 +29,9 @@ use Rattle.image_meaning.specs.Meaning.{master_of, logical_image_under, versions
 use Rattle.redo_laws.specs.Holding.{Represents, MayGrow, blocks_to}
 use Rattle.redo_undo.specs.declared.undo.UndoCursor.{UndoCursor}
 use Rattle.redo_undo.specs.declared.undo.Wanted.{Wanted}
-use Rattle.redo_undo.specs.Undoing.{IsAt, IsWanted, Undone}
+use Rattle.redo_undo.specs.declared.undo.Step.{Step}
+use Rattle.redo_undo.specs.declared.undo.Step.TheVariants.{Compensate, Pass}
+use Rattle.redo_undo.specs.Undoing.{IsAt, IsStepOf, IsWanted, Undone}
 
 -- a record that is found by its LSN
 found_by : (b : Bool) (e u : Entry) (rest : Option Entry) (last : Option LogRecord) → (rest ≡ Some u → last ≡ Some u.rec) →
@@ -43,30 +47,6 @@ found_at lsn (e ∷ log) u found = found_by (e.lsn == lsn) e u (find (λ e. e.ls
 pub entries_are : (newest : Option Master) (g : Geometry) (image : Image) (blocks : List (List LogRecord)) (tail : List LogRecord) → entries (record { first = kept_by newest; blocks = blocks; tail = tail }) ≡ whole (logical_image_under newest g image blocks) tail
 entries_are newest g image blocks tail = ap (λ (n : ℕ). log_from (kept_by newest) blocks ++ entries_from (512 * n + 2) tail) (sym (next_block_is newest blocks))
 
--- undoing goes on at or before the transaction's last record
-pub next_below : (p : LogicalImage) (records : List Entry) (x : Unfinished) (rec : LogRecord) → IsToUndo p records x rec → x.next ≤ x.last
-next_below p records x (Update txn prev page slot before after) is = is.3
-next_below p records x Begin is = absurd is
-next_below p records x (Clr txn prev undo_next page slot after) is = absurd is
-next_below p records x (Commit txn number) is = absurd is
-next_below p records x (End txn) is = absurd is
-
--- and behind its Begin
-pub next_late : (p : LogicalImage) (records : List Entry) (x : Unfinished) (rec : LogRecord) → IsToUndo p records x rec → x.txn ≤ x.next
-next_late p records x (Update txn prev page slot before after) is = let late = is.1 in let early = is.2 in omega (arith, late, early)
-next_late p records x Begin is = absurd is
-next_late p records x (Clr txn prev undo_next page slot after) is = absurd is
-next_late p records x (Commit txn number) is = absurd is
-next_late p records x (End txn) is = absurd is
-
--- what is undone is an Update
-pub is_one : (p : LogicalImage) (records : List Entry) (x : Unfinished) (rec : LogRecord) → IsToUndo p records x rec → ((txn prev page slot : ℕ) (before after : Content) → rec ≡ Update txn prev page slot before after → ⊥) → ⊥
-is_one p records x (Update txn prev page slot before after) is none = none txn prev page slot before after refl
-is_one p records x Begin is none = is
-is_one p records x (Clr txn prev undo_next page slot after) is none = is
-is_one p records x (Commit txn number) is none = is
-is_one p records x (End txn) is none = is
-
 module _ (log : LogStore) (pages : PageStore) (site : State) (newest : Option Master) (records : List Entry) (table : List Content) (commits : ℕ) (h : Represents log pages site newest records table commits) (x : Unfinished) (unfinished : IsUnfinished records x) where
   abbrev g : Geometry
   g = pages.flash.geometry
@@ -74,35 +54,72 @@ module _ (log : LogStore) (pages : PageStore) (site : State) (newest : Option Ma
   abbrev p : LogicalImage
   p = logical_image_under newest pages.flash.geometry site.image h.log_holds.blocks
 
-  -- the record at the LSN where undoing goes on is the Update that is undone next
-  pub to_undo : 0 < x.remaining → (u : Entry) × (at_lsn x.next (entries (record { first = kept_by newest; blocks = h.log_holds.blocks; tail = h.log_holds.tail })) ≡ Some u.rec) × IsToUndo p records x u.rec
-  to_undo some =
-      let are = h.log_holds.runs_on.records_are in
-      let step = undo_step p h.log_holds.tail x h.log_holds.runs_on.carries (subst (λ (l : List Entry). IsUnfinished l x) (sym are) unfinished) some in
-      (step.0, ap (at_lsn x.next) (entries_are newest g site.image h.log_holds.blocks h.log_holds.tail) ∙ found_at x.next (whole p h.log_holds.tail) step.0 step.1, subst (λ (l : List Entry). IsToUndo p l x step.0.rec) are step.2)
+  abbrev listed : List Entry
+  listed = entries (record { first = kept_by newest; blocks = h.log_holds.blocks; tail = h.log_holds.tail })
+
+  -- the record that undoing reads next stands where it goes on
+  pub to_read : (e : Entry) (rest : List Entry) → x.chain ≡ e ∷ rest → at_lsn x.next (entries (record { first = kept_by newest; blocks = h.log_holds.blocks; tail = h.log_holds.tail })) ≡ Some e.rec
+  to_read e rest split =
+      ap (at_lsn x.next) (entries_are newest g site.image h.log_holds.blocks h.log_holds.tail ∙ h.log_holds.runs_on.records_are)
+      ∙ found_at x.next records e (first_read records x unfinished e rest split).0.found
 
   -- whichever record it is that was read there
-  pub read_is : (lsn : ℕ) (rec : LogRecord) → 0 < x.remaining → lsn ≡ x.next → at_lsn lsn (entries (record { first = kept_by newest; blocks = h.log_holds.blocks; tail = h.log_holds.tail })) ≡ Some rec → IsToUndo p records x rec
-  read_is lsn rec some at read =
-      let wanted = to_undo some in
-      let there : at_lsn x.next (entries (record { first = kept_by newest; blocks = h.log_holds.blocks; tail = h.log_holds.tail })) ≡ Some rec = subst (λ (n : ℕ). at_lsn n (entries (record { first = kept_by newest; blocks = h.log_holds.blocks; tail = h.log_holds.tail })) ≡ Some rec) at read in
-      let found = wanted.1 in
-      let same : wanted.0.rec ≡ rec = cc in
-      subst (IsToUndo p records x) same wanted.2
+  pub read_is : (lsn : ℕ) (rec : LogRecord) (e : Entry) (rest : List Entry) → x.chain ≡ e ∷ rest → lsn ≡ x.next → at_lsn lsn (entries (record { first = kept_by newest; blocks = h.log_holds.blocks; tail = h.log_holds.tail })) ≡ Some rec → e.rec ≡ rec
+  read_is lsn rec e rest split at read = same_Some e.rec rec (sym (to_read e rest split) ∙ ap (λ (n : ℕ). at_lsn n listed) (sym at) ∙ read)
 
-  -- what its Update has
-  pub wanted_is : (lsn txn prev page slot : ℕ) (before after : Content) → 0 < x.remaining → lsn ≡ x.next → at_lsn lsn (entries (record { first = kept_by newest; blocks = h.log_holds.blocks; tail = h.log_holds.tail })) ≡ Some (Update txn prev page slot before after) →
-      IsWanted g site.image newest records x (record { prev = prev; page = page; slot = slot; before = before })
-  wanted_is lsn txn prev page slot before after some at read =
-      let is = read_is lsn (Update txn prev page slot before after) some at read in
-      record { late = is.1; early = is.2; exists = omega (arith, is.4, length-versions g site.image); follows = is.5 }
+  -- and one is
+  pub is_there : (lsn : ℕ) (e : Entry) (rest : List Entry) → x.chain ≡ e ∷ rest → lsn ≡ x.next → at_lsn lsn (entries (record { first = kept_by newest; blocks = h.log_holds.blocks; tail = h.log_holds.tail })) ≡ None → ⊥
+  is_there lsn e rest split at none = none-some e.rec (sym none ∙ ap (λ (n : ℕ). at_lsn n listed) at ∙ to_read e rest split)
 
-  -- it is read there
-  pub is_there : (lsn : ℕ) → 0 < x.remaining → lsn ≡ x.next → at_lsn lsn (entries (record { first = kept_by newest; blocks = h.log_holds.blocks; tail = h.log_holds.tail })) ≡ None → ⊥
-  is_there lsn some at none =
-      let found = (to_undo some).1 in
-      let there : at_lsn x.next (entries (record { first = kept_by newest; blocks = h.log_holds.blocks; tail = h.log_holds.tail })) ≡ None = subst (λ (n : ℕ). at_lsn n (entries (record { first = kept_by newest; blocks = h.log_holds.blocks; tail = h.log_holds.tail })) ≡ None) at none in
-      cc
+  -- an Update that is read next is to be undone
+  to_undo : (u : Entry) (rest : List Entry) → x.chain ≡ u ∷ rest → is_update u.rec ≡ true → IsToUndo p records x u.rec
+  to_undo u rest split update =
+      let are = h.log_holds.runs_on.records_are in
+      subst (λ (l : List Entry). IsToUndo p l x u.rec) are (undo_step p h.log_holds.tail x h.log_holds.runs_on.carries (subst (λ (l : List Entry). IsUnfinished l x) (sym are) unfinished) u rest split update)
+
+  -- undoing goes on from each record that it reads
+  pub steps : (at : UndoCursor) (e : Entry) (rest : List Entry) → IsAt at x → x.chain ≡ e ∷ rest → (step : Step) × IsStepOf at g.pages e.rec step
+  steps at e rest is split = subst (λ (rec : LogRecord). (step : Step) × IsStepOf at g.pages rec step) refl (by e.rec refl)
+    where
+      link : IsLink records x.txn x.next e
+      link = (first_read records x unfinished e rest split).0
+
+      by : (rec : LogRecord) → e.rec ≡ rec → (step : Step) × IsStepOf at g.pages rec step
+      by (Update txn prev page slot before after) same =
+          let to = subst (IsToUndo p records x) same (to_undo e rest split (ap is_update same)) in
+          let falls = to.2 in
+          (Compensate (record { prev = prev; page = page; slot = slot; before = before }), (to.0 ∙ sym is.txn, omega (arith, falls, is.next), omega (arith, to.4, length-versions g site.image), refl))
+      by (Clr txn prev undo_next page slot after) same =
+          let own : txn ≡ x.txn = sym (ap (txn_by e.lsn) same) ∙ link.own in
+          let falls = link.falls in
+          let back : goes_back e.rec ≡ undo_next = ap goes_back same in
+          (Pass undo_next, (own ∙ sym is.txn, omega (arith, falls, back, is.next), refl))
+      by Begin same = absurd (true≢false (sym link.change ∙ ap (λ r. is_update r || is_clr r) same))
+      by (Commit txn number) same = absurd (true≢false (sym link.change ∙ ap (λ r. is_update r || is_clr r) same))
+      by (End txn) same = absurd (true≢false (sym link.change ∙ ap (λ r. is_update r || is_clr r) same))
+
+  -- what the Update has that is read next
+  pub wanted_is : (at : UndoCursor) (u : Entry) (rest : List Entry) (w : Wanted) → x.chain ≡ u ∷ rest → IsStepOf at g.pages u.rec (Compensate w) → IsWanted g site.image newest records x u w
+  wanted_is at u rest w split step = by u.rec refl step
+    where
+      by : (rec : LogRecord) → u.rec ≡ rec → IsStepOf at g.pages rec (Compensate w) → IsWanted g site.image newest records x u w
+      by (Update txn prev page slot before after) same is =
+          let to = subst (IsToUndo p records x) same (to_undo u rest split (ap is_update same)) in
+          subst (λ (v : Wanted). IsWanted g site.image newest records x u v) (sym is.3)
+          (record {
+            number = ap number_of same;
+            before = ap before_of same;
+            back = ap goes_back same;
+            late = to.1;
+            early = to.2;
+            exists = is.2;
+            follows = to.5;
+          })
+      by _ same is = absurd is
+
+  -- where an Update is read next, one is left
+  pub some_remain : (u : Entry) (rest : List Entry) → x.chain ≡ u ∷ rest → is_update u.rec ≡ true → 0 < x.remaining
+  some_remain u rest split update = let left = ap length (update_is_last records x unfinished u rest split update) in omega (arith, unfinished.remaining_is, left)
 
   -- its transaction can be undone
   pub chain : IsLoserChain x.txn (entries_of x.txn records)
@@ -137,9 +154,9 @@ module _ (log : LogStore) (pages : PageStore) (site : State) (newest : Option Ma
       (subst (λ t. IsLoserChain t (entries_of t records)) (sym own) (chain log pages site newest records table commits h x unfinished))
       (subst (λ t. 0 < length (left_open records t)) (sym own) (omega (arith, some, unfinished.remaining_is)))
 
-  pub may_compensate : (at : UndoCursor) (w : Wanted) (lsn : ℕ) → IsAt at x → 0 < x.remaining → IsWanted pages.flash.geometry site.image newest records x w →
+  pub may_compensate : (at : UndoCursor) (u : Entry) (w : Wanted) (lsn : ℕ) → IsAt at x → 0 < x.remaining → IsWanted pages.flash.geometry site.image newest records x u w →
       MayGrow log pages site.image newest records (record { lsn = lsn; rec = Clr at.txn at.last w.prev w.page w.slot w.before })
-  may_compensate at w lsn is some wanted =
+  may_compensate at u w lsn is some wanted =
       let e : Entry = record { lsn = lsn; rec = Clr at.txn at.last w.prev w.page w.slot w.before } in
       record {
         follows = subst (λ (t : ℕ). Follows (master_of newest) (versions_on pages.flash.geometry site.image) records (record { lsn = lsn; rec = Clr t at.last w.prev w.page w.slot w.before })) (sym is.txn)
@@ -149,17 +166,18 @@ module _ (log : LogStore) (pages : PageStore) (site : State) (newest : Option Ma
       }
 
   -- there is room for it
-  pub room_for_clr : (w : Wanted) → 0 < x.remaining → blocks_to log + 1 ≤ log.kept + (pages.flash.geometry.blocks - 1)
-  room_for_clr w some =
+  pub room_for_clr : 0 < x.remaining → blocks_to log + 1 ≤ log.kept + (pages.flash.geometry.blocks - 1)
+  room_for_clr some =
       let e : Entry = record { lsn = 0; rec = Clr x.txn 0 0 0 0 None } in
       omega (arith, owes_less e refl refl some, h.log_holds.room)
 
 -- it was logged
-pub undone : (log : LogStore) (pages : PageStore) (site : State) (newest : Option Master) (records : List Entry) (table : List Content) (commits : ℕ) (x : Unfinished) (at : UndoCursor) (w : Wanted) (lsn : ℕ) →
-    IsUnfinished records x → IsAt at x → 0 < x.remaining → Represents log pages site newest (records ++ record { lsn = lsn; rec = Clr at.txn at.last w.prev w.page w.slot w.before } ∷ []) table commits →
+pub undone : (g : Geometry) (log : LogStore) (pages : PageStore) (image : Image) (site : State) (newest : Option Master) (records : List Entry) (table : List Content) (commits : ℕ) (x : Unfinished) (at : UndoCursor) (u : Entry) (rest : List Entry) (w : Wanted) (lsn : ℕ) →
+    IsUnfinished records x → IsAt at x → x.chain ≡ u ∷ rest → is_update u.rec ≡ true → 0 < x.remaining → IsWanted g image newest records x u w → x.last ≤ lsn →
+    Represents log pages site newest (records ++ record { lsn = lsn; rec = Clr at.txn at.last w.prev w.page w.slot w.before } ∷ []) table commits →
     owed records ≡ owed (records ++ record { lsn = lsn; rec = Clr at.txn at.last w.prev w.page w.slot w.before } ∷ []) + 1 →
     (AreOrderly records → AreOrderly (records ++ record { lsn = lsn; rec = Clr at.txn at.last w.prev w.page w.slot w.before } ∷ [])) → Undone log pages site newest records table commits x (record { txn = at.txn; last = lsn; next = w.prev })
-undone log pages site newest records table commits x at w lsn unfinished is some holds owes orderly =
+undone g log pages image site newest records table commits x at u rest w lsn unfinished is split update some wanted late holds owes orderly =
     let e : Entry = record { lsn = lsn; rec = Clr at.txn at.last w.prev w.page w.slot w.before } in
     record {
       e = e;
@@ -170,9 +188,25 @@ undone log pages site newest records table commits x at w lsn unfinished is some
       clr = refl;
       own = is.txn;
       holds = holds;
-      left = unfinished_step records e x unfinished (sym is.txn) refl;
+      left = clr_is_written records x unfinished u rest e split update refl is.txn (sym wanted.back) late;
       at = record { txn = is.txn; last = refl; next = refl };
       fewer = omega (arith, some);
       owes = owes;
       orderly = orderly;
     }
+
+-- What undoing does with an Update, and with a CLR.
+pub is_an_update : (at : UndoCursor) (pages : ℕ) (rec : LogRecord) (w : Wanted) → IsStepOf at pages rec (Compensate w) → is_update rec ≡ true
+is_an_update at pages (Update txn prev page slot before after) w is = refl
+is_an_update at pages _ w is = absurd is
+
+pub is_a_clr : (at : UndoCursor) (pages : ℕ) (rec : LogRecord) (next : ℕ) → IsStepOf at pages rec (Pass next) → (is_clr rec ≡ true) × (next ≡ goes_back rec)
+is_a_clr at pages (Clr txn prev undo_next page slot after) next is = (refl, is.2)
+is_a_clr at pages _ next is = absurd is
+
+pub no_update : (rec : LogRecord) → is_clr rec ≡ true → is_update rec ≡ true → ⊥
+no_update (Update txn prev page slot before after) clr update = true≢false (sym clr)
+no_update (Clr txn prev undo_next page slot after) clr update = true≢false (sym update)
+no_update Begin clr update = true≢false (sym clr)
+no_update (Commit txn number) clr update = true≢false (sym clr)
+no_update (End txn) clr update = true≢false (sym clr)

@@ -4,27 +4,26 @@ use Rattle.log_laws.proofs.Listing.{listed_is_loser, loser_is_listed}
 use Rattle.log_laws.proofs.Losers.{loser_is_not_closed}
 use Rattle.log_laws.proofs.Owing.{owed_closing, owed_none}
 use Rattle.log_laws.proofs.Tails.{whole_in_order, whole_is_undoable}
-use Rattle.log_laws.proofs.Undoing.{next_to_undo}
-use Rattle.log_laws.proofs.UndoingSteps.{undo_end}
-use Rattle.analysis.proofs.Nexts.{some_left}
+use Rattle.log_laws.proofs.Undoing.{top_stands, unfinished_from_top}
+use Rattle.log_laws.proofs.UndoingSteps.{chain_goes_on, first_read, undo_end}
 use Rattle.analysis.proofs.Pending.{all_found}
 use Rattle.redo_undo.proofs.NextRecords.{order_ends}
 use Rattle.log_laws.proofs.Orders.{InTurn-append_all}
 use Rattle.std.proofs.Common.{◌≡◌, ℕ, ◌+◌, ◌-◌, ◌*◌, ◌≤◌, ◌<◌, ◌&&◌, ◌||◌, not, Bool, true, false, List, [], ◌∷◌, ◌++◌, length, Option, None, Some, true≢false, refl, sym, ap, subst, ◌∙◌, arith, append_assoc, append-nil}
 use Rattle.std.specs.List.{list_any}
-use Rattle.std.specs.Prelude.{if◌then◌else◌, map, filter}
+use Rattle.std.specs.Prelude.{if◌then◌else◌, map, filter, find, ◌==◌}
 use Rattle.std.proofs.lemmas.List.{length-append, length-map}
 use Rattle.std.proofs.lemmas.Option.{none-some, same_Some}
 use Rattle.site.specs.State.{State}
 use Rattle.record_model.specs.State.{Content}
 use Rattle.log_records.specs.declared.log_record.LogRecord.TheVariants.{End}
-use Rattle.log_records.specs.Log.{Entry, is_of, is_loser, is_closed, entries_of}
+use Rattle.log_records.specs.Log.{Entry, is_of, is_update, is_loser, is_closed, entries_of}
 use Rattle.log_records.specs.Unfinished.{left_open, owed, owed_by}
-use Rattle.log_records.specs.Sound.{AreOrderly, IsInOrder, last_number, is_known}
+use Rattle.log_records.specs.Sound.{AreOrderly, IsInOrder, IsLoserChain, last_number, is_known}
 use Rattle.log_laws.specs.Follow.{Follows, IsUndoable}
 use Rattle.log_laws.specs.Tail.{next_lsn}
 use Rattle.log_laws.specs.Analysis.{Unfinished, IsUnfinished}
-use Rattle.log_laws.specs.UndoLaws.{next_of}
+use Rattle.log_laws.specs.UndoLaws.{top_lsn}
 use Rattle.log_store.specs.declared.store.LogStore.{LogStore}
 use Rattle.log_store.specs.Representation.{has_tail}
 use Rattle.std.proofs.lemmas.Bool.{ltb-false, or_parts}
@@ -98,47 +97,51 @@ module _ (active : ActiveIsUnfinished) (log : LogStore) (pages : PageStore) (sit
   pub lives : (t : ℕ) (x : Open) → found_in (listed found.table) t ≡ Some x → is_loser records t ≡ true
   lives t x there = listed_is_loser records t (sym (active [] records t tt) ∙ (open_is t x there).0)
 
+  its_chain : (t : ℕ) (x : Open) → found_in (listed found.table) t ≡ Some x → IsLoserChain t (entries_of t records)
+  its_chain t x there = undoable.undone t (lives t x there)
+
   -- an active transaction is unfinished
-  pub unfinished_of : (t : ℕ) (x : Open) → found_in (listed found.table) t ≡ Some x → IsUnfinished records (record { txn = t; last = x.last; next = next_of records t; remaining = length x.updates })
+  pub unfinished_of : (t : ℕ) (x : Open) → found_in (listed found.table) t ≡ Some x →
+      (chained : List Entry) × IsUnfinished records (record { txn = t; last = x.last; next = top_lsn t (left_open records t); remaining = length x.updates; chain = chained })
   unfinished_of t x there =
       let same = (open_is t x there).1 in
-      record {
-        loser = lives t x there;
-        last_is = ap (λ (y : Open). y.last) same;
-        next_is = refl;
-        remaining_is = ap (λ (y : Open). length y.updates) same ∙ length-map (left_open records t) (λ u. u.lsn);
-      }
+      let p = logical_image_under newest pages.flash.geometry site.image h.log_holds.blocks in
+      let from_top = unfinished_from_top (512 * kept_by newest) (next_lsn p h.log_holds.tail) records t order (its_chain t x there) x.last (length x.updates) (lives t x there) (ap (λ (y : Open). y.last) same)
+      (ap (λ (y : Open). length y.updates) same ∙ length-map (left_open records t) (λ u. u.lsn)) (top_lsn t (left_open records t)) refl in
+      (from_top.0, from_top.1)
+
+  abbrev standing : Loser → ℕ → List Entry → Unfinished
+  standing loser lsn chained = record { txn = loser.txn; last = loser.last; next = lsn; remaining = loser.remaining; chain = chained }
 
   -- and undoing it goes on with the first of its Updates that remain
-  next_at : (t lsn : ℕ) (x : Open) → found_in (listed found.table) t ≡ Some x → IsTop lsn x.updates → next_of records t ≡ lsn
-  next_at t lsn x there top =
-      let head = head_of (left_open records t) lsn (subst (λ (y : Open). IsTop lsn y.updates) (open_is t x there).1 top) in
-      (next_to_undo (512 * kept_by newest) (next_lsn (logical_image_under newest pages.flash.geometry site.image h.log_holds.blocks) h.log_holds.tail) records t head.0 head.1 order (undoable.undone t (lives t x there)) head.2).next ∙ head.3
-
-  abbrev standing : Loser → ℕ → Unfinished
-  standing loser lsn = record { txn = loser.txn; last = loser.last; next = lsn; remaining = loser.remaining }
-
-  pub unfinished_loser : (loser : Loser) (lsn : ℕ) → IsOf (listed found.table) loser → Remains (listed found.table) loser.txn lsn → IsUnfinished records (standing loser lsn) × (0 < loser.remaining)
+  pub unfinished_loser : (loser : Loser) (lsn : ℕ) → IsOf (listed found.table) loser → Remains (listed found.table) loser.txn lsn →
+      (u : Entry) × (below : List Entry) × IsUnfinished records (standing loser lsn (u ∷ below)) × (is_update u.rec ≡ true)
   unfinished_loser loser lsn of remains =
+      let t = loser.txn in
       let same : remains.x ≡ of.x = same_Some remains.x of.x (sym remains.there ∙ of.there) in
       let top : IsTop lsn of.x.updates = subst (λ (y : Open). IsTop lsn y.updates) same remains.top in
-      let u = unfinished_of loser.txn of.x of.there in
-      let count : loser.remaining ≡ length of.x.updates = ap (λ (l : Loser). l.remaining) of.same in
-      let some = some_left of.x.updates lsn top in (
-        record {
-          loser = u.loser;
-          last_is = ap (λ (l : Loser). l.last) of.same ∙ u.last_is;
-          next_is = sym (next_at loser.txn lsn of.x of.there top);
-          remaining_is = count ∙ u.remaining_is;
-        },
-        omega (arith, some, count),
-      )
+      let said = (open_is t of.x of.there).1 in
+      let head = head_of (left_open records t) lsn (subst (λ (y : Open). IsTop lsn y.updates) said top) in
+      let p = logical_image_under newest pages.flash.geometry site.image h.log_holds.blocks in
+      let its = its_chain t of.x of.there in
+      let stands = top_stands (512 * kept_by newest) (next_lsn p h.log_holds.tail) records t order its head.0 head.1 head.2 in
+      let late = stands.0.late in
+      let falls = stands.0.falls in
+      let at = head.3 in
+      let from_top = unfinished_from_top (512 * kept_by newest) (next_lsn p h.log_holds.tail) records t order its loser.last loser.remaining (lives t of.x of.there)
+      (ap (λ (l : Loser). l.last) of.same ∙ ap (λ (y : Open). y.last) said)
+      (ap (λ (l : Loser). l.remaining) of.same ∙ ap (λ (y : Open). length y.updates) said ∙ length-map (left_open records t) (λ u. u.lsn)) lsn (sym at ∙ sym (ap (top_lsn t) head.2)) in
+      let is : IsUnfinished records (standing loser lsn from_top.0) = from_top.1 in
+      let first = chain_goes_on records t lsn from_top.0 is.chain_is (omega (arith, late, falls, at)) in
+      let link = (first_read records (standing loser lsn from_top.0) is first.0 first.1 first.2).0 in
+      let one : first.0 ≡ head.0 = same_Some first.0 head.0 (sym link.found ∙ ap (λ (n : ℕ). find (λ (v : Entry). v.lsn == n) records) (sym at) ∙ stands.0.found) in
+      (first.0, first.1, subst (λ (l : List Entry). IsUnfinished records (standing loser lsn l)) first.2 is, ap (λ (e : Entry). is_update e.rec) one ∙ stands.1)
 
   -- its last record stands where the others do
   pub last_known : (known : ℕ) (loser : Loser) → AreUpTo known records → IsOf (listed found.table) loser → loser.last ≤ known
   last_known known loser up_to of =
       let last : loser.last ≡ of.x.last = ap (λ (l : Loser). l.last) of.same in
-      omega (arith, last, (unfinished_of loser.txn of.x of.there).last_is, last_up_to 0 known (is_of loser.txn) records (omega arith) up_to)
+      omega (arith, last, (unfinished_of loser.txn of.x of.there).1.last_is, last_up_to 0 known (is_of loser.txn) records (omega arith) up_to)
 
   found_some : (t : ℕ) → is_loser records t ≡ true → found_in (listed found.table) t ≡ Some (open_at [] records t)
   found_some t loser =

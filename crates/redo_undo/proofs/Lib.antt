@@ -19,6 +19,7 @@ pub mod UndoneUpdates
 pub mod RedoWorks
 pub mod UndoneNumbers
 pub mod Calling
+mod Fitting
 pub mod UndoCalls
 pub mod StoreCalling
 pub mod StoreRollbacks

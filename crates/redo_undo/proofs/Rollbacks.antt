@@ -1,47 +1,43 @@
 -- Undoing a transaction, CLR by CLR, and its End.
 use Rattle.log_laws.proofs.Losers.{loser_is_closed, loser_is_not_closed, loser_stays}
 use Rattle.log_laws.proofs.Owing.{owed_closing}
-use Rattle.log_laws.proofs.Tails.{whole_in_order}
-use Rattle.log_laws.proofs.Undoing.{next_of_undone}
-use Rattle.log_laws.proofs.UndoingSteps.{undo_end}
-use Rattle.std.proofs.Common.{◌≡◌, ◌≢◌, ℕ, zero, suc, ◌+◌, ◌-◌, ◌*◌, ◌<◌, ◌≤◌, true, List, [], ◌∷◌, ◌++◌, length, refl, sym, ap, subst, ◌∙◌, arith, append_assoc, append-nil, Option}
+use Rattle.log_laws.proofs.UndoingSteps.{chain_ends, undo_end}
+use Rattle.log_laws.proofs.UndoingSteps.{none_remains as nothing_remains}
+use Rattle.std.proofs.Common.{◌≡◌, ◌≢◌, ℕ, ◌+◌, ◌-◌, ◌≤◌, true, List, [], ◌∷◌, ◌++◌, length, refl, sym, ap, subst, ◌∙◌, arith, append_assoc, append-nil, Option}
 use Rattle.std.proofs.lemmas.Bool.{ne_eqb}
 use Rattle.std.proofs.lemmas.List.{length-append}
 use Rattle.site.specs.State.{State}
 use Rattle.record_model.specs.State.{Content}
-use Rattle.log_records.specs.declared.log_record.LogRecord.{LogRecord}
-use Rattle.log_records.specs.declared.log_record.LogRecord.TheVariants.{Begin, Update, Clr, Commit, End}
+use Rattle.log_records.specs.declared.log_record.LogRecord.TheVariants.{End}
 use Rattle.log_records.specs.Log.{Entry, txn_of, is_loser}
 use Rattle.log_records.specs.Unfinished.{is_clr, left_open, owed, owed_by}
-use Rattle.log_records.specs.Sound.{IsInOrder, AreOrderly}
+use Rattle.log_records.specs.Sound.{AreOrderly}
 use Rattle.log_laws.specs.Follow.{Follows}
-use Rattle.log_laws.specs.Tail.{next_lsn}
-use Rattle.log_laws.specs.Analysis.{Unfinished, IsUnfinished, after_record}
-use Rattle.log_laws.specs.UndoSteps.{IsToUndo}
+use Rattle.log_laws.specs.Analysis.{Unfinished, IsUnfinished, after_clr, past_clr}
+use Rattle.log_laws.specs.UndoLaws.{IsUndoChain}
 use Rattle.log_store.specs.declared.store.LogStore.{LogStore}
 use Rattle.page_store.specs.declared.store.PageStore.{PageStore}
 use Rattle.checkpoint.specs.declared.master.Master.{Master}
 use Rattle.image_meaning.specs.Meaning.{logical_image_under, master_of, versions_on}
 use Rattle.redo_undo.specs.declared.undo.UndoCursor.{UndoCursor}
 use Rattle.redo_laws.specs.Holding.{Represents, MayGrow, blocks_to}
-use Rattle.redo_undo.specs.Undoing.{IsAt, Undone}
-use Rattle.redo_undo.specs.Rollback.{AreClrsOf, left_of, Compensates, RollsBack}
-use Rattle.redo_undo.proofs.Compensations.{to_undo, chain}
-use Rattle.redo_undo.proofs.LeftUpdates.{none_of}
+use Rattle.redo_undo.specs.Undoing.{IsAt, Undone, Passed}
+use Rattle.redo_undo.specs.Rollback.{AreClrsOf, Compensates, RollsBack}
+use Rattle.redo_undo.proofs.Compensations.{chain}
 use Rattle.flash_cache.proofs.Given.{all_append}
 
 -- nothing is compensated yet
 unfoldable pub starts : (log : LogStore) (pages : PageStore) (site : State) (newest : Option Master) (records : List Entry) (table : List Content) (commits : ℕ) (x : Unfinished) (first : UndoCursor) → Represents log pages site newest records table commits → IsUnfinished records x → IsAt first x →
     Compensates log pages site newest records table commits x.txn (blocks_to log) first
 starts log pages site newest records table commits x first holds unfinished at =
-    let same : x ≡ left_of first x.remaining = λ i. record { txn = sym at.txn i; last = sym at.last i; next = sym at.next i; remaining = x.remaining } in
     record {
       clrs = [];
       own = tt;
       holds = subst (λ (l : List Entry). Represents log pages site newest l table commits) (sym (append-nil records)) holds;
-      remaining = x.remaining;
-      left = subst (λ (l : List Entry). IsUnfinished l (left_of first x.remaining)) (sym (append-nil records)) (subst (IsUnfinished records) same unfinished);
-      same = at.txn;
+      x = x;
+      left = subst (λ (l : List Entry). IsUnfinished l x) (sym (append-nil records)) unfinished;
+      at = at;
+      same = refl;
       count = let remains = unfinished.remaining_is in omega (arith, remains);
       owes = let none = ap owed (append-nil records) in omega (arith, none);
       few = omega arith;
@@ -49,61 +45,63 @@ starts log pages site newest records table commits x first holds unfinished at =
     }
 
 module _ (log : LogStore) (pages : PageStore) (site : State) (newest : Option Master) (records : List Entry) (table : List Content) (commits txn blocks : ℕ) (now : UndoCursor) (c : Compensates log pages site newest records table commits txn blocks now) where
-  -- as long as undoing hasn't come to the Begin an Update remains
-  pub remains : now.next ≢ now.txn → 0 < c.remaining
-  remains differ = by c.remaining refl
+  -- as long as undoing hasn't come to the Begin it reads a record
+  pub remains : now.next ≢ now.txn → (e : Entry) × (rest : List Entry) × (c.x.chain ≡ e ∷ rest)
+  remains differ = by c.x.chain refl
     where
-      by : (n : ℕ) → c.remaining ≡ n → 0 < n
-      by (suc n) is = omega arith
-      by zero is =
-          let p = logical_image_under newest pages.flash.geometry site.image c.holds.log_holds.blocks in
-          let order = subst (λ (l : List Entry). IsInOrder (512 * p.master.kept) l (next_lsn p c.holds.log_holds.tail)) c.holds.log_holds.runs_on.records_are (whole_in_order p c.holds.log_holds.tail c.holds.log_holds.runs_on.carries) in
-          absurd (differ (c.left.next_is ∙ next_of_undone (512 * p.master.kept) (next_lsn p c.holds.log_holds.tail) (records ++ c.clrs) now.txn order
-          (chain log pages site newest (records ++ c.clrs) table commits c.holds (left_of now c.remaining) c.left) (none_of (left_open (records ++ c.clrs) now.txn) (sym is ∙ c.left.remaining_is))))
+      by : (chained : List Entry) → c.x.chain ≡ chained → (e : Entry) × (rest : List Entry) × (c.x.chain ≡ e ∷ rest)
+      by [] none =
+          let ends : c.x.next ≡ c.x.txn = subst (IsUndoChain (records ++ c.clrs) c.x.txn c.x.next) none c.left.chain_is in
+          absurd (differ (c.at.next ∙ ends ∙ sym c.at.txn))
+      by (e ∷ rest) split = (e, rest, split)
 
-  later : (rec : LogRecord) → IsToUndo (logical_image_under newest pages.flash.geometry site.image c.holds.log_holds.blocks) (records ++ c.clrs) (left_of now c.remaining) rec → now.txn < now.next
-  later (Update txn prev page slot before after) is = let late = is.1 in let early = is.2 in omega (arith, late, early)
-  later Begin is = absurd is
-  later (Clr txn prev undo_next page slot after) is = absurd is
-  later (Commit txn number) is = absurd is
-  later (End txn) is = absurd is
-
-  -- and where it has, none does
-  pub none_remains : now.next ≡ now.txn → c.remaining ≡ 0
-  none_remains same = by c.remaining refl
-    where
-      by : (n : ℕ) → c.remaining ≡ n → n ≡ 0
-      by zero is = refl
-      by (suc n) is =
-          let there = to_undo log pages site newest (records ++ c.clrs) table commits c.holds (left_of now c.remaining) c.left (omega (arith, is)) in
-          absurd (omega (arith, later there.0.rec there.2, same))
+  -- and where it has, none remains
+  pub none_remains : now.next ≡ now.txn → c.x.remaining ≡ 0
+  none_remains same =
+      nothing_remains (records ++ c.clrs) c.x c.left
+      (chain_ends (records ++ c.clrs) c.x.txn c.x.next c.x.chain c.left.chain_is (sym c.at.next ∙ same ∙ c.at.txn))
 
   -- one more CLR
-  unfoldable pub goes_on : (log' : LogStore) (pages' : PageStore) (new : State) (next : UndoCursor) → Undone log' pages' new newest (records ++ c.clrs) table commits (left_of now c.remaining) next → blocks_to log' ≤ blocks_to log + 1 →
+  unfoldable pub goes_on : (log' : LogStore) (pages' : PageStore) (new : State) (next : UndoCursor) → Undone log' pages' new newest (records ++ c.clrs) table commits c.x next → blocks_to log' ≤ blocks_to log + 1 →
       Compensates log' pages' new newest records table commits txn blocks next
   goes_on log' pages' new next u one =
-      let y = after_record (left_of now c.remaining) u.e in
-      let is : y ≡ left_of next y.remaining = λ i. record { txn = sym u.at.txn i; last = sym u.at.last i; next = sym u.at.next i; remaining = y.remaining } in
       let all = append_assoc records c.clrs (u.e ∷ []) in
       record {
         clrs = c.clrs ++ u.e ∷ [];
         own = all_append (λ (e : Entry). (is_clr e.rec ≡ true) × (txn_of e ≡ txn)) c.clrs (u.e ∷ []) c.own ((u.clr, u.own ∙ c.same), tt);
         holds = subst (λ (l : List Entry). Represents log' pages' new newest l table commits) all u.holds;
-        remaining = y.remaining;
-        left = subst (λ (l : List Entry). IsUnfinished l (left_of next y.remaining)) all (subst (IsUnfinished ((records ++ c.clrs) ++ u.e ∷ [])) is u.left);
-        same = u.at.txn ∙ c.same;
+        x = after_clr c.x u.e;
+        left = subst (λ (l : List Entry). IsUnfinished l (after_clr c.x u.e)) all u.left;
+        at = u.at;
+        same = c.same;
         count = let count = c.count in let fewer = u.fewer in omega (arith, count, fewer, length-append c.clrs (u.e ∷ []));
         owes = let owes = c.owes in let less = u.owes in let same = ap owed all in omega (arith, owes, less, same, length-append c.clrs (u.e ∷ []));
         few = let few = c.few in omega (arith, few, one, length-append c.clrs (u.e ∷ []));
         orderly = λ were. subst AreOrderly all (u.orderly (c.orderly were));
       }
 
+  -- one more is passed over
+  unfoldable pub passes_on : (log' : LogStore) (pages' : PageStore) (new : State) (e : Entry) (next : UndoCursor) → Passed log log' pages' new newest (records ++ c.clrs) table commits c.x e next → Compensates log' pages' new newest records table commits txn blocks next
+  passes_on log' pages' new e next p = record {
+    clrs = c.clrs;
+    own = c.own;
+    holds = p.holds;
+    x = past_clr c.x e;
+    left = p.left;
+    at = p.at;
+    same = c.same;
+    count = c.count;
+    owes = c.owes;
+    few = let few = c.few in let same = ap blocks_to p.same in omega (arith, few, same);
+    orderly = c.orderly;
+  }
+
   -- Where none remains, the End may be logged.
-  module _ (none : c.remaining ≡ 0) where
-    owes_less : (lsn : ℕ) → owed (records ++ c.clrs) ≡ owed ((records ++ c.clrs) ++ record { lsn = lsn; rec = End now.txn } ∷ []) + owed_by (records ++ c.clrs) now.txn
+  module _ (none : c.x.remaining ≡ 0) where
+    owes_less : (lsn : ℕ) → owed (records ++ c.clrs) ≡ owed ((records ++ c.clrs) ++ record { lsn = lsn; rec = End c.x.txn } ∷ []) + owed_by (records ++ c.clrs) c.x.txn
     owes_less lsn =
-        owed_closing (records ++ c.clrs) (record { lsn = lsn; rec = End now.txn }) refl (loser_is_not_closed (records ++ c.clrs) now.txn c.left.loser)
-        (chain log pages site newest (records ++ c.clrs) table commits c.holds (left_of now c.remaining) c.left)
+        owed_closing (records ++ c.clrs) (record { lsn = lsn; rec = End c.x.txn }) refl (loser_is_not_closed (records ++ c.clrs) c.x.txn c.left.loser)
+        (chain log pages site newest (records ++ c.clrs) table commits c.holds c.x c.left)
 
     -- then nothing of it is owed
     pub owes_all : (lsn : ℕ) → owed ((records ++ c.clrs) ++ record { lsn = lsn; rec = End txn } ∷ []) + (length c.clrs + 1) ≡ owed records
@@ -119,8 +117,8 @@ module _ (log : LogStore) (pages : PageStore) (site : State) (newest : Option Ma
         let p = logical_image_under newest pages.flash.geometry site.image c.holds.log_holds.blocks in
         let are = c.holds.log_holds.runs_on.records_are in
         subst (λ (t : ℕ). MayGrow log pages site.image newest (records ++ c.clrs) (record { lsn = lsn; rec = End t })) c.same (record {
-          follows = subst (λ (l : List Entry). Follows (master_of newest) (versions_on pages.flash.geometry site.image) l (record { lsn = lsn; rec = End now.txn })) are
-              (undo_end p c.holds.log_holds.tail (left_of now c.remaining) c.holds.log_holds.runs_on.carries (subst (λ (l : List Entry). IsUnfinished l (left_of now c.remaining)) (sym are) c.left) none lsn);
+          follows = subst (λ (l : List Entry). Follows (master_of newest) (versions_on pages.flash.geometry site.image) l (record { lsn = lsn; rec = End c.x.txn })) are
+              (undo_end p c.holds.log_holds.tail c.x c.holds.log_holds.runs_on.carries (subst (λ (l : List Entry). IsUnfinished l c.x) (sym are) c.left) none lsn);
           no_commit = refl;
           room = omega (arith, owes_less lsn, c.holds.log_holds.room);
         })

@@ -8,7 +8,7 @@ use Rattle.sealed_ring.specs.Ready.{Finds}
 use Rattle.record_model.specs.State.{Content, Write}
 use Rattle.log_records.specs.declared.log_record.LogRecord.TheVariants.{End}
 use Rattle.log_records.specs.Log.{Entry, txn_of}
-use Rattle.log_records.specs.Unfinished.{open_updates, owed}
+use Rattle.log_records.specs.Unfinished.{left_open, open_updates, owed}
 use Rattle.log_records.specs.Sound.{IsInOrder}
 use Rattle.log_laws.specs.Follow.{IsActive}
 use Rattle.log_laws.specs.Tail.{next_lsn}
@@ -41,7 +41,7 @@ concerns_clrs newest txn before now (e ∷ clrs) own concerns =
 
 -- A session's transaction is unfinished, and all its writes remain to be undone.
 pub active_left : (store : TransactionStore) (site : State) (newest : Option Master) (records : List Entry) (table : List Content) (commits begin last : ℕ) (writes : List Write) → Represents store site newest records table commits → IsActive (master_of newest) records begin last writes →
-    IsUnfinished records (record { txn = begin; last = last; next = last; remaining = length writes })
+    IsUnfinished records (record { txn = begin; last = last; next = last; remaining = length writes; chain = left_open records begin })
 active_left store site newest records table commits begin last writes h active =
     let log = h.both.log_holds in
     let p = logical_image_under newest (sizes_of store) site.image log.blocks in

@@ -4,7 +4,7 @@ use Rattle.std.proofs.lemmas.List.Elements.{filter_map-append}
 use Rattle.redo_laws.specs.Calls.{KeepsInvariant}
 use Rattle.redo_undo.proofs.UndoCalls.{undoes_few, undoes_as, undoes_then, undoes_stopped, undoes_answered}
 use Rattle.redo_undo.specs.UndoCalls.{UndoesWork}
-use Rattle.log_laws.proofs.Undoing.{found_by_lsn, next_to_undo}
+use Rattle.log_laws.proofs.Undoing.{found_by_lsn, top_stands}
 use Rattle.std.proofs.Common.{◌≡◌, ℕ, ◌+◌, ◌≤◌, ◌<◌, ◌==◌, true, List, [], ◌∷◌, ◌++◌, length, Option, None, Some, refl, sym, ap, subst, ◌∙◌, append_assoc, append-nil, ◌*◌, arith, length-append, add-one}
 use Rattle.std.proofs.lemmas.List.{length-reverse}
 use Rattle.std.specs.Prelude.{Ok, Err, ⊤, find, reverse, option_map}
@@ -49,13 +49,13 @@ last_is_left active log pages site newest records table commits found h is txn l
     let ordered = order active log pages site newest records table commits found h is in
     let said = open_is active log pages site newest records table commits found h is txn remains.x remains.there in
     let head = head_of (left_open records txn) lsn (subst (λ (y : Open). IsTop lsn y.updates) said.1 remains.top) in
-    let next = next_to_undo (512 * kept_by newest) (next_lsn p h.log_holds.tail) records txn head.0 head.1 ordered
-    ((undoable active log pages site newest records table commits found h is).undone txn (lives active log pages site newest records table commits found h is txn remains.x remains.there)) head.2 in
+    let next = top_stands (512 * kept_by newest) (next_lsn p h.log_holds.tail) records txn ordered
+    ((undoable active log pages site newest records table commits found h is).undone txn (lives active log pages site newest records table commits found h is txn remains.x remains.there)) head.0 head.1 head.2 in
     let split = last_is (pending records) u last.last in
     let there = split_at (waits records) records split.0 u [] split.1 in
     let found_here = found_by_lsn (512 * kept_by newest) (next_lsn p h.log_holds.tail) there.0 u there.1 (subst (λ (l : List Entry). IsInOrder (512 * kept_by newest) l (next_lsn p h.log_holds.tail)) there.2 ordered) in
     let same : head.0 ≡ u = same_Some head.0 u
-    (sym next.found ∙ ap (λ (n : ℕ). find (λ e. e.lsn == n) records) (head.3 ∙ sym last.at) ∙ ap (find (λ e. e.lsn == u.lsn)) there.2 ∙ found_here) in
+    (sym next.0.found ∙ ap (λ (n : ℕ). find (λ e. e.lsn == n) records) (head.3 ∙ sym last.at) ∙ ap (find (λ e. e.lsn == u.lsn)) there.2 ∙ found_here) in
     (head.1, head.2 ∙ ap (λ (v : Entry). v ∷ head.1) same)
 
 -- One record more.

@@ -1,7 +1,7 @@
 -- The work of undoing: CLRs one after the other, and the Ends of transactions of which nothing remains.
 use Rattle.redo_laws.specs.Holding.{Represents}
 use Rattle.redo_undo.specs.UndoCalls.{UndoesWork}
-use Rattle.log_laws.proofs.Undoing.{next_to_undo}
+use Rattle.log_laws.proofs.Undoing.{top_stands}
 use Rattle.std.proofs.Common.{◌≡◌, ◌≢◌, ◌==◌, ℕ, zero, suc, ◌+◌, ◌*◌, ◌≤◌, ◌<◌, Bool, true, false, cond, not, ◌&&◌, ◌||◌, nat_eq, List, [], ◌∷◌, ◌++◌, map, filter, find, drop, replicate, reverse, length, Option, Some, refl, sym, ap, subst, ◌∙◌, arith, append-nil, append_assoc, eq-eqb, ne_eqb, eqb-true, true≢false, length-append}
 use Rattle.std.specs.Prelude.{Ok, if◌then◌else◌}
 use Rattle.std.specs.List.{list_any, AllByRecursion}
@@ -14,7 +14,7 @@ use Rattle.record_model.specs.State.{Content}
 use Rattle.log_records.specs.Log.{Entry, txn_of, is_of, is_update, is_closed, number_of, before_of}
 use Rattle.log_records.specs.Unfinished.{left_open, pending, losers}
 use Rattle.log_records.specs.Sound.{IsInOrder}
-use Rattle.log_laws.specs.UndoLaws.{IsNext}
+use Rattle.log_laws.specs.UndoLaws.{IsLink}
 use Rattle.log_laws.proofs.Pendings.{waits}
 use Rattle.analysis.specs.Open.{Open, found_in, AscendFrom, TakesOut}
 use Rattle.analysis.specs.Read.{IsTable, open_at}
@@ -177,7 +177,7 @@ among f w (x ∷ xs) e test found own waits = at (test x) found (λ later. among
     at false behind rest = skip (w x) (rest behind)
 
 -- one does where some are left, and none where none is
-pub still_pending : (log : List Entry) (t : ℕ) → ((u : Entry) (rest : List Entry) → left_open log t ≡ u ∷ rest → IsNext log t u rest) → is_closed log t ≡ false → list_any (is_of t) (pending log) ≡ not (is_empty (left_open log t))
+pub still_pending : (log : List Entry) (t : ℕ) → ((u : Entry) (rest : List Entry) → left_open log t ≡ u ∷ rest → IsLink log t u.lsn u × (is_update u.rec ≡ true)) → is_closed log t ≡ false → list_any (is_of t) (pending log) ≡ not (is_empty (left_open log t))
 still_pending log t next lives = by (left_open log t) refl
   where
     by : (us : List Entry) → left_open log t ≡ us → list_any (is_of t) (pending log) ≡ not (is_empty us)
@@ -193,10 +193,10 @@ still_pending log t next lives = by (left_open log t) refl
             and_none false = refl
     by (u ∷ rest) is =
         let n = next u rest is in
-        among (is_of t) (waits log) log u (λ e. e.lsn == u.lsn) n.found (ap (λ (s : ℕ). s == t) n.own ∙ eq-eqb t t refl)
+        among (is_of t) (waits log) log u (λ e. e.lsn == u.lsn) n.0.found (ap (λ (s : ℕ). s == t) n.0.own ∙ eq-eqb t t refl)
         (and_from (is_update u.rec && not (is_closed log (txn_of u))) (list_any (λ v. v.lsn == u.lsn) (left_open log (txn_of u)))
-        (and_from (is_update u.rec) (not (is_closed log (txn_of u))) n.update (ap not (ap (is_closed log) n.own ∙ lives)))
-        (ap (λ (l : List Entry). list_any (λ v. v.lsn == u.lsn) l) (ap (left_open log) n.own ∙ is) ∙ or_left (u.lsn == u.lsn) (list_any (λ v. v.lsn == u.lsn) rest) (eq-eqb u.lsn u.lsn refl)))
+        (and_from (is_update u.rec) (not (is_closed log (txn_of u))) n.1 (ap not (ap (is_closed log) n.0.own ∙ lives)))
+        (ap (λ (l : List Entry). list_any (λ v. v.lsn == u.lsn) l) (ap (left_open log) n.0.own ∙ is) ∙ or_left (u.lsn == u.lsn) (list_any (λ v. v.lsn == u.lsn) rest) (eq-eqb u.lsn u.lsn refl)))
 
 -- behind the CLR of the last Update of all: whether its transaction has one of the earlier ones is whether analysis has one of it
 pub waits_where : (active : ActiveIsUnfinished) (log : LogStore) (pages : PageStore) (site : State) (newest : Option Master) (records : List Entry) (table : List Content) (commits : ℕ) (found : Analysis) (known : ℕ) (u : Entry) (earlier : List Entry) → reverse (pending records) ≡ u ∷ earlier →
@@ -206,9 +206,9 @@ waits_where active log pages site newest records table commits found known u ear
     let log_now = records ++ first.some.more in
     let p = logical_image_under newest pages.flash.geometry site.image now.holds.log_holds.blocks in
     let lives = lives active log pages site newest log_now table commits found now.holds now.analysis (txn_of u) x there in
-    let next : (v : Entry) (rest : List Entry) → left_open log_now (txn_of u) ≡ v ∷ rest → IsNext log_now (txn_of u) v rest = λ v rest is.
-    next_to_undo (512 * kept_by newest) (next_lsn p now.holds.log_holds.tail) log_now (txn_of u) v rest (order active log pages site newest log_now table commits found now.holds now.analysis)
-    ((undoable active log pages site newest log_now table commits found now.holds now.analysis).undone (txn_of u) lives) is in
+    let next : (v : Entry) (rest : List Entry) → left_open log_now (txn_of u) ≡ v ∷ rest → IsLink log_now (txn_of u) v.lsn v × (is_update v.rec ≡ true) = λ v rest is.
+    (let stands = top_stands (512 * kept_by newest) (next_lsn p now.holds.log_holds.tail) log_now (txn_of u) (order active log pages site newest log_now table commits found now.holds now.analysis)
+    ((undoable active log pages site newest log_now table commits found now.holds now.analysis).undone (txn_of u) lives) v rest is in (stands.0, stands.1)) in
     let still : is_closed log_now (txn_of u) ≡ false = not_closed (is_closed log_now (txn_of u)) (and_parts (list_any (is_of (txn_of u)) log_now) (not (is_closed log_now (txn_of u))) lives).1 in
     ap (list_any (is_of (txn_of u))) (ap (drop 1) (sym all ∙ first.left)) ∙ any_reverse (is_of (txn_of u)) (pending log_now) ∙ still_pending log_now (txn_of u) next still
     ∙ sym (ap not (ap none_remains (open_is active log pages site newest log_now table commits found now.holds now.analysis (txn_of u) x there).1 ∙ empty_is (left_open log_now (txn_of u))))

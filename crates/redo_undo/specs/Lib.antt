@@ -1,3 +1,4 @@
+pub mod Fitting
 pub mod Mirroring
 pub mod Undoing
 pub mod Rollback

@@ -12,15 +12,12 @@ use Rattle.log_store.specs.declared.store.LogStore.{LogStore}
 use Rattle.page_store.specs.declared.store.PageStore.{PageStore}
 use Rattle.checkpoint.specs.declared.master.Master.{Master}
 use Rattle.redo_undo.specs.declared.undo.UndoCursor.{UndoCursor}
+use Rattle.redo_undo.specs.Undoing.{IsAt}
 use Rattle.redo_laws.specs.Holding.{Represents, blocks_to}
 
 -- these are CLRs of a transaction
 abbrev pub AreClrsOf : ℕ → List Entry → Type 0
 AreClrsOf txn more = AllByRecursion (λ e. (is_clr e.rec ≡ true) × (txn_of e ≡ txn)) more
-
--- an unfinished transaction with so many Updates that remain to be undone
-abbrev pub left_of : UndoCursor → ℕ → Unfinished
-left_of at remaining = record { txn = at.txn; last = at.last; next = at.next; remaining = remaining }
 
 -- Of an unfinished transaction some Updates are compensated, the last ones first: the log has their CLRs, and the pages
 -- show them. From so many blocks on it took at most one for each CLR.
@@ -29,10 +26,11 @@ pub record Compensates (log : LogStore) (pages : PageStore) (site : State) (newe
   pub clrs : List Entry
   pub own : AreClrsOf txn clrs
   pub holds : Represents log pages site newest (records ++ clrs) table commits
-  pub remaining : ℕ
-  pub left : IsUnfinished (records ++ clrs) (left_of now remaining)
-  pub same : now.txn ≡ txn
-  pub count : length clrs + remaining ≡ length (left_open records txn)
+  pub x : Unfinished
+  pub left : IsUnfinished (records ++ clrs) x
+  pub at : IsAt now x
+  pub same : x.txn ≡ txn
+  pub count : length clrs + x.remaining ≡ length (left_open records txn)
   pub owes : owed (records ++ clrs) + length clrs ≡ owed records
   pub few : blocks_to log ≤ blocks + length clrs
   pub orderly : AreOrderly records → AreOrderly (records ++ clrs)

@@ -11,6 +11,7 @@ mod store;
 mod undo;
 mod undo_losers;
 
+pub use changing::fits_front;
 pub use logging::{log_change, log_record, touch};
 pub use redo_pass::{Redone, redo};
 pub use store::TransactionStore;

@@ -1,6 +1,6 @@
 // A page is touched, a record is logged, and the page is changed.
 ghost use Rattle.std.specs.Prelude.{◌*◌, ◌≡◌, ◌⊎◌, ◌+◌, ◌<◌, ◌≤◌, ◌++◌, ◌∷◌, [], ℕ, List, length, None, IfOk, true};
-ghost use Rattle.std.specs.Prelude.{OnOk, IfErr, Option};
+ghost use Rattle.std.specs.Prelude.{OnOk, IfErr, IsErrOf, Option};
 ghost use Rattle.site.specs.declared.outside.Dev.{Dev};
 ghost use Rattle.site.specs.declared.outside.Stop.{Stop};
 ghost use Rattle.site.specs.Calls.{SameReads};
@@ -14,12 +14,14 @@ ghost use Rattle.log_store.specs.Representation.{end_of, has_tail};
 ghost use Rattle.write_ahead.specs.Forcing.{end_forced};
 ghost use Rattle.page_store.specs.declared.store.PageStore.{PageStore};
 ghost use Rattle.second_chance.specs.Machine.{holds};
+ghost use Rattle.slotted_page.specs.Layout.{lsn_of};
 ghost use Rattle.buffer_pool.specs.Frames.{front_of};
 ghost use Rattle.page_store.specs.Caching.{cache_of, with_change};
 ghost use Rattle.checkpoint.specs.declared.master.Master.{Master};
 ghost use Rattle.image_meaning.specs.Moments.{LeavesTableUnder};
 ghost use Rattle.redo_laws.specs.Holding.{Invariant, RepresentsLog, Represents, MayGrow, KeepsPages, IsOnPage};
 ghost use Rattle.redo_laws.specs.Holding.{blocks_to};
+ghost use Rattle.redo_undo.specs.Fitting.{HasRoomInFront};
 ghost use Rattle.redo_laws.specs.Committing.{EndsWith};
 ghost use Rattle.redo_undo.specs.Mirroring.{PerformsOn, PerformsAtRest, touch_work, record_work, change_work};
 ghost use Rattle.redo_laws.specs.MachineSteps.{StepsMachine, one_touch};
@@ -146,9 +148,10 @@ pub fn log_record<S: Site>(site: &mut S, log: &mut LogStore, rec: &LogRecord) ->
     log.append(site, rec)
 }
 
-/// Appends an Update or a CLR, which is on the page in front of the pool, and changes that page by it. Answers the
-/// record's LSN. From the kept block on there is room for one block more. What log and pages hold together goes on by
-/// the record, and at each moment the devices stand for the same table.
+/// Appends an Update or a CLR, which is on the page in front of the pool and has room there, and changes that page by
+/// it. Answers the record's LSN. From the kept block on there is room for one block more. What log and pages hold
+/// together goes on by the record, and at each moment the devices stand for the same table. Where the page has an LSN
+/// from the log's end on it answers Foreign.
 pub fn log_change<S: Site>(
     site: &mut S,
     log: &mut LogStore,
@@ -159,6 +162,7 @@ pub fn log_change<S: Site>(
     requires there { 0 < length pages.old.pool.frames }
     requires form { HasForm rec.now }
     requires on_page { IsOnPage (front_of pages.old.pool.frames).page rec.now }
+    requires fits { HasRoomInFront pages.old rec.now }
     requires room { blocks_to log.old + 1 < log.old.kept + log.old.geometry.blocks }
 
     // Of an honest site on which log and pages hold together.
@@ -194,6 +198,8 @@ pub fn log_change<S: Site>(
     // When each answer comes.
     ensures stops { IfErr result (λ stop. (stop ≡ Stop.Device Dev.Log)
         ⊎ ((stop ≡ Stop.Worn Dev.Log) ⊎ (stop ≡ Stop.Foreign))) }
+    ensures foreign { IsErrOf result Stop.Foreign
+        → end_of log.old ≤ lsn_of (front_of pages.old.pool.frames).content }
 {
     let lsn = match log_record(site, log, rec) {
         Ok(lsn) => lsn,

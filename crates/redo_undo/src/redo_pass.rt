@@ -22,7 +22,7 @@ ghost use Rattle.checkpoint.specs.declared.master.Master.{Master};
 ghost use Rattle.redo_laws.specs.MachineSteps.{redo_works};
 ghost use Rattle.redo_laws.specs.Calls.{KeepsInvariant, LogsNothing, Keeps};
 
-use crate::changing::change_front;
+use crate::changing::{change_front, fits_front};
 use crate::logging::touch;
 use analysis::{Analysis, losers_are_taken, sound_log_steps, table_of_records};
 use checkpoint::Master;
@@ -116,7 +116,7 @@ fn analyse(master: &Master, found: &mut Analysis, lsn: u64, rec: &LogRecord) -> 
 }
 
 // Redoes a record: where it is on a page whose LSN is smaller, the page is changed by it. A page that doesn't exist is
-// Foreign.
+// Foreign, and so is one that has no room for what the record has written.
 fn redo_record<S: Site>(
     site: &mut S,
     log: &mut LogStore,
@@ -158,6 +158,9 @@ fn redo_record<S: Site>(
     }
     if pages.front_lsn() >= lsn {
         return Ok(());
+    }
+    if !fits_front(pages, rec) {
+        return Err(Stop::Foreign);
     }
     change_front(pages, rec, lsn);
     Ok(())
@@ -265,7 +268,7 @@ fn take_block<S: Site>(
 /// Analysis and redo of a restart: the log is read once, from its kept block on. Analysis hears of each record from the
 /// master's redo block on, and of those of the transactions that the master names; from the redo block on each Update
 /// and each CLR is redone where its page has a smaller LSN. Where the log's content isn't of the form, or a record is
-/// on a page that doesn't exist, it answers Foreign.
+/// on a page that doesn't exist or has no room for it, it answers Foreign.
 pub fn redo<S: Site>(
     alloc: Global,
     site: &mut S,

@@ -1,6 +1,6 @@
 // Log and pages of a run: the records that it logs, and the pages that they change.
-ghost use Rattle.std.specs.Prelude.{Option, map, reverse, ◌≡◌, ◌⊎◌, ◌+◌, ◌*◌, ◌/◌, ◌^◌, ◌<◌, ◌≤◌, ◌↔◌, ◌++◌, ◌∷◌, []};
-ghost use Rattle.std.specs.Prelude.{List, length, IfOk, OnOk, IfErr, IsTrue, ℕ};
+ghost use Rattle.std.specs.Prelude.{Option, map, reverse, ◌≡◌, ◌⊎◌, ◌+◌, ◌*◌, ◌/◌, ◌%◌, ◌^◌, ◌<◌, ◌≤◌, ◌↔◌, ◌++◌, []};
+ghost use Rattle.std.specs.Prelude.{◌∷◌, List, length, IfOk, OnOk, IfErr, IsErrOf, IsTrue, ℕ};
 ghost use Rattle.site.specs.declared.outside.Dev.{Dev};
 ghost use Rattle.site.specs.declared.outside.Stop.{Stop};
 ghost use Rattle.site.specs.State.{State};
@@ -11,11 +11,14 @@ ghost use Rattle.log_records.specs.Spelling.{IsShort};
 ghost use Rattle.log_records.specs.Unfinished as unfinished;
 ghost use Rattle.log_laws.specs.Follow.{IsActive};
 ghost use Rattle.log_store.specs.Representation.{end_of};
+ghost use Rattle.slotted_page.specs.Layout.{lsn_of};
+ghost use Rattle.buffer_pool.specs.Frames.{front_of};
 ghost use Rattle.page_store.specs.Representation.{IsStore};
 ghost use Rattle.checkpoint.specs.declared.master.Master.{Master};
 ghost use Rattle.image_meaning.specs.Meaning.{master_of};
 ghost use Rattle.image_meaning.specs.Moments.{LeavesFor};
 ghost use Rattle.redo_laws.specs.Holding.{blocks_to};
+ghost use Rattle.redo_undo.specs.Fitting.{FitsFront};
 ghost use Rattle.redo_laws.specs.Holding as both;
 ghost use Rattle.redo_undo.specs.Stores.{sizes_of, MayWork, MayLog, Represents, MayGrow, IsInFront, shown_in};
 ghost use Rattle.redo_undo.specs.Stores.{update_by};
@@ -30,6 +33,7 @@ ghost use Rattle.site.specs.Calls.{SameReads};
 ghost use Rattle.page_store.specs.Caching.{next_group};
 ghost use Rattle.page_store.specs.Staging.{Stages};
 
+use crate::changing::slice_of;
 use crate::logging::{log_change, log_record, touch};
 use crate::undo::undo_one;
 use log_records::LogRecord;
@@ -38,6 +42,7 @@ use page_store::PageStore;
 use record_model::Octets;
 use sealed_ring::Ring;
 use site::{Site, Stop};
+use slotted_page::each_value_fits;
 use txn_table::Active;
 
 /// The number of a page's slots.
@@ -170,7 +175,32 @@ impl TransactionStore {
         }
     }
 
-    /// Logs an Update of a record whose page is in front, and changes the page by it. Answers the Update's LSN.
+    /// Whether a content has room in the page of a record, which is in front, beside what the other slots have.
+    pub fn fits(&self, number: u32, after: &Option<Octets>) -> bool
+        requires pages { IsStore self.now.pages }
+        requires front { IsInFront self.now number }
+        requires short { IsShort after.now }
+
+        // Of an honest site whose log and pages hold these records: where an Update may follow, it has room.
+        ensures grows { (site : State) (newest : Option Master) (records : List Entry) (table : List Content)
+            (commits txn prev lsn : ℕ)
+            → Represents self.now site newest records table commits
+            → MayGrow self.now site newest records
+            (record {
+              lsn = lsn;
+              rec = update_by txn prev number (shown_in self.now site records number) after.now;
+            })
+            → IsTrue result }
+
+        // Of every site.
+        ensures room { IsTrue result ↔ FitsFront self.now.pages (number % 32) after.now }
+    {
+        each_value_fits();
+        self.pages.fits((number % SLOTS) as u8, slice_of(after))
+    }
+
+    /// Logs an Update of a record whose page is in front and has room for it, and changes the page by it. Answers the
+    /// Update's LSN. Where the page has an LSN from the log's end on it answers Foreign.
     pub fn update<S: Site>(
         &mut self,
         site: &mut S,
@@ -182,6 +212,7 @@ impl TransactionStore {
         requires may { MayLog self.old (S.state site.old) }
         requires front { IsInFront self.old number }
         requires short { IsShort after.now }
+        requires room { FitsFront self.old.pages (number % 32) after.now }
 
         // Of an honest site whose log and pages hold these records.
         ensures holds { (newest : Option Master) (records : List Entry) (table : List Content) (commits : ℕ)
@@ -218,6 +249,8 @@ impl TransactionStore {
             (S.state site.old) (S.state site.new) }
         ensures stops { IfErr result (λ stop. (stop ≡ Stop.Device Dev.Log)
             ⊎ ((stop ≡ Stop.Worn Dev.Log) ⊎ (stop ≡ Stop.Foreign))) }
+        ensures foreign { IsErrOf result Stop.Foreign
+            → end_of self.old.log ≤ lsn_of (front_of self.old.pages.pool.frames).content }
     {
         let update = LogRecord::Update {
             txn,

@@ -1,21 +1,21 @@
 // Undoing an Update: a compensation record, and what stood before it.
-ghost use Rattle.std.specs.Prelude.{◌≡◌, ◌≢◌, ◌↔◌, ◌+◌, ◌*◌, ◌<◌, ◌≤◌, ◌++◌, ◌∷◌, [], ◌^◌, ℕ, List, Some, IsTrue, true};
-ghost use Rattle.std.specs.Prelude.{false, IfOk, IfErr, IfSome, IfNone, OnOk, Option};
+ghost use Rattle.std.specs.Prelude.{◌≡◌, ◌≢◌, ◌↔◌, ◌+◌, ◌<◌, ◌≤◌, ◌++◌, ◌∷◌, [], ◌^◌, ℕ, List, length, IsTrue, true};
+ghost use Rattle.std.specs.Prelude.{◌*◌, IfOk, IfErr, IfSome, IfNone, OnOk, Option};
 ghost use Rattle.site.specs.declared.outside.Stop.{Stop};
 ghost use Rattle.record_model.specs.State.{Content};
 ghost use Rattle.log_records.specs.declared.log_record.LogRecord.{LogRecord};
-ghost use Rattle.log_records.specs.Log.{Entry, txn_by, is_closing, number_of, before_of};
+ghost use Rattle.log_records.specs.Log.{Entry, is_update};
 ghost use Rattle.log_records.specs.Sound.{AreOrderly};
-ghost use Rattle.log_records.specs.Spelling.{IsShort};
-ghost use Rattle.log_records.specs.Unfinished.{left_open};
+ghost use Rattle.log_records.specs.Spelling.{HasForm, IsShort};
+ghost use Rattle.log_records.specs.Unfinished.{is_clr, left_open};
 ghost use Rattle.log_laws.specs.Analysis.{Unfinished, IsUnfinished};
-ghost use Rattle.log_laws.specs.UndoLaws.{next_by};
 ghost use Rattle.log_store.specs.Representation as log_store;
 ghost use Rattle.log_store.specs.Representation.{end_of};
 ghost use Rattle.page_store.specs.declared.store.PageStore.{PageStore};
 ghost use Rattle.checkpoint.specs.declared.master.Master.{Master};
 ghost use Rattle.redo_laws.specs.Holding.{Invariant, Represents, MayGrow, blocks_to};
-ghost use Rattle.redo_undo.specs.Undoing.{IsAt, IsWanted, Undone};
+ghost use Rattle.redo_undo.specs.Undoing.{IsAt, IsStepOf, Undone, Passed};
+ghost use Rattle.redo_undo.specs.declared.undo.Step.{Step};
 ghost use Rattle.redo_undo.specs.Rollback.{Compensates, RollsBack};
 ghost use Rattle.redo_laws.specs.MachineSteps.{one_change, undo_one_works};
 ghost use Rattle.redo_laws.specs.UndoWorks.{works_of};
@@ -25,8 +25,8 @@ ghost use Rattle.redo_undo.specs.UndoCalls.{UndoesWork};
 ghost use Rattle.ring_machine.specs.Commands.{takes_back};
 ghost use Rattle.ring_machine.specs.Restart.{clr_work};
 
+use crate::changing::fits_front;
 use crate::logging::{log_change, log_record, touch};
-use analysis::table_of_records;
 use log_records::LogRecord;
 use log_store::LogStore;
 use page_store::PageStore;
@@ -40,7 +40,7 @@ pub(crate) struct UndoCursor {
     pub txn: u64,
     /// The LSN of its last record.
     pub last: u64,
-    /// The LSN of its last Update that isn't compensated, or of its Begin.
+    /// The LSN of the record that is read next, or of its Begin.
     pub next: u64,
 }
 
@@ -51,6 +51,15 @@ struct Wanted {
     page: u32,
     slot: u8,
     before: Option<Octets>,
+}
+
+/// What undoing does with a record that it has read.
+#[derive(Drop)]
+enum Step {
+    /// An Update is compensated.
+    Compensate(Wanted),
+    /// A CLR is passed over: undoing goes on at this LSN.
+    Pass(u64),
 }
 
 // Whether from the kept block on there is room for one block more, besides the tail.
@@ -66,51 +75,13 @@ pub(crate) fn has_room(log: &LogStore) -> bool
     log.sealed_end() / 512 + tail + 1 < log.kept() + geometry.blocks as u64
 }
 
-// Reads the Update of a transaction that is to be compensated. It stands in the kept log, is on a page that exists, and
-// names an earlier record. Over devices that aren't sound it may be another transaction's.
-fn read_update<S: Site>(log: &LogStore, site: &mut S, at: &UndoCursor) -> Result<Wanted, Stop>
-    requires going { log_store.Invariant log.now (S.state site.old) }
-    requires last { at.now.last < end_of log.now }
-
-    // Of an honest site on which log and pages hold together.
-    ensures wanted { (pages : PageStore) (newest : Option Master) (records : List Entry) (table : List Content)
-        (commits : ℕ) (x : Unfinished)
-        → log.now.geometry ≡ pages.flash.geometry
-        → Represents log.now pages (S.state site.old) newest records table commits
-        → IsUnfinished records x → IsAt at.now x → 0 < x.remaining
-        → IfOk result (IsWanted pages.flash.geometry (S.state site.old).image newest records x) }
-    ensures readable { (pages : PageStore) (newest : Option Master) (records : List Entry) (table : List Content)
-        (commits : ℕ) (x : Unfinished)
-        → log.now.geometry ≡ pages.flash.geometry
-        → Represents log.now pages (S.state site.old) newest records table commits
-        → IsUnfinished records x → IsAt at.now x → 0 < x.remaining
-        → IfErr result (λ stop. stop ≢ Stop.Foreign) }
-    ensures last_left { (pages : PageStore) (newest : Option Master) (records : List Entry) (table : List Content)
-        (commits : ℕ) (x : Unfinished)
-        (u : Entry) (rest : List Entry)
-        → log.now.geometry ≡ pages.flash.geometry
-        → Represents log.now pages (S.state site.old) newest records table commits
-        → IsUnfinished records x → IsAt at.now x → left_open records x.txn ≡ u ∷ rest
-        → IfOk result (λ wanted. (number_of u.rec ≡ Some (32 * wanted.page + wanted.slot))
-        × (before_of u.rec ≡ wanted.before)) }
-
-    // Of every site.
-    ensures form { IfOk result (λ wanted. (wanted.slot < 32) × IsShort wanted.before) }
-    ensures exists { IfOk result (λ wanted. wanted.page < log.now.geometry.pages) }
-    ensures falls { IfOk result (λ wanted. wanted.prev < at.now.next) }
-    ensures reads { ReadsOne result (S.state site.old) (S.state site.new) }
+// What undoing a transaction does with the record at the LSN where it goes on: that is an Update or a CLR of this
+// transaction, names an earlier one to go on with, and an Update is on a page that exists. Of any other record it says
+// none.
+fn step_of(rec: LogRecord, at: &UndoCursor, pages: u32) -> Option<Step>
+    ensures some { IfSome result (IsStepOf at.now pages rec) }
+    ensures none { IfNone result ((step : Step) → IsStepOf at.now pages rec step → ⊥) }
 {
-    table_of_records();
-    if at.next > at.last {
-        return Err(Stop::Foreign);
-    }
-    if at.next < 512 * log.kept() {
-        return Err(Stop::Foreign);
-    }
-    let rec = match log.read_at(site, at.next) {
-        Ok(rec) => rec,
-        Err(stop) => return Err(stop),
-    };
     match rec {
         LogRecord::Update {
             txn,
@@ -121,26 +92,76 @@ fn read_update<S: Site>(log: &LogStore, site: &mut S, at: &UndoCursor) -> Result
             ..
         } => {
             if txn != at.txn {
-                return Err(Stop::Foreign);
+                return None;
             }
             if prev >= at.next {
-                return Err(Stop::Foreign);
+                return None;
             }
-            if page >= log.geometry().pages {
-                return Err(Stop::Foreign);
+            if page >= pages {
+                return None;
             }
-            Ok(Wanted {
+            Some(Step::Compensate(Wanted {
                 prev,
                 page,
                 slot,
                 before,
-            })
+            }))
         }
-        _ => Err(Stop::Foreign),
+        LogRecord::Clr { txn, undo_next, .. } => {
+            if txn != at.txn {
+                return None;
+            }
+            if undo_next >= at.next {
+                return None;
+            }
+            Some(Step::Pass(undo_next))
+        }
+        _ => None,
     }
 }
 
-// Logs the CLR of an Update, and its slot has again what stood there before. Answers the CLR's LSN.
+// Reads the record where undoing a transaction goes on. It stands in the kept log.
+fn read_step<S: Site>(log: &LogStore, site: &mut S, at: &UndoCursor) -> Result<Step, Stop>
+    requires going { log_store.Invariant log.now (S.state site.old) }
+    requires last { at.now.last < end_of log.now }
+
+    // Of an honest site on which log and pages hold together.
+    ensures step { (pages : PageStore) (newest : Option Master) (records : List Entry) (table : List Content)
+        (commits : ℕ) (x : Unfinished) (e : Entry) (rest : List Entry)
+        → log.now.geometry ≡ pages.flash.geometry
+        → Represents log.now pages (S.state site.old) newest records table commits
+        → IsUnfinished records x → IsAt at.now x → x.chain ≡ e ∷ rest
+        → IfOk result (IsStepOf at.now log.now.geometry.pages e.rec) }
+    ensures readable { (pages : PageStore) (newest : Option Master) (records : List Entry) (table : List Content)
+        (commits : ℕ) (x : Unfinished) (e : Entry) (rest : List Entry)
+        → log.now.geometry ≡ pages.flash.geometry
+        → Represents log.now pages (S.state site.old) newest records table commits
+        → IsUnfinished records x → IsAt at.now x → x.chain ≡ e ∷ rest
+        → IfErr result (λ stop. stop ≢ Stop.Foreign) }
+
+    // Of every site: a record of this transaction was read.
+    ensures own { IfOk result (λ step. (rec : LogRecord) × HasForm rec
+        × IsStepOf at.now log.now.geometry.pages rec step) }
+    ensures reads { ReadsOne result (S.state site.old) (S.state site.new) }
+{
+    if at.next > at.last {
+        return Err(Stop::Foreign);
+    }
+    if at.next < 512 * log.kept() {
+        return Err(Stop::Foreign);
+    }
+    let rec = match log.read_at(site, at.next) {
+        Ok(rec) => rec,
+        Err(stop) => return Err(stop),
+    };
+    match step_of(rec, at, log.geometry().pages) {
+        Some(step) => Ok(step),
+        None => Err(Stop::Foreign),
+    }
+}
+
+// Logs the CLR of an Update, and its slot has again what stood there before. Answers the CLR's LSN. Where the page has
+// no room for that it answers Foreign, and logs nothing.
 fn compensate<S: Site>(
     site: &mut S,
     log: &mut LogStore,
@@ -183,13 +204,19 @@ fn compensate<S: Site>(
           rec = LogRecord.Clr at.now.txn at.now.last wanted.prev wanted.page wanted.slot
               wanted.before;
         } ∷ [])) }
-    ensures does { (newest : Option Master) (records : List Entry) (table : List Content) (commits : ℕ)
+    ensures does { (newest : Option Master) (records : List Entry) (table : List Content) (commits lsn : ℕ)
         → Represents log.old pages.old (S.state site.old) newest records table commits
+        → MayGrow log.old pages.old (S.state site.old).image newest records
+        (record {
+          lsn = lsn;
+          rec = LogRecord.Clr at.now.txn at.now.last wanted.prev wanted.page wanted.slot
+              wanted.before;
+        })
         → UndoesWork result (takes_back (32 * wanted.page + wanted.slot, wanted.before)) (one_change wanted.page)
         log.old log.new pages.old pages.new (S.state site.old) (S.state site.new) newest table commits 1 0 }
 
     // Of every site.
-    ensures before { IfOk result (λ lsn. lsn < end_of log.new) }
+    ensures rises { IfOk result (λ lsn. (end_of log.old ≤ lsn) × (lsn < end_of log.new)) }
     ensures works { KeepsInvariant result log.old log.new pages.old pages.new (S.state site.old) (S.state site.new) }
     ensures blocks { OnOk result (blocks_to log.new ≤ blocks_to log.old + 1) }
     ensures log_reads { (S.state site.new).log_reads ≡ (S.state site.old).log_reads }
@@ -204,47 +231,52 @@ fn compensate<S: Site>(
         after: wanted.before,
     };
     match touch(site, log, pages, page) {
-        Ok(()) => log_change(site, log, pages, &clr),
-        Err(stop) => Err(stop),
+        Ok(()) => {}
+        Err(stop) => return Err(stop),
     }
+    if !fits_front(pages, &clr) {
+        return Err(Stop::Foreign);
+    }
+    log_change(site, log, pages, &clr)
 }
 
-/// Compensates the last Update newest of a transaction that isn't compensated yet: its slot has again what stood before
-/// it. Where what it reads is no such Update, or there is no room for the CLR, it answers Foreign.
-pub(crate) fn undo_update<S: Site>(
+// Compensates an Update that was read where undoing its transaction goes on: its slot has again what stood before it.
+// Where log or page has no room for that it answers Foreign, and logs nothing.
+fn put_back<S: Site>(
     site: &mut S,
     log: &mut LogStore,
     pages: &mut PageStore,
     at: UndoCursor,
+    wanted: Wanted,
 ) -> Result<UndoCursor, Stop>
     requires going { Invariant log.old pages.old (S.state site.old) }
     requires last { at.last < end_of log.old }
+    requires form { (wanted.slot < 32) × IsShort wanted.before }
+    requires exists { wanted.page < pages.old.flash.geometry.pages }
 
     // Of an honest site on which log and pages hold together.
     ensures undone { (newest : Option Master) (records : List Entry) (table : List Content) (commits : ℕ)
-        (x : Unfinished)
+        (x : Unfinished) (u : Entry) (rest : List Entry)
         → Represents log.old pages.old (S.state site.old) newest records table commits
-        → IsUnfinished records x → IsAt at x → 0 < x.remaining
+        → IsUnfinished records x → IsAt at x → x.chain ≡ u ∷ rest
+        → IsStepOf at log.old.geometry.pages u.rec (Step.Compensate wanted)
         → IfOk result (Undone log.new pages.new (S.state site.new) newest records table commits x) }
-    ensures does { (newest : Option Master) (records : List Entry) (table : List Content) (commits : ℕ) (x : Unfinished)
-        (u : Entry) (rest : List Entry)
+    ensures does { (newest : Option Master) (records : List Entry) (table : List Content) (commits : ℕ)
+        (x : Unfinished) (u : Entry) (rest : List Entry)
         → Represents log.old pages.old (S.state site.old) newest records table commits
-        → IsUnfinished records x → IsAt at x → left_open records x.txn ≡ u ∷ rest
+        → IsUnfinished records x → IsAt at x → x.chain ≡ u ∷ rest
+        → IsStepOf at log.old.geometry.pages u.rec (Step.Compensate wanted)
         → UndoesWork result (clr_work u) (works_of (u ∷ [])) log.old log.new pages.old pages.new (S.state site.old)
-        (S.state site.new) newest table commits 1 1 }
+        (S.state site.new) newest table commits 1 0 }
 
     // Of every site.
     ensures last { IfOk result (λ now. now.last < end_of log.new) }
-    ensures falls { IfOk result (λ now. now.next < at.next) }
+    ensures next { IfOk result (λ now. now.next ≡ wanted.prev) }
     ensures same { IfOk result (λ now. now.txn ≡ at.txn) }
     ensures works { KeepsInvariant result log.old log.new pages.old pages.new (S.state site.old) (S.state site.new) }
     ensures blocks { OnOk result (blocks_to log.new ≤ blocks_to log.old + 1) }
-    ensures log_reads { (S.state site.new).log_reads ≤ (S.state site.old).log_reads + 1 }
+    ensures log_reads { (S.state site.new).log_reads ≡ (S.state site.old).log_reads }
 {
-    let wanted = match read_update(log, site, &at) {
-        Ok(wanted) => wanted,
-        Err(stop) => return Err(stop),
-    };
     if !has_room(log) {
         return Err(Stop::Foreign);
     }
@@ -260,7 +292,99 @@ pub(crate) fn undo_update<S: Site>(
     })
 }
 
-// Compensates all Updates of newest a transaction that aren't compensated, the last one first.
+/// Compensates the Update of a transaction where undoing it goes on. Where what it reads is no such Update, or log or
+/// page has no room for what it logs, it answers Foreign, and logs nothing.
+pub(crate) fn undo_update<S: Site>(
+    site: &mut S,
+    log: &mut LogStore,
+    pages: &mut PageStore,
+    at: UndoCursor,
+) -> Result<UndoCursor, Stop>
+    requires going { Invariant log.old pages.old (S.state site.old) }
+    requires last { at.last < end_of log.old }
+
+    // Of an honest site on which log and pages hold together.
+    ensures undone { (newest : Option Master) (records : List Entry) (table : List Content) (commits : ℕ)
+        (x : Unfinished) (u : Entry) (rest : List Entry)
+        → Represents log.old pages.old (S.state site.old) newest records table commits
+        → IsUnfinished records x → IsAt at x → x.chain ≡ u ∷ rest → is_update u.rec ≡ true
+        → IfOk result (Undone log.new pages.new (S.state site.new) newest records table commits x) }
+    ensures does { (newest : Option Master) (records : List Entry) (table : List Content) (commits : ℕ) (x : Unfinished)
+        (u : Entry) (rest : List Entry)
+        → Represents log.old pages.old (S.state site.old) newest records table commits
+        → IsUnfinished records x → IsAt at x → x.chain ≡ u ∷ rest → is_update u.rec ≡ true
+        → UndoesWork result (clr_work u) (works_of (u ∷ [])) log.old log.new pages.old pages.new (S.state site.old)
+        (S.state site.new) newest table commits 1 1 }
+
+    // Of every site.
+    ensures last { IfOk result (λ now. now.last < end_of log.new) }
+    ensures falls { IfOk result (λ now. now.next < at.next) }
+    ensures same { IfOk result (λ now. now.txn ≡ at.txn) }
+    ensures works { KeepsInvariant result log.old log.new pages.old pages.new (S.state site.old) (S.state site.new) }
+    ensures blocks { OnOk result (blocks_to log.new ≤ blocks_to log.old + 1) }
+    ensures log_reads { (S.state site.new).log_reads ≤ (S.state site.old).log_reads + 1 }
+{
+    match read_step(log, site, &at) {
+        Ok(Step::Compensate(wanted)) => put_back(site, log, pages, at, wanted),
+        Ok(Step::Pass(_)) => Err(Stop::Foreign),
+        Err(stop) => Err(stop),
+    }
+}
+
+// Takes one step back in a transaction: an Update is compensated, and a CLR passed over.
+fn undo_step<S: Site>(
+    site: &mut S,
+    log: &mut LogStore,
+    pages: &mut PageStore,
+    at: UndoCursor,
+) -> Result<UndoCursor, Stop>
+    requires going { Invariant log.old pages.old (S.state site.old) }
+    requires last { at.last < end_of log.old }
+
+    // Of an honest site on which log and pages hold together.
+    ensures undone { (newest : Option Master) (records : List Entry) (table : List Content) (commits : ℕ)
+        (x : Unfinished) (u : Entry) (rest : List Entry)
+        → Represents log.old pages.old (S.state site.old) newest records table commits
+        → IsUnfinished records x → IsAt at x → x.chain ≡ u ∷ rest → is_update u.rec ≡ true
+        → IfOk result (Undone log.new pages.new (S.state site.new) newest records table commits x) }
+    ensures does { (newest : Option Master) (records : List Entry) (table : List Content) (commits : ℕ) (x : Unfinished)
+        (u : Entry) (rest : List Entry)
+        → Represents log.old pages.old (S.state site.old) newest records table commits
+        → IsUnfinished records x → IsAt at x → x.chain ≡ u ∷ rest → is_update u.rec ≡ true
+        → UndoesWork result (clr_work u) (works_of (u ∷ [])) log.old log.new pages.old pages.new (S.state site.old)
+        (S.state site.new) newest table commits 1 1 }
+    ensures passed { (newest : Option Master) (records : List Entry) (table : List Content) (commits : ℕ)
+        (x : Unfinished) (c : Entry) (rest : List Entry)
+        → Represents log.old pages.old (S.state site.old) newest records table commits
+        → IsUnfinished records x → IsAt at x → x.chain ≡ c ∷ rest → is_clr c.rec ≡ true
+        → IfOk result (Passed log.old log.new pages.new (S.state site.new) newest records table commits x c) }
+    ensures passes { (newest : Option Master) (records : List Entry) (table : List Content) (commits : ℕ)
+        (x : Unfinished) (c : Entry) (rest : List Entry)
+        → Represents log.old pages.old (S.state site.old) newest records table commits
+        → IsUnfinished records x → IsAt at x → x.chain ≡ c ∷ rest → is_clr c.rec ≡ true
+        → UndoesWork result [] [] log.old log.new pages.old pages.new (S.state site.old) (S.state site.new) newest
+        table commits 0 1 }
+
+    // Of every site.
+    ensures last { IfOk result (λ now. now.last < end_of log.new) }
+    ensures falls { IfOk result (λ now. now.next < at.next) }
+    ensures same { IfOk result (λ now. now.txn ≡ at.txn) }
+    ensures works { KeepsInvariant result log.old log.new pages.old pages.new (S.state site.old) (S.state site.new) }
+    ensures blocks { OnOk result (blocks_to log.new ≤ blocks_to log.old + 1) }
+{
+    match read_step(log, site, &at) {
+        Ok(Step::Compensate(wanted)) => put_back(site, log, pages, at, wanted),
+        Ok(Step::Pass(next)) => Ok(UndoCursor {
+            txn: at.txn,
+            last: at.last,
+            next,
+        }),
+        Err(stop) => Err(stop),
+    }
+}
+
+// Compensates all Updates of a transaction that aren't compensated, the last one first: undoing goes back from record
+// to record, down to its Begin.
 fn undo_updates<S: Site>(
     site: &mut S,
     log: &mut LogStore,
@@ -281,7 +405,7 @@ fn undo_updates<S: Site>(
         → Represents log.old pages.old (S.state site.old) newest records table commits
         → IsUnfinished records x → IsAt first x
         → UndoesWork result (clrs_for (left_open records x.txn)) (undo_one_works records x.txn) log.old log.new
-        pages.old pages.new (S.state site.old) (S.state site.new) newest table commits x.remaining x.remaining }
+        pages.old pages.new (S.state site.old) (S.state site.new) newest table commits x.remaining (length x.chain) }
 
     // Of every site.
     ensures none { IfOk result (λ now. now.next ≡ now.txn) }
@@ -290,7 +414,7 @@ fn undo_updates<S: Site>(
 {
     let mut at = first;
     while at.next != at.txn {
-        at = match undo_update(site, log, pages, at) {
+        at = match undo_step(site, log, pages, at) {
             Ok(next) => next,
             Err(stop) => return Err(stop),
         };
@@ -298,70 +422,12 @@ fn undo_updates<S: Site>(
     Ok(at)
 }
 
-// The transaction of its last record at an LSN, and where undoing it goes on. A record that closes it says none.
-fn goes_on(rec: &LogRecord, lsn: u64) -> Option<(u64, u64)>
-    ensures open { IfSome result (λ at. (is_closing rec.now ≡ false) × (at.0 ≡ txn_by lsn rec.now)
-        × (at.1 ≡ next_by (txn_by lsn rec.now) lsn rec.now)) }
-    ensures closed { IfNone result (is_closing rec.now ≡ true) }
-{
-    match rec {
-        LogRecord::Begin => Some((lsn, lsn)),
-        LogRecord::Update { txn, .. } => Some((*txn, lsn)),
-        LogRecord::Clr { txn, undo_next, .. } => Some((*txn, *undo_next)),
-        _ => None,
-    }
-}
-
-// Reads the last record of a transaction, which says where undoing it goes on: with an Update itself, behind a CLR with
-// the record that this names, and with a Begin nowhere. What a CLR names stands before it. Over devices that aren't
-// sound the record may be another transaction's.
-fn read_last<S: Site>(log: &LogStore, site: &mut S, txn: u64, last: u64) -> Result<UndoCursor, Stop>
-    requires going { log_store.Invariant log.now (S.state site.old) }
-    requires last { last < end_of log.now }
-
-    // Of an honest site on which log and pages hold together, and of an unfinished transaction.
-    ensures at { (pages : PageStore) (newest : Option Master) (records : List Entry) (table : List Content)
-        (commits : ℕ) (x : Unfinished)
-        → log.now.geometry ≡ pages.flash.geometry
-        → Represents log.now pages (S.state site.old) newest records table commits
-        → IsUnfinished records x → x.txn ≡ txn → x.last ≡ last
-        → IfOk result (λ at. IsAt at x) }
-    ensures readable { (pages : PageStore) (newest : Option Master) (records : List Entry) (table : List Content)
-        (commits : ℕ) (x : Unfinished)
-        → log.now.geometry ≡ pages.flash.geometry
-        → Represents log.now pages (S.state site.old) newest records table commits
-        → IsUnfinished records x → x.txn ≡ txn → x.last ≡ last
-        → IfErr result (λ stop. stop ≢ Stop.Foreign) }
-
-    // Of every site.
-    ensures own { IfOk result (λ at. (at.txn ≡ txn) × (at.last ≡ last)) }
-    ensures falls { IfOk result (λ at. at.next ≤ last) }
-    ensures reads { ReadsOne result (S.state site.old) (S.state site.new) }
-{
-    table_of_records();
-    if last < 512 * log.kept() {
-        return Err(Stop::Foreign);
-    }
-    let rec = match log.read_at(site, last) {
-        Ok(rec) => rec,
-        Err(stop) => return Err(stop),
-    };
-    let Some((own, next)) = goes_on(&rec, last) else {
-        return Err(Stop::Foreign);
-    };
-    if own != txn {
-        return Err(Stop::Foreign);
-    }
-    if next > last {
-        return Err(Stop::Foreign);
-    }
-    Ok(UndoCursor { txn, last, next })
-}
-
 /// Undoes a transaction as a whole: a CLR for each of its Updates that has none, the last one first, and its End. `txn`
 /// is the LSN of its Begin and `last` that of its last record. Undo reads no record outside of the kept log, and
-/// follows a transaction to falling LSNs only.
-/// Where what it reads is no such record of the transaction, or there is no room for what it logs, it answers Foreign.
+/// follows a transaction to falling LSNs only: from an Update to the record before it, from a CLR to the record that
+/// this names, down to the Begin. It reads each record once.
+/// Where what it reads is no such record of the transaction, or log or page has no room for what it logs, it answers
+/// Foreign.
 pub fn undo_one<S: Site>(
     site: &mut S,
     log: &mut LogStore,
@@ -376,25 +442,26 @@ pub fn undo_one<S: Site>(
     ensures undone { (newest : Option Master) (records : List Entry) (table : List Content) (commits : ℕ)
         (x : Unfinished)
         → Represents log.old pages.old (S.state site.old) newest records table commits
-        → IsUnfinished records x → x.txn ≡ txn → x.last ≡ last
+        → IsUnfinished records x → x.txn ≡ txn → x.last ≡ last → x.next ≡ last
         → OnOk result (RollsBack log.new pages.new (S.state site.new) newest records table commits txn) }
     ensures does { (newest : Option Master) (records : List Entry) (table : List Content) (commits : ℕ) (x : Unfinished)
         → Represents log.old pages.old (S.state site.old) newest records table commits
-        → IsUnfinished records x → x.txn ≡ txn → x.last ≡ last
+        → IsUnfinished records x → x.txn ≡ txn → x.last ≡ last → x.next ≡ last
         → UndoesWork result (undo_one_work records txn) (undo_one_works records txn) log.old log.new pages.old pages.new
-        (S.state site.old) (S.state site.new) newest table commits (x.remaining + 1) (x.remaining + 1) }
+        (S.state site.old) (S.state site.new) newest table commits (x.remaining + 1) (length x.chain) }
     ensures blocks { (newest : Option Master) (records : List Entry) (table : List Content) (commits : ℕ)
         (x : Unfinished)
         → Represents log.old pages.old (S.state site.old) newest records table commits
-        → IsUnfinished records x → x.txn ≡ txn → x.last ≡ last
+        → IsUnfinished records x → x.txn ≡ txn → x.last ≡ last → x.next ≡ last
         → OnOk result (blocks_to log.new ≤ blocks_to log.old + (x.remaining + 1)) }
 
     // Of every site.
     ensures works { KeepsInvariant result log.old log.new pages.old pages.new (S.state site.old) (S.state site.new) }
 {
-    let first = match read_last(log, site, txn, last) {
-        Ok(first) => first,
-        Err(stop) => return Err(stop),
+    let first = UndoCursor {
+        txn,
+        last,
+        next: last,
     };
     let _undone = match undo_updates(site, log, pages, first) {
         Ok(at) => at,

@@ -15,7 +15,7 @@ use log_store::LogStore;
 use mem_site::MemSite;
 use page_store::PageStore;
 use record_model::Octets;
-use redo_undo::{log_change, log_record, redo, touch, undo_all, undo_one};
+use redo_undo::{fits_front, log_change, log_record, redo, touch, undo_all, undo_one};
 use site::{Dev, Geometry, Site, Stop};
 use std::alloc::Global;
 
@@ -170,7 +170,11 @@ fn change<S: Site>(log: &mut LogStore, pages: &mut PageStore, site: &mut S) -> R
     if !has_room(log) {
         return Err(Stop::Worn(Dev::Log));
     }
-    log_change(site, log, pages, &first_update())
+    let update = first_update();
+    if !fits_front(pages, &update) {
+        return Err(Stop::Foreign);
+    }
+    log_change(site, log, pages, &update)
 }
 
 // The same, and a transaction is undone from that record on.

@@ -1,4 +1,5 @@
-use Rattle.std.proofs.Common.{refl, ◌≡◌, ◌∷◌, [], ◌++◌, sym, ap, subst, arith}
+use Rattle.std.specs.Prelude.{Err}
+use Rattle.std.proofs.Common.{refl, ◌≡◌, ◌∷◌, [], ◌++◌, ℕ, sym, ap, subst, arith}
 use Rattle.slotted_page.specs.Layout.{lsn_of}
 use Rattle.site.specs.declared.geometry.Geometry.{Geometry}
 use Rattle.page_store.specs.Representation.{current}
@@ -10,7 +11,7 @@ use Rattle.page_store.proofs.StagingLaws.{stages_between, stages_ok, stages_err}
 use Rattle.redo_laws.proofs.Asking.{stages_log}
 use Rattle.redo_undo.proofs.logging.log_change.Goals as goal
 use Rattle.buffer_pool.specs.Frames.{front_of}
-use Rattle.redo_undo.proofs.Calling.{keeps_appended}
+use Rattle.redo_undo.proofs.Calling.{appends_foreign, keeps_appended}
 use Rattle.ring_machine.specs.Octets.{octets_of}
 use Rattle.ring_machine.proofs.Performing.{performs_refused}
 use Rattle.redo_undo.proofs.Mirroring.{change_performs, change_stopped_by}
@@ -51,6 +52,13 @@ returns-then-front_lsn-lsn-clause-keeps g c newest records table commits h =
 
 pub returns-clause-keeps : goal.returns-clause-keeps
 returns-clause-keeps g c newest records table commits h = keeps_appended c.requires.going tt (c.in-Ok.ensures.keeps c.args.pages.now newest records table commits h)
+
+-- no append says that it is Foreign
+pub returns-in-Err-clause-foreign : goal.returns-in-Err-clause-foreign
+returns-in-Err-clause-foreign g c = λ says. absurd (appends_foreign {T = ℕ} (Err c.in-Err.stop) c.in-Err.ensures.stops says)
+
+pub returns-then-front_lsn-lsn-clause-foreign : goal.returns-then-front_lsn-lsn-clause-foreign
+returns-then-front_lsn-lsn-clause-foreign g c = λ says. omega (arith, c.front_lsn.ensures, c.if-front_lsn-lsn.true, c.in-Ok.ensures.rises.0)
 
 pub returns-in-Err-clause-stages : goal.returns-in-Err-clause-stages
 returns-in-Err-clause-stages g c = stages_log c.in-Err.ensures.works

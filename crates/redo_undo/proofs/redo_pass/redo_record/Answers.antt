@@ -1,5 +1,5 @@
 use Rattle.std.specs.Prelude.{Ok, IsTrue}
-use Rattle.std.proofs.Common.{◌≡◌, ◌∷◌, [], refl, sym, ap, ◌∙◌, arith}
+use Rattle.std.proofs.Common.{◌≡◌, ◌∷◌, [], true≢false, refl, sym, ap, ◌∙◌, arith}
 use Rattle.site.specs.declared.outside.Stop.TheVariants.{Foreign}
 use Rattle.redo_undo.specs.Redoing.{touches_of}
 use Rattle.std.proofs.lemmas.Option.{none-some}
@@ -14,7 +14,7 @@ use Rattle.redo_laws.proofs.CallsInSequence.{some_group}
 use Rattle.redo_laws.proofs.Changed.{front_is_current}
 use Rattle.redo_undo.proofs.NextRecords.{page_exists, lsn_sealed, no_change, changed, front_knows}
 use Rattle.redo_undo.proofs.RedoWorks.{stops_first, asks_no_page, stops_in_touch, asks_known, asks_redone}
-use Rattle.redo_undo.proofs.Calling.{keeps_redoing, logs_answered, logs_nothing}
+use Rattle.redo_undo.proofs.Calling.{keeps_redoing, logs_answered, logs_foreign, logs_nothing}
 use Rattle.page_store.specs.Calls.{KeepsNext}
 use Rattle.page_store.proofs.NextUnits.{next_answered, next_with}
 use Rattle.std.proofs.lemmas.Grind.{common_steps}
@@ -51,6 +51,9 @@ returns-then-front_lsn-lsn g c =
       logs_nothing = logs_answered c.in-Ok.ensures.logs_nothing;
     }
 
+pub fits_front-requires-clause-on_page : goal.fits_front-requires-clause-on_page
+fits_front-requires-clause-on_page g c = let on = c.in-Some.ensures.on in (on.0, on.1, on.2 ∙ sym c.in-Ok.ensures.front)
+
 pub returns : goal.returns
 returns g c =
     let pages = c.touch.new.pages in
@@ -84,6 +87,18 @@ returns g c =
 pub returns-then-page-geometry-clause-asks : goal.returns-then-page-geometry-clause-asks
 returns-then-page-geometry-clause-asks g c o front rest h is =
     stops_first Foreign (touches_of o (record { lsn = c.args.lsn; rec = c.args.rec.now } ∷ [])) c.args.pages.now (g.S.Site.state c.args.site.now) (some_group c.requires.going) (λ dev same. cc)
+
+-- its page has room for what it has written
+pub returns-then-not-fits_front-clause-asks : goal.returns-then-not-fits_front-clause-asks
+returns-then-not-fits_front-clause-asks g c o front rest h is =
+    absurd (true≢false (sym (c.fits_front.ensures.redone o c.touch.new.log (g.S.Site.state c.touch.new.site) front rest c.args.lsn (c.in-Ok.ensures.redoing o front h) is) ∙ c.if-not-fits_front.true))
+
+pub returns-then-not-fits_front-clause-keeps : goal.returns-then-not-fits_front-clause-keeps
+returns-then-not-fits_front-clause-keeps g c o front rest h is =
+    absurd (true≢false (sym (c.fits_front.ensures.redone o c.touch.new.log (g.S.Site.state c.touch.new.site) front rest c.args.lsn (c.in-Ok.ensures.redoing o front h) is) ∙ c.if-not-fits_front.true))
+
+pub returns-then-not-fits_front-clause-logs_nothing : goal.returns-then-not-fits_front-clause-logs_nothing
+returns-then-not-fits_front-clause-logs_nothing g c = logs_foreign c.in-Ok.ensures.logs_nothing
 
 pub returns-in-Err-clause-asks : goal.returns-in-Err-clause-asks
 returns-in-Err-clause-asks g c o front rest h is =

@@ -1,4 +1,4 @@
-use Rattle.std.proofs.Common.{◌∙◌, ◌+◌, ◌*◌, ◌++◌, ◌∷◌, [], ℕ, refl, arith, sym}
+use Rattle.std.proofs.Common.{◌∙◌, ◌+◌, ◌*◌, ◌++◌, ◌∷◌, [], ℕ, true≢false, refl, arith, sym}
 use Rattle.site.specs.declared.outside.Dev.TheVariants.{Log}
 use Rattle.log_records.specs.declared.log_record.LogRecord.TheVariants.{Clr}
 use Rattle.log_records.specs.Log.{Entry}
@@ -9,7 +9,7 @@ use Rattle.redo_undo.proofs.Compensations.{may_moved}
 use Rattle.redo_laws.proofs.Appended.{if_ok_one}
 use Rattle.second_chance.specs.Machine.{rules_of}
 use Rattle.redo_laws.proofs.AskingUndo.{change_made, change_stopped}
-use Rattle.redo_undo.proofs.Calling.{keeps_failed, keeps_few, keeps_then, works_then}
+use Rattle.redo_undo.proofs.Calling.{keeps_failed, keeps_few, keeps_then, works_foreign, works_then}
 use Rattle.std.proofs.lemmas.Grind.{common_steps}
 use Rattle.redo_undo.proofs.undo.compensate.Goals as goal
 use Rattle.buffer_pool.specs.Frames.{front_of}
@@ -18,11 +18,14 @@ use Rattle.ring_machine.specs.Octets.{clr_octets}
 use Rattle.ring_machine.proofs.Performing.{performs_as, performs_by, performs_then, performs_stopped}
 use Rattle.redo_undo.proofs.UndoneWork.{back_is}
 
+pub fits_front-requires-clause-on_page : goal.fits_front-requires-clause-on_page
+fits_front-requires-clause-on_page g c = (32 * c.args.wanted.page + c.args.wanted.slot, refl, let front = c.in-Ok.ensures.front in let form = c.requires.form.0 in omega (arith, front, form))
+
 pub log_change-requires-clause-on_page : goal.log_change-requires-clause-on_page
 log_change-requires-clause-on_page g c = (32 * c.args.wanted.page + c.args.wanted.slot, refl, let front = c.in-Ok.ensures.front in let form = c.requires.form.0 in omega (arith, front, form))
 
-pub returns-in-Ok : goal.returns-in-Ok
-returns-in-Ok g c =
+pub returns : goal.returns
+returns g c =
     let site = g.S.Site.state c.args.site.now in
     let mid = g.S.Site.state c.touch.new.site in
     let new = g.S.Site.state c.log_change.new.site in
@@ -42,7 +45,7 @@ returns-in-Ok g c =
           (λ lsn. MayGrow _ _ site.image newest records (entry lsn) → AreOrderly records → AreOrderly (records ++ entry lsn ∷ []))
           (λ lsn grown may. grown (may_moved _ c.touch.new.log _ c.touch.new.pages site.image mid.image newest records (entry lsn) refl c.touch.ensures.logs_nothing.works.geometry c.in-Ok.ensures.logs_nothing.blocks c.touch.ensures.logs_nothing.works.kept may))
           (c.log_change.ensures.orderly newest records table commits (c.in-Ok.ensures.holds newest records table commits h));
-      does = λ newest records table commits h.
+      does = λ newest records table commits lsn h may.
           let held = c.in-Ok.ensures.holds newest records table commits h in
           record {
             keeps = keeps_then h.log_holds.ready.blocks.honest first.geometry first.geometry first.calls (c.in-Ok.ensures.keeps newest records table commits h) (c.log_change.ensures.keeps newest records table commits held);
@@ -52,14 +55,14 @@ returns-in-Ok g c =
                 (performs_then (c.in-Ok.ensures.performs newest records table commits h) (performs_by (sym c.in-Ok.ensures.asks.rules_are) (c.log_change.ensures.performs newest records table commits held)));
             log_reads = let same = c.log_change.ensures.reads Log ∙ c.touch.ensures.logs_nothing.log_reads in omega (arith, same);
           };
-      before = grind (arith, common_steps);
+      rises = grind (arith, common_steps);
       works = works_then c.in-Ok.ensures.logs_nothing.works c.log_change.ensures.works;
       blocks = grind (arith, common_steps);
       log_reads = c.log_change.ensures.reads Log ∙ c.touch.ensures.logs_nothing.log_reads;
     }
 
 pub returns-in-Err-clause-does : goal.returns-in-Err-clause-does
-returns-in-Err-clause-does g c newest records table commits h =
+returns-in-Err-clause-does g c newest records table commits lsn h may =
     let w = c.args.wanted in
     record {
       keeps = keeps_few (omega arith) (keeps_failed (c.in-Err.ensures.keeps newest records table commits h));
@@ -67,3 +70,16 @@ returns-in-Err-clause-does g c newest records table commits h =
       performs = performs_as (sym (back_is w.page w.slot w.page w.before c.requires.form.0 refl)) (performs_stopped (changed (clr_octets w.before) w.page ∷ []) (c.in-Err.ensures.performs newest records table commits h));
       log_reads = let same = c.in-Err.ensures.logs_nothing.log_reads in omega (arith, same);
     }
+
+-- the page has room for what stood there
+pub returns-then-not-fits_front-clause-does : goal.returns-then-not-fits_front-clause-does
+returns-then-not-fits_front-clause-does g c newest records table commits lsn h may =
+    let site = g.S.Site.state c.args.site.now in
+    let mid = g.S.Site.state c.touch.new.site in
+    let w = c.args.wanted in
+    let e : Entry = record { lsn = lsn; rec = Clr c.args.at.now.txn c.args.at.now.last w.prev w.page w.slot w.before } in
+    let moved = may_moved _ c.touch.new.log _ c.touch.new.pages site.image mid.image newest records e refl c.touch.ensures.logs_nothing.works.geometry c.in-Ok.ensures.logs_nothing.blocks c.touch.ensures.logs_nothing.works.kept may in
+    absurd (true≢false (sym (c.fits_front.ensures.grows c.touch.new.log mid newest records table commits lsn (c.in-Ok.ensures.holds newest records table commits h) moved) ∙ c.if-not-fits_front.true))
+
+pub returns-then-not-fits_front-clause-works : goal.returns-then-not-fits_front-clause-works
+returns-then-not-fits_front-clause-works g c = works_foreign c.in-Ok.ensures.logs_nothing.works

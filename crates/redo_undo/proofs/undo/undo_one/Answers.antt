@@ -1,6 +1,6 @@
 use Rattle.page_store.specs.declared.store.PageStore.{PageStore}
 use Rattle.redo_undo.specs.UndoCalls.{UndoesWork}
-use Rattle.redo_undo.proofs.UndoCalls.{undoes_answered, undoes_as, undoes_beside, undoes_failed, undoes_few, undoes_read, undoes_stopped, undoes_then, undoes_unread}
+use Rattle.redo_undo.proofs.UndoCalls.{undoes_answered, undoes_as, undoes_beside, undoes_failed, undoes_few, undoes_stopped, undoes_then}
 use Rattle.std.specs.Prelude.{⊤, Option, Result}
 use Rattle.std.proofs.Common.{List, Ok, Err, ◌≡◌, ◌+◌, ◌++◌, ◌∷◌, [], length, refl, sym, ap, subst, ◌∙◌, arith, ℕ, true≢false, append-nil}
 use Rattle.site.specs.declared.geometry.Geometry.{Geometry}
@@ -15,26 +15,22 @@ use Rattle.site.specs.State.{State}
 use Rattle.site.specs.declared.outside.Stop.{Stop}
 use Rattle.redo_undo.specs.Rollback.{AreClrsOf, Compensates}
 use Rattle.redo_undo.specs.Undoing.{IsAt}
-use Rattle.redo_laws.proofs.CallsInSequence.{going_still}
 use Rattle.redo_undo.proofs.Rollbacks.{none_remains, room_for_end, may_end, owes_all, rolls_back}
 use Rattle.page_store.specs.Caching.{rules}
 use Rattle.redo_laws.specs.MachineSteps.{undo_one_works}
-use Rattle.redo_undo.proofs.Calling.{held_read, works_answered, works_appended, works_foreign, works_read, works_stopped, works_then}
+use Rattle.redo_undo.proofs.Calling.{works_answered, works_appended, works_foreign, works_stopped, works_then}
 use Rattle.redo_undo.proofs.undo.undo_one.Given.{Over}
-use Rattle.redo_undo.proofs.undo.undo_one.Goals.{In-Ok-undo_updates}
+use Rattle.redo_undo.proofs.undo.undo_one.Goals.{In-Ok}
 use Rattle.redo_undo.proofs.undo.undo_one.Goals as goal
 use Rattle.log_store.specs.declared.store.LogStore.{LogStore}
 use Rattle.redo_undo.specs.Mirroring.{undo_one_work}
 use Rattle.ring_machine.specs.Commands.{ends}
 
-pub undo_updates-requires-clause-going : goal.undo_updates-requires-clause-going
-undo_updates-requires-clause-going g c = going_still c.args.log.now c.args.pages.now (g.S.Site.state c.args.site.now) (g.S.Site.state c.read_last.new.site) c.read_last.ensures.reads.preserves c.requires.going
-
 -- All of them are undone.
 
-module _ (g : Over) (c : In-Ok-undo_updates g) (newest : Option Master) (records : List Entry) (table : List Content) (commits : ℕ) (x : Unfinished)
+module _ (g : Over) (c : In-Ok g) (newest : Option Master) (records : List Entry) (table : List Content) (commits : ℕ) (x : Unfinished)
     (h : Represents c.args.log.now c.args.pages.now (g.S.Site.state c.args.site.now) newest records table commits) (unfinished : IsUnfinished records x)
-    (own : x.txn ≡ c.args.txn) (last : x.last ≡ c.args.last) where
+    (own : x.txn ≡ c.args.txn) (last : x.last ≡ c.args.last) (next : x.next ≡ c.args.last) where
   abbrev old : State
   old = g.S.Site.state c.args.site.now
 
@@ -47,26 +43,22 @@ module _ (g : Over) (c : In-Ok-undo_updates g) (newest : Option Master) (records
   abbrev pages : PageStore
   pages = c.undo_updates.new.pages
 
-  still : Represents c.args.log.now c.args.pages.now (g.S.Site.state c.read_last.new.site) newest records table commits
-  still = held_read h c.read_last.ensures.reads
+  at : IsAt (record { txn = c.args.txn; last = c.args.last; next = c.args.last }) x
+  at = record { txn = sym own; last = sym last; next = sym next }
 
-  at : IsAt c.in-Ok.first x
-  at = c.in-Ok.ensures.at c.args.pages.now newest records table commits x c.requires.going.sizes h unfinished own last
+  done : Compensates log pages site newest records table commits x.txn (blocks_to c.args.log.now) c.in-Ok.at
+  done = c.in-Ok.ensures.undone newest records table commits x h unfinished at
 
-  done : Compensates log pages site newest records table commits x.txn (blocks_to c.args.log.now) c.in-Ok-undo_updates.at
-  done = c.in-Ok-undo_updates.ensures.undone newest records table commits x still unfinished at
-
-  none : done.remaining ≡ 0
-  none = none_remains log pages site newest records table commits x.txn (blocks_to c.args.log.now) c.in-Ok-undo_updates.at done c.in-Ok-undo_updates.ensures.none
+  none : done.x.remaining ≡ 0
+  none = none_remains log pages site newest records table commits x.txn (blocks_to c.args.log.now) c.in-Ok.at done c.in-Ok.ensures.none
 
   -- and the End behind it
   behind : (r : Result ℕ Stop) (log' : LogStore) (new : State) → UndoesWork r ends [] log log' pages pages site new newest table commits 1 0 →
-      UndoesWork r (undo_one_work records c.args.txn) (undo_one_works records c.args.txn) c.args.log.now log' c.args.pages.now pages old new newest table commits (x.remaining + 1) (x.remaining + 1)
+      UndoesWork r (undo_one_work records c.args.txn) (undo_one_works records c.args.txn) c.args.log.now log' c.args.pages.now pages old new newest table commits (x.remaining + 1) (length x.chain)
   behind r log' new end =
-      subst (λ (t : ℕ). UndoesWork r (undo_one_work records t) (undo_one_works records t) c.args.log.now log' c.args.pages.now pages old new newest table commits (x.remaining + 1) (x.remaining + 1)) own
+      subst (λ (t : ℕ). UndoesWork r (undo_one_work records t) (undo_one_works records t) c.args.log.now log' c.args.pages.now pages old new newest table commits (x.remaining + 1) (length x.chain)) own
       (undoes_few (omega arith) (omega arith) (undoes_as refl (sym (append-nil (undo_one_works records x.txn)))
-      (undoes_then h (works_then (works_read c.requires.going c.in-Ok.ensures.reads) c.in-Ok-undo_updates.ensures.works)
-      (undoes_read c.requires.going.sizes h c.in-Ok.ensures.reads (c.in-Ok-undo_updates.ensures.does newest records table commits x still unfinished at)) end)))
+      (undoes_then h c.in-Ok.ensures.works (c.in-Ok.ensures.does newest records table commits x h unfinished at) end)))
 
 pub returns-in-Ok-log_record : goal.returns-in-Ok-log_record
 returns-in-Ok-log_record g c =
@@ -74,76 +66,71 @@ returns-in-Ok-log_record g c =
     let start = blocks_to c.args.log.now in
     let log = c.undo_updates.new.log in
     let pages = c.undo_updates.new.pages in
-    let s = (goal.at.returns-in-Ok-log_record g c).In-Ok-undo_updates in
+    let s = (goal.at.returns-in-Ok-log_record g c).In-Ok in
     let lsn = c.in-Ok-log_record.field-0 in
     let new = g.S.Site.state c.log_record.new.site in
-    let works = c.in-Ok-undo_updates.ensures.works in
+    let works = c.in-Ok.ensures.works in
     let end = c.in-Ok-log_record.ensures in
     record {
-      undone = λ newest records table commits x h unfinished own last.
-          let done = done g s newest records table commits x h unfinished own last in
-          let none = none g s newest records table commits x h unfinished own last in
+      undone = λ newest records table commits x h unfinished own last next.
+          let done = done g s newest records table commits x h unfinished own last next in
+          let none = none g s newest records table commits x h unfinished own last next in
           let may : MayGrow log pages site.image newest (records ++ done.clrs) (record { lsn = lsn; rec = End c.args.txn }) =
           subst (λ (t : ℕ). MayGrow log pages site.image newest (records ++ done.clrs) (record { lsn = lsn; rec = End t })) own
-          (may_end log pages site newest records table commits x.txn start c.in-Ok-undo_updates.at done none lsn) in
+          (may_end log pages site newest records table commits x.txn start c.in-Ok.at done none lsn) in
           rolls_back c.log_record.new.log pages new newest records table commits c.args.txn done.clrs lsn (subst (λ (t : ℕ). AreClrsOf t done.clrs) own done.own)
           (subst (λ (t : ℕ). length done.clrs ≡ length (left_open records t)) own (omega (arith, done.count, none)))
           (subst (λ (t : ℕ). owed ((records ++ done.clrs) ++ record { lsn = lsn; rec = End t } ∷ []) + (length done.clrs + 1) ≡ owed records) own
-          (owes_all log pages site newest records table commits x.txn start c.in-Ok-undo_updates.at done none lsn))
+          (owes_all log pages site newest records table commits x.txn start c.in-Ok.at done none lsn))
           (end.holds pages newest (records ++ done.clrs) table commits works.going.sizes done.holds refl may)
           (λ were. end.orderly pages newest (records ++ done.clrs) table commits works.going.sizes done.holds may (done.orderly were));
-      does = λ newest records table commits x h unfinished own last.
-          let done = done g s newest records table commits x h unfinished own last in
-          undoes_answered (behind g s newest records table commits x h unfinished own last (Ok lsn) c.log_record.new.log new
+      does = λ newest records table commits x h unfinished own last next.
+          let done = done g s newest records table commits x h unfinished own last next in
+          undoes_answered (behind g s newest records table commits x h unfinished own last next (Ok lsn) c.log_record.new.log new
           (undoes_beside works.going tt end.works (end.keeps pages newest (records ++ done.clrs) table commits done.holds) (end.performs pages newest (records ++ done.clrs) table commits works.going done.holds)));
-      blocks = λ newest records table commits x h unfinished own last.
-          let done = done g s newest records table commits x h unfinished own last in
+      blocks = λ newest records table commits x h unfinished own last next.
+          let done = done g s newest records table commits x h unfinished own last next in
           omega (arith, done.count, done.few, end.blocks, unfinished.remaining_is);
-      works = works_answered (works_then (works_then (works_read c.requires.going c.in-Ok.ensures.reads) works) (works_appended works.going end.rises tt end.works));
+      works = works_answered (works_then works (works_appended works.going end.rises tt end.works));
     }
 
 pub returns-then-not-has_room : goal.returns-then-not-has_room
 returns-then-not-has_room g c =
-    let s = (goal.at.returns-then-not-has_room g c).In-Ok-undo_updates in
-    let works = c.in-Ok-undo_updates.ensures.works in
+    let s = (goal.at.returns-then-not-has_room g c).In-Ok in
+    let works = c.in-Ok.ensures.works in
     let all = ap (λ (k : Geometry). k.blocks) works.going.sizes in
     record {
       undone = search rules;
-      does = λ newest records table commits x h unfinished own last.
-          let room = room_for_end c.undo_updates.new.log c.undo_updates.new.pages (g.S.Site.state c.undo_updates.new.site) newest records table commits x.txn (blocks_to c.args.log.now) c.in-Ok-undo_updates.at
-          (done g s newest records table commits x h unfinished own last) (none g s newest records table commits x h unfinished own last) in
+      does = λ newest records table commits x h unfinished own last next.
+          let room = room_for_end c.undo_updates.new.log c.undo_updates.new.pages (g.S.Site.state c.undo_updates.new.site) newest records table commits x.txn (blocks_to c.args.log.now) c.in-Ok.at
+          (done g s newest records table commits x h unfinished own last next) (none g s newest records table commits x h unfinished own last next) in
           absurd (true≢false (sym (c.has_room.ensures.1 (omega (arith, room, all, works.going.log_going.limits.blocks))) ∙ c.if-not-has_room.true));
       blocks = search rules;
-      works = works_foreign (works_then (works_read c.requires.going c.in-Ok.ensures.reads) works);
+      works = works_foreign works;
     }
 
 pub returns-in-Err-log_record : goal.returns-in-Err-log_record
 returns-in-Err-log_record g c =
-    let s = (goal.at.returns-in-Err-log_record g c).In-Ok-undo_updates in
-    let works = c.in-Ok-undo_updates.ensures.works in
+    let s = (goal.at.returns-in-Err-log_record g c).In-Ok in
+    let works = c.in-Ok.ensures.works in
     let pages = c.undo_updates.new.pages in
     let end = c.in-Err-log_record.ensures in
     record {
       undone = search rules;
-      does = λ newest records table commits x h unfinished own last.
-          let done = done g s newest records table commits x h unfinished own last in
-          undoes_failed (behind g s newest records table commits x h unfinished own last (Err c.in-Err-log_record.stop) c.log_record.new.log (g.S.Site.state c.log_record.new.site)
+      does = λ newest records table commits x h unfinished own last next.
+          let done = done g s newest records table commits x h unfinished own last next in
+          undoes_failed (behind g s newest records table commits x h unfinished own last next (Err c.in-Err-log_record.stop) c.log_record.new.log (g.S.Site.state c.log_record.new.site)
           (undoes_beside works.going end.stops end.works (end.keeps pages newest (records ++ done.clrs) table commits done.holds) (end.performs pages newest (records ++ done.clrs) table commits works.going done.holds)));
       blocks = search rules;
-      works = works_stopped (works_then (works_read c.requires.going c.in-Ok.ensures.reads) works) (works_appended works.going tt end.stops end.works);
+      works = works_stopped works (works_appended works.going tt end.stops end.works);
     }
 
 pub returns-in-Err-clause-does : goal.returns-in-Err-clause-does
-returns-in-Err-clause-does g c newest records table commits x h unfinished own last =
-    undoes_unread (undo_one_work records c.args.txn) (undo_one_works records c.args.txn) c.requires.going h c.in-Err.ensures.reads (c.in-Err.ensures.readable c.args.pages.now newest records table commits x c.requires.going.sizes h unfinished own last) (omega arith)
-
-pub returns-in-Err-undo_updates-clause-does : goal.returns-in-Err-undo_updates-clause-does
-returns-in-Err-undo_updates-clause-does g c newest records table commits x h unfinished own last =
+returns-in-Err-clause-does g c newest records table commits x h unfinished own last next =
     let pages = c.args.pages.now in
     let old = g.S.Site.state c.args.site.now in
     let now = g.S.Site.state c.undo_updates.new.site in
-    let read = c.in-Ok.ensures.reads in
-    let at = c.in-Ok.ensures.at pages newest records table commits x c.requires.going.sizes h unfinished own last in
-    subst (λ (t : ℕ). UndoesWork {T = ⊤} (Err c.in-Err-undo_updates.stop) (undo_one_work records t) (undo_one_works records t) c.args.log.now c.undo_updates.new.log pages c.undo_updates.new.pages old now newest table commits (x.remaining + 1) (x.remaining + 1)) own
+    let at : IsAt (record { txn = c.args.txn; last = c.args.last; next = c.args.last }) x = record { txn = sym own; last = sym last; next = sym next } in
+    subst (λ (t : ℕ). UndoesWork {T = ⊤} (Err c.in-Err.stop) (undo_one_work records t) (undo_one_works records t) c.args.log.now c.undo_updates.new.log pages c.undo_updates.new.pages old now newest table commits (x.remaining + 1) (length x.chain)) own
     (undoes_few (omega arith) (omega arith) (undoes_as refl (sym (append-nil (undo_one_works records x.txn)))
-    (undoes_stopped ends [] c.requires.going (undoes_read c.requires.going.sizes h read (c.in-Err-undo_updates.ensures.does newest records table commits x (held_read h read) unfinished at)))))
+    (undoes_stopped ends [] c.requires.going (c.in-Err.ensures.does newest records table commits x h unfinished at))))

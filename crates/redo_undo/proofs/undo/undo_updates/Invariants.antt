@@ -1,4 +1,4 @@
-use Rattle.std.proofs.Common.{◌≡◌, ◌<◌, ℕ, List, Option}
+use Rattle.std.proofs.Common.{◌≡◌, ◌<◌, ℕ, List, length, Option}
 use Rattle.record_model.specs.State.{Content}
 use Rattle.log_records.specs.Log.{Entry}
 use Rattle.log_laws.specs.Analysis.{Unfinished, IsUnfinished}
@@ -20,7 +20,7 @@ invariant-loop-at g l =
       last : l.at.last < end_of l.log;
       same : l.at.txn ≡ l.fn.first.txn;
       undone : (newest : Option Master) (records : List Entry) (table : List Content) (commits : ℕ) (x : Unfinished) → Represents l.fn.log l.fn.pages old newest records table commits → IsUnfinished records x → IsAt l.fn.first x →
-          UndoesSoFar l.log l.pages now newest records table commits x.txn l.at l.fn.log l.fn.pages old;
+          UndoesSoFar l.log l.pages now newest records table commits x.txn l.at l.fn.log l.fn.pages old (length x.chain);
     }
 
 abbrev pub decreases-loop-at : goal.decreases-loop-at

@@ -2,7 +2,7 @@ use Rattle.redo_undo.proofs.UndoCalls.{undoes_beside}
 use Rattle.std.proofs.Common.{length, true≢false, refl, sym, ap, ◌∙◌, arith, []}
 use Rattle.site.specs.declared.geometry.Geometry.{Geometry}
 use Rattle.log_laws.specs.Analysis.{Unfinished}
-use Rattle.log_laws.specs.UndoLaws.{next_of}
+use Rattle.log_laws.specs.UndoLaws.{top_lsn}
 use Rattle.redo_undo.proofs.Found.{unfinished_of, room_to_end, end_may, owes_end}
 use Rattle.log_records.specs.Unfinished.{left_open}
 use Rattle.redo_undo.proofs.LeftUpdates.{none_of}
@@ -14,8 +14,9 @@ use Rattle.redo_undo.proofs.undo_losers.end_one.Goals as goal
 pub returns-clause-updates : goal.returns-clause-updates
 returns-clause-updates g c pages newest records table commits known sizes h =
     let n = c.requires.none in
-    let x : Unfinished = record { txn = c.args.txn; last = n.x.last; next = next_of records c.args.txn; remaining = length n.x.updates } in
-    let u = unfinished_of c.table_of_records.ensures.active _ pages _ newest records table commits c.args.found.now h.holds h.analysis c.args.txn n.x n.there in
+    let found = unfinished_of c.table_of_records.ensures.active _ pages _ newest records table commits c.args.found.now h.holds h.analysis c.args.txn n.x n.there in
+    let x : Unfinished = record { txn = c.args.txn; last = n.x.last; next = top_lsn c.args.txn (left_open records c.args.txn); remaining = length n.x.updates; chain = found.0 } in
+    let u = found.1 in
     end_updates c.log_record.new.log pages _ newest records table commits c.finished.new.self c.args.txn _
     (none_of (left_open records c.args.txn) (sym (ap length n.none) ∙ u.remaining_is))
     (c.in-Ok.ensures.holds pages newest records table commits sizes h.holds refl (end_may _ pages _ newest records table commits h.holds x u (ap length n.none) _))
@@ -26,8 +27,9 @@ returns-clause-updates g c pages newest records table commits known sizes h =
 pub returns-then-not-has_room-clause-does : goal.returns-then-not-has_room-clause-does
 returns-then-not-has_room-clause-does g c pages newest records table commits known going h =
     let n = c.requires.none in
-    let x : Unfinished = record { txn = c.args.txn; last = n.x.last; next = next_of records c.args.txn; remaining = length n.x.updates } in
-    let u = unfinished_of c.table_of_records.ensures.active _ pages _ newest records table commits c.args.found.now h.holds h.analysis c.args.txn n.x n.there in
+    let found = unfinished_of c.table_of_records.ensures.active _ pages _ newest records table commits c.args.found.now h.holds h.analysis c.args.txn n.x n.there in
+    let x : Unfinished = record { txn = c.args.txn; last = n.x.last; next = top_lsn c.args.txn (left_open records c.args.txn); remaining = length n.x.updates; chain = found.0 } in
+    let u = found.1 in
     let room = room_to_end _ pages _ newest records table commits h.holds x u (ap length n.none) in
     absurd (true≢false (sym (c.has_room.ensures.1 (omega (arith, room, ap (λ (k : Geometry). k.blocks) going.sizes, c.requires.going.limits.blocks))) ∙ c.if-not-has_room.true))
 

@@ -1,12 +1,13 @@
 use Rattle.redo_laws.specs.UndoingAll.{IsUndoing}
 use Rattle.record_model.specs.State.{Content}
 use Rattle.log_records.specs.Unfinished.{left_open}
-use Rattle.log_records.specs.Log.{Entry}
+use Rattle.log_records.specs.Log.{Entry, is_update, updates_in}
+use Rattle.log_laws.proofs.UndoingSteps.{update_is_last}
 use Rattle.checkpoint.specs.declared.master.Master.{Master}
 use Rattle.redo_undo.proofs.undo_losers.undo_greatest.Goals.{After-undo_update}
 use Rattle.redo_undo.proofs.undo_losers.undo_greatest.Given.{Over}
 use Rattle.redo_undo.proofs.UndoCalls.{undoes_answered, undoes_failed}
-use Rattle.std.proofs.Common.{◌*◌, refl, [], ◌∷◌, ℕ, List, Option, ◌≡◌, ◌<◌}
+use Rattle.std.proofs.Common.{◌*◌, refl, sym, ap, ◌∙◌, true, [], ◌∷◌, ℕ, List, Option, ◌≡◌}
 use Rattle.log_laws.specs.Analysis.{Unfinished, IsUnfinished}
 use Rattle.image_meaning.specs.Meaning.{kept_by}
 use Rattle.redo_undo.proofs.Found.{order, unfinished_loser, each_remains}
@@ -14,28 +15,41 @@ use Rattle.redo_laws.specs.UndoWorks.{IsLastAt}
 use Rattle.redo_undo.proofs.UndoneUpdates.{last_is_left, clr_updates}
 use Rattle.redo_undo.proofs.undo_losers.undo_greatest.Goals as goal
 
+head_same : (v u : Entry) (xs ys : List Entry) → v ∷ xs ≡ u ∷ ys → v ≡ u
+head_same v u xs ys is = cc
+
 module _ (g : Over) (c : After-undo_update g) (newest : Option Master) (records : List Entry) (table : List Content) (commits known : ℕ) (u : Entry)
     (h : IsUndoing c.args.log.now c.args.pages.now (g.S.Site.state c.args.site.now) newest records table commits c.args.found.now known) (last : IsLastAt records c.args.loser.txn c.args.lsn u) where
-  abbrev x : Unfinished
-  x = record { txn = c.args.loser.txn; last = c.args.loser.last; next = c.args.lsn; remaining = c.args.loser.remaining }
-
-  standing : IsUnfinished records x × (0 < x.remaining)
+  standing : (v : Entry) × (below : List Entry) × IsUnfinished records (record { txn = c.args.loser.txn; last = c.args.loser.last; next = c.args.lsn; remaining = c.args.loser.remaining; chain = v ∷ below }) × (is_update v.rec ≡ true)
   standing = unfinished_loser c.table_of_records.ensures.active c.args.log.now c.args.pages.now (g.S.Site.state c.args.site.now) newest records table commits c.args.found.now h.holds h.analysis c.args.loser c.args.lsn c.requires.there c.requires.greatest
+
+  abbrev x : Unfinished
+  x = record { txn = c.args.loser.txn; last = c.args.loser.last; next = c.args.lsn; remaining = c.args.loser.remaining; chain = standing.0 ∷ standing.1 }
 
   left : (rest : List Entry) × (left_open records c.args.loser.txn ≡ u ∷ rest)
   left = last_is_left c.table_of_records.ensures.active c.args.log.now c.args.pages.now (g.S.Site.state c.args.site.now) newest records table commits c.args.found.now h.holds h.analysis c.args.loser.txn c.args.lsn u c.requires.greatest last
 
+  -- what is read is that Update
+  same : standing.0 ≡ u
+  same = head_same standing.0 u (updates_in standing.1) left.0 (sym (update_is_last records x standing.2 standing.0 standing.1 refl standing.3) ∙ left.1)
+
+  first : x.chain ≡ u ∷ standing.1
+  first = ap (λ (e : Entry). e ∷ standing.1) same
+
+  update : is_update u.rec ≡ true
+  update = ap (λ (e : Entry). is_update e.rec) (sym same) ∙ standing.3
+
 pub returns-in-Err-clause-does : goal.returns-in-Err-clause-does
 returns-in-Err-clause-does g c newest records table commits known u h last =
     let s = (goal.at.returns-in-Err-clause-does g c).After-undo_update in
-    let left = left g s newest records table commits known u h last in
-    undoes_failed (c.in-Err.ensures.does newest records table commits (x g s newest records table commits known u h last) u left.0 h.holds (standing g s newest records table commits known u h last).0 (record { txn = refl; last = refl; next = refl }) left.1)
+    undoes_failed (c.in-Err.ensures.does newest records table commits (x g s newest records table commits known u h last) u (standing g s newest records table commits known u h last).1 h.holds (standing g s newest records table commits known u h last).2 (record { txn = refl; last = refl; next = refl })
+    (first g s newest records table commits known u h last) (update g s newest records table commits known u h last))
 
 pub returns-clause-does : goal.returns-clause-does
 returns-clause-does g c newest records table commits known u h last =
     let s = (goal.at.returns-clause-does g c).After-undo_update in
-    let left = left g s newest records table commits known u h last in
-    undoes_answered (c.in-Ok.ensures.does newest records table commits (x g s newest records table commits known u h last) u left.0 h.holds (standing g s newest records table commits known u h last).0 (record { txn = refl; last = refl; next = refl }) left.1)
+    undoes_answered (c.in-Ok.ensures.does newest records table commits (x g s newest records table commits known u h last) u (standing g s newest records table commits known u h last).1 h.holds (standing g s newest records table commits known u h last).2 (record { txn = refl; last = refl; next = refl })
+    (first g s newest records table commits known u h last) (update g s newest records table commits known u h last))
 
 pub returns-clause-updates : goal.returns-clause-updates
 returns-clause-updates g c newest records table commits known u h last =
@@ -47,7 +61,7 @@ returns-clause-updates g c newest records table commits known u h last =
     let x = x g s newest records table commits known u h last in
     let standing = standing g s newest records table commits known u h last in
     let left = left g s newest records table commits known u h last in
-    let done = c.in-Ok.ensures.undone newest records table commits x h.holds standing.0 (record { txn = refl; last = refl; next = refl }) standing.1 in
+    let done = c.in-Ok.ensures.undone newest records table commits x u standing.1 h.holds standing.2 (record { txn = refl; last = refl; next = refl }) (first g s newest records table commits known u h last) (update g s newest records table commits known u h last) in
     let ordered = order c.table_of_records.ensures.active log pages site newest records table commits found h.holds h.analysis in
     clr_updates c.undo_update.new.log c.undo_update.new.pages (g.S.Site.state c.undo_update.new.site) newest records table commits c.compensated.new.self x c.in-Ok.now done
     (c.compensated.ensures.table [] records c.args.loser.last done.page done.slot done.before h.analysis)

@@ -1,6 +1,6 @@
 use Rattle.site.specs.declared.outside.Dev.TheVariants.{Log}
 use Rattle.engine.proofs.Asking.{has_group, change_ok}
-use Rattle.std.proofs.Common.{◌≡◌, ◌+◌, ◌*◌, ◌<◌, ◌≤◌, ⊎_elim, refl, sym, ap, subst, ◌∙◌, arith, ◌/◌, rules}
+use Rattle.std.proofs.Common.{◌≡◌, ◌+◌, ◌*◌, ◌<◌, ◌≤◌, ⊎_elim, true≢false, refl, sym, ap, subst, ◌∙◌, arith, ◌/◌, rules}
 use Rattle.std.proofs.lemmas.Option.{same_Some}
 use Rattle.std.proofs.lemmas.Bool.{cases_eq}
 use Rattle.log_store.specs.Representation.{end_of}
@@ -44,6 +44,29 @@ returns-in-Err-add-clause-does g c s fits = does_of (omega arith) tt (keeps_no_m
 pub returns-in-Err-update-clause-does : goal.returns-in-Err-update-clause-does
 returns-in-Err-update-clause-does g c s fits =
     does_of (omega arith) tt (keeps_failed (keeps_both fits.honest c.in-Ok.ensures.works (c.in-Ok.ensures.keeps fits.newest fits.records s.table s.commits fits.holds) (c.in-Err-update.ensures.keeps fits.newest fits.records s.table s.commits (c.in-Ok.ensures.holds fits.newest fits.records s.table s.commits fits.holds))))
+
+-- the page has room for it
+pub returns-then-not-fits-clause-does : goal.returns-then-not-fits-clause-does
+returns-then-not-fits-clause-does g c s fits =
+    let engine = c.args.self.now in
+    let old = g.S.Site.state c.args.site.now in
+    let new = g.S.Site.state c.touch.new.site in
+    let number = c.args.number in
+    let mid : Engine = record engine { store = c.touch.new.self } in
+    let same = ap (λ (x : Geometry). x.pages) c.touch.ensures.works.sizes in
+    let less : number < 32 * (sizes_of c.touch.new.self).pages = omega (arith, same, c.requires.may.number) in
+    let entry = c.args.entry in
+    let going = c.requires.going in
+    let made = c.touch.ensures.made in
+    let blocks = c.in-Ok.ensures.blocks in
+    let count = ap (λ (x : Geometry). x.blocks) c.touch.ensures.works.sizes in
+    let holds = c.in-Ok.ensures.holds fits.newest fits.records s.table s.commits fits.holds in
+    let fits_mid : Matches mid new s = touched_fits engine c.touch.new.self old new s fits (stays_honest old new c.touch.ensures.works.calls.preserves fits.honest) holds c.touch.ensures.made in
+    let may = may_write mid new s fits_mid entry number 0 c.args.after.now going.table c.requires.active less c.requires.may.free (omega (arith, made, c.requires.may.room)) (let kept = c.touch.ensures.works.kept in omega (arith, blocks, going.store.blocks, made, kept)) (omega (arith, going.cap, count)) in
+    absurd (true≢false (sym (c.fits.ensures.grows new fits.newest fits.records s.table s.commits entry.begin entry.last 0 holds may) ∙ c.if-not-fits.true))
+
+pub returns-then-not-fits-clause-performs : goal.returns-then-not-fits-clause-performs
+returns-then-not-fits-clause-performs g c s fits = performs_refused (λ dev same. cc)
 
 pub returns-in-Ok-update : goal.returns-in-Ok-update
 returns-in-Ok-update g c =

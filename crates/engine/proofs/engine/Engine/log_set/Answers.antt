@@ -1,18 +1,19 @@
 use Rattle.site.specs.declared.outside.Dev.TheVariants.{Log}
-use Rattle.redo_laws.specs.MachineSteps.{one_change}
+use Rattle.site.specs.declared.outside.Stop.TheVariants.{Foreign}
+use Rattle.redo_laws.specs.MachineSteps.{one_change, one_touch}
 use Rattle.engine.proofs.Asking.{has_group, store_has_group, change_ok}
-use Rattle.std.proofs.Common.{◌++◌, ◌∷◌, [], ◌∙◌, arith, ◌/◌, rules, ap}
+use Rattle.std.proofs.Common.{◌++◌, ◌∷◌, [], ◌∙◌, true≢false, sym, arith, ◌/◌, ℕ, rules, ap}
 use Rattle.record_model.specs.State.{content_at, Content}
 use Rattle.redo_undo.specs.Stores.{shown_in}
 use Rattle.redo_undo.proofs.StoreCalling.{works_then, works_answered, keeps_both, keeps_before, keeps_answered}
 use Rattle.engine.proofs.Settings.{begin_at, may_begin, may_update, one_write}
-use Rattle.redo_laws.proofs.Asking.{asks_then, asks_stopped}
+use Rattle.redo_laws.proofs.Asking.{asks_fails, asks_then, asks_stopped}
 use Rattle.std.specs.Prelude.{Err}
 use Rattle.redo_laws.proofs.AskingUndo.{change_stopped, change_made}
 use Rattle.page_store.proofs.StagingLaws.{stages_err, stages_ok}
 use Rattle.engine.proofs.engine.Engine.log_set.Goals as goal
 use Rattle.ring_machine.specs.Commands.{writes}
-use Rattle.ring_machine.proofs.Performing.{performs_as, performs_answered, performs_stopped}
+use Rattle.ring_machine.proofs.Performing.{performs_as, performs_answered, performs_refused, performs_stopped}
 use Rattle.redo_undo.specs.Mirroring.{updates}
 use Rattle.engine.proofs.Performing.{store_then, set_there}
 
@@ -69,6 +70,35 @@ returns-in-Err-touch-clause-keeps g c s fits =
     let may = may_begin c.args.self.now (g.S.Site.state c.args.site.now) s fits c.in-Ok.txn c.in-Ok.ensures.rises.0 (omega (arith, c.requires.may.room)) going.store.blocks going.cap in
     let holds = c.in-Ok.ensures.holds fits.newest fits.records s.table s.commits fits.holds may in
     keeps_before (omega arith) (keeps_both fits.honest c.in-Ok.ensures.works (c.in-Ok.ensures.keeps fits.newest fits.records s.table s.commits fits.holds) (c.in-Err-touch.ensures.keeps fits.newest log s.table s.commits holds))
+
+-- the page has room for it
+pub returns-then-not-fits-clause-keeps : goal.returns-then-not-fits-clause-keeps
+returns-then-not-fits-clause-keeps g c s fits =
+    let going = c.requires.going in
+    let behind = c.in-Ok.ensures.rises.0 in
+    let engine = c.args.self.now in
+    let old = g.S.Site.state c.args.site.now in
+    let two = g.S.Site.state c.touch.new.site in
+    let txn = c.in-Ok.txn in
+    let log = fits.records ++ begin_at txn ∷ [] in
+    let begun = may_begin engine old s fits txn behind (omega (arith, c.requires.may.room)) going.store.blocks going.cap in
+    let held = c.in-Ok-touch.ensures.holds fits.newest log s.table s.commits (c.in-Ok.ensures.holds fits.newest fits.records s.table s.commits fits.holds begun) in
+    let may = may_update engine old s c.args.number fits going.table c.requires.may.number c.requires.may.room going.store.blocks going.cap c.requires.may.free txn behind c.touch.new.self two 0 c.args.after.now (c.touch.ensures.works.sizes ∙ c.begin.ensures.works.sizes) (c.touch.ensures.works.kept ∙ c.begin.ensures.works.kept) (omega (arith, c.in-Ok.ensures.works.blocks, c.in-Ok-touch.ensures.blocks)) in
+    absurd (true≢false (sym (c.fits.ensures.grows two fits.newest log s.table s.commits txn txn 0 held may) ∙ c.if-not-fits.true))
+
+pub returns-then-not-fits-clause-performs : goal.returns-then-not-fits-clause-performs
+returns-then-not-fits-clause-performs g c s fits = performs_refused (λ dev same. cc)
+
+pub returns-then-not-fits-clause-log_reads : goal.returns-then-not-fits-clause-log_reads
+returns-then-not-fits-clause-log_reads g c = c.touch.ensures.log_reads ∙ c.begin.ensures.reads Log
+
+pub returns-then-not-fits-clause-asks : goal.returns-then-not-fits-clause-asks
+returns-then-not-fits-clause-asks g c =
+    asks_then c.in-Ok.txn _ [] (one_change (c.args.number / 32)) _ _ _ _ _ _ c.in-Ok.ensures.asks
+    (change_stopped {A = ℕ} Foreign (c.args.number / 32) _ _ _ _ (store_has_group c.in-Ok.ensures.works.going) (asks_fails c.in-Ok-touch.field-0 Foreign (one_touch (c.args.number / 32)) _ _ _ _ c.in-Ok-touch.ensures.asks))
+
+pub returns-in-Err-update-clause-works : goal.returns-in-Err-update-clause-works
+returns-in-Err-update-clause-works g c = works_then (works_then c.in-Ok.ensures.works c.in-Ok-touch.ensures.works) c.in-Err-update.ensures.works
 
 pub returns-in-Err-update-clause-keeps : goal.returns-in-Err-update-clause-keeps
 returns-in-Err-update-clause-keeps g c s fits =

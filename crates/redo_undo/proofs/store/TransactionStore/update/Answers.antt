@@ -1,5 +1,7 @@
 use Rattle.image_meaning.proofs.Leaving.{under_leaves_for}
-use Rattle.std.proofs.Common.{refl, ℕ, List, rules, ◌≡◌, ◌+◌, ◌++◌, ◌∷◌, [], sym, subst}
+use Rattle.std.proofs.Common.{refl, ℕ, List, rules, ◌≡◌, ◌+◌, ◌*◌, ◌/◌, ◌%◌, ◌++◌, ◌∷◌, [], sym, subst, arith}
+use Rattle.std.proofs.lemmas.Option.{same_Some}
+use Rattle.redo_undo.proofs.Fitting.{fits_as}
 use Rattle.log_records.specs.declared.log_record.LogRecord.{LogRecord}
 use Rattle.redo_undo.proofs.Saved.{finds_kept}
 use Rattle.std.specs.Prelude.{Ok, IsTrue}
@@ -14,6 +16,12 @@ use Rattle.ring_machine.proofs.Performing.{performs_as}
 use Rattle.redo_undo.specs.Mirroring.{updates}
 use Rattle.redo_undo.proofs.MirroringStores.{store_performs}
 use Rattle.buffer_pool.specs.Frames.{front_of}
+
+pub log_change-requires-clause-fits : goal.log_change-requires-clause-fits
+log_change-requires-clause-fits g c = λ n own.
+    let number = c.args.number in
+    let same : 32 * (number / 32) + number % 32 ≡ n = same_Some (32 * (number / 32) + number % 32) n own in
+    fits_as c.args.self.now.pages (number % 32) (n % 32) c.args.after.now c.copy_of.result (omega (arith, same)) (sym c.copy_of.ensures) c.requires.room
 
 pub returns-in-Ok-clause-holds : goal.returns-in-Ok-clause-holds
 returns-in-Ok-clause-holds g c newest records table commits h = λ may.
