@@ -4,9 +4,10 @@
     bench/unfinished.py [PROGRAM ..]
 
 Each PROGRAM is one to measure, named by its path; without any it is the one that bin/face runs. The logs are written by this script:
-so many transactions with no Update or with one, and one transaction with so many, each Update on another page than the one before. A
-sound log of as many blocks, whose transactions have all ended, stands beside each. The table has the seconds of a start, the reply
-`open` among them; it gives up after two minutes. The files are made in the current folder, in folders of their own that are removed."""
+so many transactions with no Update or with one, and one transaction with so many, each Update on another page than the one before, and
+on a record of its own. A sound log of as many blocks, whose transactions have all ended, stands beside each. The table has the seconds
+of a start, the reply `open` among them; it gives up after two minutes. The files are made in the current folder, in folders of their
+own that are removed."""
 import os
 import shutil
 import struct
@@ -17,7 +18,7 @@ import time
 
 from program import find_program
 
-PAGES, GROUPS, LIMIT = 16, 8, 120
+PAGES, GROUPS, LIMIT = 8192, 8, 120
 COUNTS = [1000, 10000, 50100, 200400]
 WRITES = [1000, 10000, 100000, 260000]
 POOLS = [1, 64]

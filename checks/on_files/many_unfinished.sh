@@ -8,13 +8,13 @@ if ! has python3; then
 fi
 
 # log HOW BLOCKS makes three files whose log has so many full blocks: all Begins, or transactions of a Begin and an End,
-# or Begins with an End behind for each, the first one first.
+# or Begins with an End behind for each, the first one first; or Begins in so many blocks and an Update behind for each.
 log() {
     python3 - "$@" <<'EOF'
 import struct
 import sys
 
-how, blocks, slots = sys.argv[1], int(sys.argv[2]), 2 * int(sys.argv[2])
+how, blocks, slots, pages = sys.argv[1], int(sys.argv[2]), 2 * int(sys.argv[2]), 1
 
 
 def block(number, records):
@@ -33,11 +33,15 @@ if how == 'sound':
 if how == 'ended':
     few = begins[: 501 * (blocks // 56)]
     units = units[: blocks // 56] + [ends(few[at : at + 55]) for at in range(0, len(few), 55)]
+if how == 'updates':
+    updates = [b'\x02' + struct.pack('>QQIBBB', txn, txn, place // 32, place % 32, 0, 0) for place, txn in enumerate(begins)]
+    units += [b''.join(updates[at : at + 20]) for at in range(0, len(updates), 20)]
+    slots, pages = 2 * (len(units) + len(begins)), len(begins) // 32 + 1
 with open('face.log', 'wb') as file:
     file.write(bytes(3 * 512) + b''.join(block(*unit) for unit in enumerate(units)))
     file.truncate(512 * (3 + slots))
 open('face.flash', 'wb').truncate(33280 * 8 + 1024 * 5)
-open('face.disk', 'wb').truncate(4096)
+open('face.disk', 'wb').truncate(4096 * pages)
 EOF
 }
 
@@ -64,4 +68,11 @@ log ended 5600
 costs check
 [ "$(cat replies)" = 'sound records 0 commits 0' ] && [ "$cost" -lt "$most" ]
 verdict "a check of 50,100 transactions that end one after the other in $cost of $most ms" $?
+log updates 100
+costs check
+[ "$(cat replies)" = 'sound records 0 commits 0' ] && [ "$cost" -lt "$most" ]
+verdict "a check of 50,100 transactions with an Update each in $cost of $most ms" $?
+costs run 4
+[ "$(head -1 replies)" = 'open 0' ] && [ "$cost" -lt "$most" ]
+verdict "a run that undoes 50,100 transactions with an Update each in $cost of $most ms" $?
 finish

@@ -4,7 +4,7 @@ mod Records
 mod Steps
 mod Starting
 mod Reading
-pub mod Nexts
+mod Nexts
 mod Orders
 pub mod Pending
 mod Unfinished

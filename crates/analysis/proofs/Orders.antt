@@ -56,9 +56,10 @@ above n (y ∷ table) t x ascend found = by (cases_eq y.txn t) (above (y.txn + 1
 
 pub all_said : (P : Open → Type 0) (n : ℕ) (table : List Open) → AscendFrom n table → ((x : Open) → found_in table x.txn ≡ Some x → P x) → AllByRecursion P table
 all_said P n [] ascend each = tt
-all_said P n (x ∷ table) ascend each =
-    (each x (found_here x table x.txn refl),
-    all_said P (x.txn + 1) table ascend.1 (λ y found. each y (found_later x table y.txn (λ same. let low = above (x.txn + 1) table y.txn y ascend.1 found in omega (arith, low, same)) ∙ found)))
+all_said P n (x ∷ table) ascend each = (
+  each x (found_here x table x.txn refl),
+  all_said P (x.txn + 1) table ascend.1 (λ y found. each y (found_later x table y.txn (λ same. let low = above (x.txn + 1) table y.txn y ascend.1 found in omega (arith, low, same)) ∙ found)),
+)
 
 one_has : (table : List Open) (t lsn : ℕ) (x : Open) → found_in table t ≡ Some x → IsTop lsn x.updates → OneHas table t lsn
 one_has [] t lsn x found top = absurd (none-some x found)

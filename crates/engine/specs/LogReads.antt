@@ -10,7 +10,7 @@ use Rattle.log_records.specs.Unfinished.{pending}
 use Rattle.checkpoint.specs.declared.master.Master.{Master}
 use Rattle.engine.specs.Image.{log_under}
 
--- undoing a session reads the last record of its transaction, and the record of each of its writes
+-- undoing a session reads the log at most once for each of its writes, and once more
 abbrev pub undo_reads : Option Session → ℕ
 undo_reads None = 0
 undo_reads (Some session) = length session.writes + 1

@@ -15,7 +15,6 @@ use Rattle.log_records.specs.declared.log_record.LogRecord.{LogRecord}
 use Rattle.log_records.specs.declared.log_record.LogRecord.TheVariants.{Begin, Update, Clr, Commit, End}
 use Rattle.log_records.specs.Unfinished.{is_clr, left_open, owed}
 use Rattle.log_records.specs.Log.{Entry, Version, txn_by, txn_of, number_of, before_of, is_closed, is_update, log_from, entries_from, entries_of}
-use Rattle.log_records.specs.Spelling.{HasForm, IsShort}
 use Rattle.log_laws.specs.UndoLaws.{IsLink, goes_back}
 use Rattle.log_records.specs.Sound.{LogicalImage, IsLoserChain, AreOrderly}
 use Rattle.log_laws.specs.Follow.{Follows, IsUndoable}
@@ -211,13 +210,3 @@ no_update (Clr txn prev undo_next page slot after) clr update = true≢false (sy
 no_update Begin clr update = true≢false (sym clr)
 no_update (Commit txn number) clr update = true≢false (sym clr)
 no_update (End txn) clr update = true≢false (sym clr)
-
--- what the record has that says a step
-pub step_form : (at : UndoCursor) (pages : ℕ) (rec : LogRecord) (w : Wanted) → HasForm rec → IsStepOf at pages rec (Compensate w) → (w.slot < 32) × IsShort w.before × (w.page < pages) × (w.prev < at.next)
-step_form at pages (Update txn prev page slot before after) w form is =
-    subst (λ (v : Wanted). (v.slot < 32) × IsShort v.before × (v.page < pages) × (v.prev < at.next)) (sym is.3) (form.0, form.1, is.2, is.1)
-step_form at pages _ w form is = absurd is
-
-pub step_falls : (at : UndoCursor) (pages : ℕ) (rec : LogRecord) (next : ℕ) → IsStepOf at pages rec (Pass next) → next < at.next
-step_falls at pages (Clr txn prev undo_next page slot after) next is = let falls = is.1 in let same = is.2 in omega (arith, falls, same)
-step_falls at pages _ next is = absurd is

@@ -1,5 +1,5 @@
 -- What fits into the page in front.
-use Rattle.std.proofs.Common.{◌≡◌, ℕ, ◌<◌, List, [], ◌∷◌, length, subst, arith, Option, None, Some}
+use Rattle.std.proofs.Common.{◌≡◌, ℕ, ◌<◌, List, [], ◌∷◌, length, subst, arith, None, Some}
 use Rattle.std.specs.List.{AllByRecursion}
 use Rattle.record_model.specs.State.{Content}
 use Rattle.log_records.specs.Spelling.{IsShort}

@@ -113,10 +113,10 @@ not_foreign same = cc
 
 pub undoes_lacks : {B : Type 0} {stop : Stop} {log : LogStore} {pages : PageStore} {site : State} {newest : Option Master} {records : List Entry} {table : List Content} {commits n k : ℕ} (works : List RingOp) (touches : List CacheOp) → stop ≡ Memory → Invariant log pages site →
     Represents log pages site newest records table commits → UndoesWork {T = B} (Err stop) works touches log log pages pages site site newest table commits n k
-undoes_lacks {pages = pages} {site = site} works touches lacks going h =
-    subst (λ s. UndoesWork {T = _} (Err s) works touches _ _ pages pages site site _ _ _ _ _) (sym lacks) (record {
+undoes_lacks {B = B} {log = log} {pages = pages} {site = site} {newest = newest} {table = table} {commits = commits} {n = n} {k = k} works touches lacks going h =
+    subst (λ (s : Stop). UndoesWork {T = B} (Err s) works touches log log pages pages site site newest table commits n k) (sym lacks) (record {
       keeps = keeps_few (omega arith) (keeps_unchanged going.sizes h unchanged (λ d. lacks_other (Worn d) (not_worn d)) (lacks_other Foreign not_foreign));
-      asks = asks_refused Memory touches pages site site (some_group going) (log_alone site site (λ d other. refl)) (stages_read (λ honest. unchanged) (calls_nothing {T = Unit {0}} {x = tt} {site = site}).preserves);
+      asks = asks_refused {T = B} Memory touches pages site site (some_group going) (log_alone site site (λ d other. refl)) (stages_read (λ honest. unchanged) (calls_nothing {T = Unit {0}} {x = tt} {site = site}).preserves);
       performs = performs_refused not_worn;
       log_reads = omega arith;
     })

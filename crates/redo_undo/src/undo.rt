@@ -383,8 +383,8 @@ fn undo_step<S: Site>(
     }
 }
 
-// Compensates all Updates of a transaction that aren't compensated, the last one first: undoing goes back from record to
-// record, down to its Begin.
+// Compensates all Updates of a transaction that aren't compensated, the last one first: undoing goes back from record
+// to record, down to its Begin.
 fn undo_updates<S: Site>(
     site: &mut S,
     log: &mut LogStore,

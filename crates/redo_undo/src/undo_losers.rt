@@ -255,7 +255,8 @@ fn undo_next<S: Site>(
 /// Undoes all transactions that analysis has found unfinished. Those of which nothing remains are ended first, in any
 /// order; then always the Update with the greatest LSN of all that remain is compensated, and its
 /// transaction ended as soon as nothing of it remains. Undo reads no record outside of the kept log. Where what it
-/// reads isn't what analysis says, or log or page has no room for what it logs, it answers Foreign.
+/// reads isn't what analysis says, or log or page has no room for what it logs, it answers Foreign. It wants memory for
+/// an order of all these Updates, and for the names of the transactions that it ends first.
 pub fn undo_all<S: Site>(
     site: &mut S,
     log: &mut LogStore,

@@ -12,7 +12,10 @@ ghost use Rattle.redo_undo.specs.Stores.{MayWork, MayLog, sizes_of};
 
 use crate::rows;
 use crate::rows::{Row, run};
-use crate::undo_tests::{COMPENSATED, NONE, TWO};
+use crate::undo_tests::{
+    ANOTHERS_CLR, ANOTHERS_UPDATE, BEHIND_A_CLR, BEHIND_A_CLR_RESTARTED, COMPENSATED, FROM_A_CLR,
+    NONE, TWO, TWO_CLRS, TWO_CLRS_RESTARTED,
+};
 use checkpoint::{Master, Pairs, newest};
 use log_records::LogRecord;
 use log_store::LogStore;
@@ -89,11 +92,13 @@ const UNDONE: &[Row] = &[
     Row::PageLsn(29),
 ];
 
-const FOREIGN: [Row; 2] = [Row::Begin(2), Row::ChangeAndUndo(3, 1)];
+const FOREIGN: &[Row] = &[Row::Begin(2), Row::ChangeAndUndo(3, 1)];
 
 #[test]
-fn an_update_of_another_is_foreign(rt: HostRuntime) {
-    assert!(rt; run(rt.alloc(), &FOREIGN) == Err(Stop::Foreign));
+fn a_record_of_another_is_foreign(rt: HostRuntime) {
+    for rows in [FOREIGN, ANOTHERS_UPDATE, ANOTHERS_CLR] {
+        assert!(rt; run(rt.alloc(), rows) == Err(Stop::Foreign));
+    }
 }
 
 // What a crash leaves.
@@ -258,9 +263,17 @@ fn a_checkpoint_of_no_transaction_keeps_no_block(rt: HostRuntime) -> Result<(), 
 }
 
 // The tests by their names.
-const TESTS: [(&str, &[Row]); 7] = [
+const TESTS: [(&str, &[Row]); 12] = [
     ("two_transactions_are_undone_from_the_last_update_on", TWO),
     ("a_transaction_with_a_clr_is_undone", COMPENSATED),
+    ("an_update_behind_a_clr_is_undone", BEHIND_A_CLR),
+    (
+        "an_update_behind_a_clr_is_undone_at_restart",
+        BEHIND_A_CLR_RESTARTED,
+    ),
+    ("two_clrs_are_passed_over", TWO_CLRS),
+    ("two_clrs_are_passed_over_at_restart", TWO_CLRS_RESTARTED),
+    ("a_transaction_is_undone_from_a_clr_on", FROM_A_CLR),
     ("where_none_is_unfinished_nothing_is_logged", NONE),
     ("a_change_is_seen", SEEN),
     ("a_transaction_is_undone", UNDONE),

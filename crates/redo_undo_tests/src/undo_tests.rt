@@ -36,4 +36,106 @@ pub(crate) const COMPENSATED: &[Row] = &[
     Row::PageLsn(514),
 ];
 
+// Transaction 2 has Updates at 3 and 30, the CLR of the second one at 57, and an Update behind it at 89, whose CLR
+// comes at 514. Undo goes on at 57, passes over that CLR, and goes on at 3, whose CLR comes at 546.
+pub(crate) const BEHIND_A_CLR: &[Row] = &[
+    Row::Begin(2),
+    Row::Update(3, 2, 2, 5),
+    Row::Update(30, 2, 3, 6),
+    Row::Clr(57, 2, 30, 3, 6),
+    Row::Update(89, 2, 57, 7),
+    Row::Reopen,
+    Row::Undo(2, 89),
+    Row::Value(7, 0x07, true),
+    Row::Value(6, 0x07, false),
+    Row::Value(5, 0x07, true),
+    Row::PageLsn(546),
+];
+
+// The same, and it is undone at a restart.
+pub(crate) const BEHIND_A_CLR_RESTARTED: &[Row] = &[
+    Row::Begin(2),
+    Row::Update(3, 2, 2, 5),
+    Row::Update(30, 2, 3, 6),
+    Row::Clr(57, 2, 30, 3, 6),
+    Row::Update(89, 2, 57, 7),
+    Row::Reopen,
+    Row::UndoAll(0),
+    Row::Value(7, 0x07, true),
+    Row::Value(6, 0x07, false),
+    Row::Value(5, 0x07, true),
+    Row::PageLsn(546),
+];
+
+// The Update at 89 has its CLR at 116, which goes on at the CLR at 57, and behind it stands an Update at 148. That and
+// the first one are left, and undo passes over both CLRs.
+pub(crate) const TWO_CLRS: &[Row] = &[
+    Row::Begin(2),
+    Row::Update(3, 2, 2, 5),
+    Row::Update(30, 2, 3, 6),
+    Row::Clr(57, 2, 30, 3, 6),
+    Row::Update(89, 2, 57, 7),
+    Row::Clr(116, 2, 89, 57, 7),
+    Row::Update(148, 2, 116, 8),
+    Row::Reopen,
+    Row::Undo(2, 148),
+    Row::Value(8, 0x07, true),
+    Row::Value(7, 0x07, false),
+    Row::Value(6, 0x07, false),
+    Row::Value(5, 0x07, true),
+    Row::PageLsn(546),
+];
+
+pub(crate) const TWO_CLRS_RESTARTED: &[Row] = &[
+    Row::Begin(2),
+    Row::Update(3, 2, 2, 5),
+    Row::Update(30, 2, 3, 6),
+    Row::Clr(57, 2, 30, 3, 6),
+    Row::Update(89, 2, 57, 7),
+    Row::Clr(116, 2, 89, 57, 7),
+    Row::Update(148, 2, 116, 8),
+    Row::Reopen,
+    Row::UndoAll(0),
+    Row::Value(8, 0x07, true),
+    Row::Value(7, 0x07, false),
+    Row::Value(6, 0x07, false),
+    Row::Value(5, 0x07, true),
+    Row::PageLsn(546),
+];
+
+// The last record is a CLR, from which undo comes to the CLR at 57, which it passes over once more.
+pub(crate) const FROM_A_CLR: &[Row] = &[
+    Row::Begin(2),
+    Row::Update(3, 2, 2, 5),
+    Row::Update(30, 2, 3, 6),
+    Row::Clr(57, 2, 30, 3, 6),
+    Row::Update(89, 2, 57, 7),
+    Row::Clr(116, 2, 89, 57, 7),
+    Row::Reopen,
+    Row::Undo(2, 116),
+    Row::Value(7, 0x07, false),
+    Row::Value(5, 0x07, true),
+    Row::PageLsn(514),
+];
+
+// The Update of transaction 2 names one of transaction 3 as the record before it, and a CLR of it.
+pub(crate) const ANOTHERS_UPDATE: &[Row] = &[
+    Row::Begin(2),
+    Row::Begin(3),
+    Row::Update(4, 3, 3, 6),
+    Row::Update(31, 2, 4, 5),
+    Row::Reopen,
+    Row::Undo(2, 31),
+];
+
+pub(crate) const ANOTHERS_CLR: &[Row] = &[
+    Row::Begin(2),
+    Row::Begin(3),
+    Row::Update(4, 3, 3, 6),
+    Row::Clr(31, 3, 4, 3, 6),
+    Row::Update(63, 2, 31, 5),
+    Row::Reopen,
+    Row::Undo(2, 63),
+];
+
 pub(crate) const NONE: &[Row] = &[Row::UndoAll(0), Row::TailEmpty, Row::Changes(0)];

@@ -1,4 +1,4 @@
-use Rattle.std.proofs.Common.{◌≡◌, ◌*◌, ◌+◌, ◌%◌, sym, arith}
+use Rattle.std.proofs.Common.{◌%◌, sym, arith}
 use Rattle.std.specs.Prelude.{option_copied}
 use Rattle.log_records.specs.Log.{after_of}
 use Rattle.redo_undo.proofs.Fitting.{fits_as}

@@ -1,6 +1,5 @@
-use Rattle.std.proofs.Common.{◌≡◌, ◌*◌, ◌+◌, ◌%◌, ℕ, Some, refl, sym, subst, arith, ◌∙◌}
+use Rattle.std.proofs.Common.{◌≡◌, ◌%◌, ℕ, Some, sym, subst, arith}
 use Rattle.std.specs.Prelude.{option_copied}
-use Rattle.std.proofs.lemmas.Option.{same_Some}
 use Rattle.log_records.specs.Log.{number_of, after_of}
 use Rattle.log_records.specs.Spelling.{IsShort}
 use Rattle.redo_undo.specs.Fitting.{FitsFront}

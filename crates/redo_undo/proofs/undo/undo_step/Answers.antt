@@ -1,11 +1,11 @@
-use Rattle.std.proofs.Common.{◌≡◌, ℕ, [], ◌∷◌, refl, true, sym, ap, subst, ◌∙◌, arith}
+use Rattle.std.proofs.Common.{[], ◌∷◌, refl, subst, arith}
 use Rattle.log_laws.proofs.UndoingSteps.{clr_is_read}
 use Rattle.redo_laws.specs.UndoWorks.{works_of}
 use Rattle.redo_laws.proofs.CallsInSequence.{going_still}
 use Rattle.ring_machine.specs.Restart.{clr_work}
 use Rattle.redo_undo.specs.Undoing.{IsStepOf}
 use Rattle.redo_undo.specs.declared.undo.Step.{Step}
-use Rattle.redo_undo.proofs.Calling.{held_read, works_answered, works_foreign, works_read, works_then}
+use Rattle.redo_undo.proofs.Calling.{held_read, works_answered, works_read, works_then}
 use Rattle.redo_undo.proofs.Compensations.{is_a_clr, is_an_update, no_update}
 use Rattle.redo_undo.proofs.UndoCalls.{undoes_answered, undoes_nothing, undoes_read, undoes_unread}
 use Rattle.redo_undo.proofs.undo.undo_step.Goals as goal

@@ -1,10 +1,10 @@
-use Rattle.std.proofs.Common.{◌≡◌, ℕ, [], ◌∷◌, refl, true, sym, ap, subst, ◌∙◌, arith}
+use Rattle.std.proofs.Common.{[], ◌∷◌, subst, arith}
 use Rattle.redo_laws.specs.UndoWorks.{works_of}
 use Rattle.redo_laws.proofs.CallsInSequence.{going_still}
 use Rattle.ring_machine.specs.Restart.{clr_work}
 use Rattle.redo_undo.specs.Undoing.{IsStepOf}
 use Rattle.redo_undo.specs.declared.undo.Step.{Step}
-use Rattle.redo_undo.proofs.Calling.{held_read, works_answered, works_foreign, works_read, works_then}
+use Rattle.redo_undo.proofs.Calling.{held_read, works_read, works_then}
 use Rattle.redo_undo.proofs.Compensations.{is_a_clr, no_update}
 use Rattle.redo_undo.proofs.UndoCalls.{undoes_read, undoes_unread}
 use Rattle.redo_undo.proofs.undo.undo_update.Goals as goal

@@ -31,5 +31,8 @@ returns-clause-begun c =
 pub returns-clause-owed : goal.returns-clause-owed
 returns-clause-owed c =
     let none = sym c.get_mut.ensures.value ∙ ap option_copied_mut c.in_default.is in
-    omega (arith, owed_begun (listed c.args.self.now) (map open_of c.insert.new.self.entries) c.args.lsn (record { txn = c.args.lsn; last = c.args.lsn; updates = [] }) (ascends c.args.self.now.transactions.entries c.get_mut.ensures.ordered) (found_at c.args.self.now.transactions.entries c.args.lsn ∙ ap (opened c.args.lsn) none)
-    (put_in c.args.self.now.transactions c.get_mut.follows.lender-at-none c.insert.new.self c.args.lsn (record { last = c.args.lsn; updates = c.new.result }) c.get_mut.follows.holds-at-none refl c.new.ensures.items c.insert.ensures.ordered c.in-Ok.ensures.updates))
+    omega (
+      arith,
+      owed_begun (listed c.args.self.now) (map open_of c.insert.new.self.entries) c.args.lsn (record { txn = c.args.lsn; last = c.args.lsn; updates = [] }) (ascends c.args.self.now.transactions.entries c.get_mut.ensures.ordered) (found_at c.args.self.now.transactions.entries c.args.lsn ∙ ap (opened c.args.lsn) none)
+          (put_in c.args.self.now.transactions c.get_mut.follows.lender-at-none c.insert.new.self c.args.lsn (record { last = c.args.lsn; updates = c.new.result }) c.get_mut.follows.holds-at-none refl c.new.ensures.items c.insert.ensures.ordered c.in-Ok.ensures.updates),
+    )
