@@ -102,7 +102,8 @@ impl Logged {
     ) -> Result<Result<Logged, Place>, Stop>
         requires { MayBeJudged found.now (S.state site.old) }
 
-        ensures { JudgesBy found.now 1 result (S.state site.old) (S.state site.new) (λ blocks answer. (IsTrue (is_ok answer)
+        ensures { JudgesBy found.now 1 result (S.state site.old) (S.state site.new) (λ blocks answer.
+            (IsTrue (is_ok answer)
             ↔ AllByRecursion (IsKnownEarly found.now.master.redo lsns.now) (records_of found.now blocks))
             × IfOk answer (λ logged.
             Hears found.now.master.redo lsns.now (records_of found.now blocks) logged (records_of found.now blocks))) }

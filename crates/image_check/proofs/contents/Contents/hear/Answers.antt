@@ -1,4 +1,4 @@
-use Rattle.std.proofs.Common.{sym, ap, ◌∙◌, cond, nat_eq, Some, ◌==◌}
+use Rattle.std.proofs.Common.{sym, ap, ◌∙◌, cond, nat_eq, Some}
 use Rattle.record_model.specs.State.{Content}
 use Rattle.indexmap.specs.IndexMap.{get}
 use Rattle.image_check.proofs.ChainOnes.{last_unwritten, last_written}
