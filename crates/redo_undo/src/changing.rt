@@ -82,7 +82,9 @@ pub fn fits_front(pages: &PageStore, rec: &LogRecord) -> bool
 {
     slots_of_a_page();
     each_value_fits();
-    pages.fits(slot_of(rec), after_of(rec))
+    let slot = slot_of(rec);
+    let after = after_of(rec);
+    pages.fits(slot, after)
 }
 
 /// Redoes an Update or a CLR, which is on the page in front of the pool and has room there: the page has the record's
