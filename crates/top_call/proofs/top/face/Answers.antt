@@ -58,7 +58,7 @@ pub returns-in-Err-Memory-clause-simulate : goal.returns-in-Err-Memory-clause-si
 returns-in-Err-Memory-clause-simulate g c caches is_simulate = c.lack_memory.ensures.simulate caches
 
 pub returns-in-Err-Memory-clause-trial : goal.returns-in-Err-Memory-clause-trial
-returns-in-Err-Memory-clause-trial g c t is_trial = (0 ∷ [], c.lack_memory.ensures.trial t.geometry)
+returns-in-Err-Memory-clause-trial g c t is_trial = (0 ∷ [], c.lack_memory.ensures.trial t.geometry t.pool)
 
 pub returns-in-Err-Memory-clause-check : goal.returns-in-Err-Memory-clause-check
 returns-in-Err-Memory-clause-check g c is_check = c.lack_memory.ensures.check
