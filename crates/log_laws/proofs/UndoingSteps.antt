@@ -9,7 +9,7 @@ use Rattle.record_model.specs.State.{Write}
 use Rattle.log_records.specs.declared.log_record.LogRecord.{LogRecord}
 use Rattle.log_records.specs.declared.log_record.LogRecord.TheVariants.{Update, Clr, End}
 use Rattle.log_records.specs.Log.{Entry, txn_of, is_of, is_update, is_closing, is_closed, is_loser, entries_of, updates_in}
-use Rattle.log_records.specs.Unfinished.{is_clr, open_updates, left_open}
+use Rattle.log_records.specs.Unfinished.{is_clr, left_open}
 use Rattle.log_records.specs.Sound.{Master, LogicalImage, IsInOrder, IsInTable, IsOpen, last_lsn}
 use Rattle.log_laws.specs.Follow.{Follows, IsActive}
 use Rattle.log_laws.specs.Tail.{Carries, whole}
@@ -19,7 +19,7 @@ use Rattle.log_laws.specs.UndoSteps.{IsToUndo}
 use Rattle.log_laws.proofs.Values.{with}
 use Rattle.log_laws.proofs.Appends.{end_follows}
 use Rattle.log_laws.proofs.Owing.{left_is_written}
-use Rattle.log_laws.proofs.Losers.{any_of_those, clr_of_last_follows, entries_other, last_more, left_keep, loser_goes_on, loser_is_not_closed, loser_is_known, loser_stays}
+use Rattle.log_laws.proofs.Losers.{any_of_those, clr_of_last_follows, last_more, left_keep, loser_goes_on, loser_is_not_closed, loser_is_known}
 use Rattle.log_laws.proofs.OpenUpdates.{left_after_clr}
 use Rattle.log_laws.proofs.Tails.{whole_in_table, whole_is_undoable}
 use Rattle.log_laws.proofs.Undoing.{unfinished_from_last}
@@ -78,14 +78,7 @@ module _ (log : List Entry) (x : Unfinished) (is : IsUnfinished log x) where
   pub update_is_last : (u : Entry) (rest : List Entry) → x.chain ≡ u ∷ rest → is_update u.rec ≡ true → left_open log x.txn ≡ u ∷ updates_in rest
   update_is_last u rest split update = sym is.left_is ∙ ap updates_in split ∙ reads_update u rest update
 
-  -- where something is left something is read, and where nothing is read nothing is left
-  pub some_read : 0 < x.remaining → (e : Entry) × (rest : List Entry) × (x.chain ≡ e ∷ rest)
-  some_read some = by_chain x.chain refl
-    where
-      by_chain : (chain : List Entry) → x.chain ≡ chain → (e : Entry) × (rest : List Entry) × (x.chain ≡ e ∷ rest)
-      by_chain [] none = absurd (let left = is.remaining_is ∙ ap length (sym is.left_is ∙ ap updates_in none) in omega (arith, left, some))
-      by_chain (e ∷ rest) split = (e, rest, split)
-
+  -- where nothing is read nothing is left
   pub nothing_left : x.chain ≡ [] → left_open log x.txn ≡ []
   nothing_left none = sym is.left_is ∙ ap updates_in none
 
@@ -129,22 +122,6 @@ module _ (log : List Entry) (x : Unfinished) (is : IsUnfinished log x) where
       closes_nothing : (rec : LogRecord) → is_clr rec ≡ true → is_closing rec ≡ false
       closes_nothing (Clr txn prev undo_next page slot after) h = refl
       closes_nothing _ h = absurd (grind arith)
-
-  -- A record of another transaction is written.
-  pub other_is_written : (e : Entry) → is_of x.txn e ≡ false → IsUnfinished (with log e) x
-  other_is_written e other =
-      let entries = entries_other log e x.txn other in
-      record {
-        loser = loser_stays log e x.txn other ∙ is.loser;
-        last_is = is.last_is ∙ ap last_lsn (sym entries);
-        chain_is = chain_stays log (e ∷ []) x.txn x.next x.chain is.chain_is;
-        left_is = is.left_is ∙ ap left_of (sym entries);
-        early = is.early;
-        remaining_is = is.remaining_is ∙ ap (λ (l : List Entry). length (left_of l)) (sym entries);
-      }
-    where
-      left_of : List Entry → List Entry
-      left_of entries = open_updates [] entries
 
 module _ (p : LogicalImage) (tail : List LogRecord) (x : Unfinished) (c : Carries p tail) (is : IsUnfinished (whole p tail) x) where
   lives : IsOpen p.master (whole p tail) x.txn
