@@ -262,7 +262,7 @@ fn steps_hold(rt: HostRuntime) -> Result<(), Fail> {
     Ok(())
 }
 
-// So many transactions begin, each of which has one Update, all behind the last Begin.
+// So many transactions begin.
 fn begin_all(analysis: &mut Analysis, count: u64) -> Result<(), Stop>
     requires { Invariant analysis.old }
     ensures { Invariant analysis.new }
@@ -270,13 +270,21 @@ fn begin_all(analysis: &mut Analysis, count: u64) -> Result<(), Stop>
     for txn in 0..count {
         analysis.step(txn, &LogRecord::Begin)?;
     }
+    Ok(())
+}
+
+// Each of them has one Update, all behind the last Begin.
+fn update_all(analysis: &mut Analysis, count: u64) -> Result<(), Stop>
+    requires { Invariant analysis.old }
+    ensures { Invariant analysis.new }
+{
     for txn in 0..count {
         read(analysis, Step::Update(count.saturating_add(txn), txn, txn))?;
     }
     Ok(())
 }
 
-// Undoes them, and answers how many Updates came at falling LSNs.
+// Ends them from the last one on, and answers how many Updates came in that order.
 fn undo_each(analysis: &mut Analysis, count: u64) -> Result<u64, Stop>
     requires { Invariant analysis.old }
     ensures { Invariant analysis.new }
@@ -297,6 +305,7 @@ fn undo_each(analysis: &mut Analysis, count: u64) -> Result<u64, Stop>
 fn many_transactions_are_undone_in_order(rt: HostRuntime) -> Result<(), Fail> {
     let mut analysis = Analysis::start(rt.alloc(), &Master::blank())?;
     begin_all(&mut analysis, 100_000)?;
+    update_all(&mut analysis, 100_000)?;
     assert!(rt; analysis.losers() == 100_000);
     assert!(rt; undo_each(&mut analysis, 100_000)? == 100_000);
     assert!(rt; analysis.losers() == 0);

@@ -1,0 +1,5 @@
+use Rattle.analysis.specs.Read.{Invariant}
+use Rattle.parts_tests.proofs.analysis_tests.begin_all.Given as goal
+
+abbrev pub invariant-loop-txn : goal.invariant-loop-txn
+invariant-loop-txn l = Invariant l.analysis
