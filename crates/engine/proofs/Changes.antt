@@ -10,7 +10,7 @@ use Rattle.record_model.specs.Step.{making, with_session, having_written}
 use Rattle.log_records.specs.declared.log_record.LogRecord.TheVariants.{Update}
 use Rattle.log_records.specs.Log.{Entry, txn_of, is_loser, is_closing, is_on, after_of}
 use Rattle.log_records.specs.Unfinished.{left_open}
-use Rattle.log_laws.specs.Follow.{IsActive}
+use Rattle.log_laws.specs.Follow.{IsActive, CanBeUndone}
 use Rattle.log_laws.proofs.Losers.{active_writes, active_owes, loser_stays, loser_is_closed}
 use Rattle.log_laws.proofs.Owing.{left_push, owed_update, owed_closing}
 use Rattle.txn_table.specs.declared.active.Active.{Active}
@@ -26,9 +26,9 @@ other_txn newest records active s are n m own other at_n at_m ne same = ne (are.
 
 -- A session writes.
 pub wrote_more : (newest : Option Master) (records : List Entry) (old new : List Active) (s : State) (n lsn page slot : ℕ) (entry : Active) (before after : Content) → SessionsAre newest records old s → n < 8 → entry_of old n ≡ Some entry → ChangesOnly old new n (Some (after_write entry lsn)) → entries.owed new ≡ entries.owed old + 1 →
-    ((x : Entry) → find (is_on (32 * page + slot)) (left_open records entry.begin) ≡ Some x → before ≡ after_of x.rec) →
+    CanBeUndone (records ++ record { lsn = lsn; rec = Update entry.begin entry.last page slot before after } ∷ []) entry.begin → ((x : Entry) → find (is_on (32 * page + slot)) (left_open records entry.begin) ≡ Some x → before ≡ after_of x.rec) →
     SessionsAre newest (records ++ record { lsn = lsn; rec = Update entry.begin entry.last page slot before after } ∷ []) new (making 1 (with_session s n (option_map (having_written (32 * page + slot, after)) (session_at s n))))
-wrote_more newest records old new s n lsn page slot entry before after are small at changes owes known =
+wrote_more newest records old new s n lsn page slot entry before after are small at changes owes undone known =
     let e : Entry = record { lsn = lsn; rec = Update entry.begin entry.last page slot before after } in
     let found = some_active newest records old s are n entry at in
     let session = found.session in
@@ -43,7 +43,7 @@ wrote_more newest records old new s n lsn page slot entry before after are small
           (subst (λ (a : Option Active). SessionIs newest s.kept (records ++ e ∷ []) a (slice_index_or (slice_set s.sessions n now) n None)) (sym changes.own)
           (subst (λ (o : Option Session). SessionIs newest s.kept (records ++ e ∷ []) (Some (after_write entry lsn)) o) (sym (get_or-set_same s.sessions n now None (omega (arith, small, are.count)) ∙ is_now))
           (record {
-            is_active = active_writes (master_of newest) records lsn entry.begin entry.last page slot session.writes before after under.is_active;
+            is_active = active_writes (master_of newest) records lsn entry.begin entry.last page slot session.writes before after under.is_active undone;
             born = under.born;
             count = omega (arith, under.count, length-append session.writes (write ∷ []));
             runs_on = subst RunOn (sym one_left) ((λ number on x found. known x (ap (λ (k : ℕ). find (is_on k) (left_open records entry.begin)) (same_Some (32 * page + slot) number on) ∙ found)), under.runs_on);

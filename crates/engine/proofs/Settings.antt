@@ -14,7 +14,7 @@ use Rattle.record_model.specs.Step.{making, committed}
 use Rattle.log_records.specs.Log.{Entry, is_of, is_closed, is_loser, shown}
 use Rattle.log_records.specs.Unfinished.{owed}
 use Rattle.log_records.specs.declared.log_record.LogRecord.TheVariants.{Begin, Commit}
-use Rattle.log_laws.specs.Follow.{IsActive, IsFresh, IsFree, IsFreeFor, writes_in, write_of}
+use Rattle.log_laws.specs.Follow.{IsActive, IsUndoable, IsFresh, IsFree, IsFreeFor, writes_in, write_of}
 use Rattle.log_laws.specs.Follow as follow
 use Rattle.log_laws.proofs.Appends.{begin_follows}
 use Rattle.log_laws.proofs.Owing.{owed_begin, owed_update, owed_closing}
@@ -36,7 +36,8 @@ use Rattle.redo_undo.specs.Stores.{Represents, MayGrow, shown_in, update_by}
 use Rattle.redo_undo.specs.StoreRollback.{ConcernsOnly}
 use Rattle.engine.specs.OneWrite.{HasOneWrite}
 use Rattle.engine.specs.Representation.{Matches, SessionsAre, LocksAre}
-use Rattle.engine.proofs.Meanings.{busy_write_is, begins_late, free, fresh_behind, none_of}
+use Rattle.engine.proofs.Meanings.{busy_write_is, begins_late, free, fresh_behind, none_of, undoable}
+use Rattle.log_laws.proofs.Follow.{undoable_behind}
 use Rattle.engine.proofs.Actives.{some_active, not_fresh}
 use Rattle.engine.proofs.Aborts.{others_go_on}
 use Rattle.redo_undo.proofs.StoreRollbacks.{concerns_more}
@@ -96,6 +97,12 @@ module _ (engine : Engine) (old : Site) (s : State) (number : ℕ) (fits : Match
   begun : IsActive (master_of fits.newest) (fits.records ++ begin_at txn ∷ []) txn txn []
   begun = active_begun (master_of fits.newest) fits.records txn fresh (begins_late engine.store old fits.newest fits.records s.table s.commits txn fits.holds behind)
 
+  begun_undoable : IsUndoable (fits.records ++ begin_at txn ∷ [])
+  begun_undoable =
+      let m = master_of fits.newest in
+      let versions = versions_on (sizes_of engine.store) old.image in
+      undoable_behind m versions fits.records (undoable engine.store old fits.newest fits.records s.table s.commits fits.holds) (begin_at txn) (begin_follows m versions fits.records txn fresh)
+
   place : 32 * (number / 32) + number % 32 ≡ number
   place = div-add-mod number 32
 
@@ -112,7 +119,7 @@ module _ (engine : Engine) (old : Site) (s : State) (number : ℕ) (fits : Match
       let free_here : IsFreeFor log txn number = free_begun fits.records txn number (free fits.newest fits.records engine.active s fits.sessions table number (unwritten s number (sym (busy_write_is engine.locks s fits.locks_are None number) ∙ unlocked))) in
       let owes = owed_update log (update_at txn lsn number before after) refl begun.lives.not_closed begun.chain in
       record {
-        follows = active_may_write (master_of fits.newest) versions log lsn txn txn (number / 32) (number % 32) [] before after begun within (subst (IsFreeFor log txn) (sym is) free_here) (ap (shown log versions) (sym is));
+        follows = active_may_write (master_of fits.newest) versions log lsn txn txn (number / 32) (number % 32) [] before after begun_undoable begun within (subst (IsFreeFor log txn) (sym is) free_here) (ap (shown log versions) (sym is));
         no_commit = refl;
         room = omega (arith, owes, owed_begin fits.records txn fresh, fits.sessions.owes, room, blocks, cap, more, ap (λ (g : Geometry). g.blocks) same, kept);
       }
@@ -129,7 +136,8 @@ module _ (engine : Engine) (old : Site) (s : State) (number : ℕ) (fits : Match
         concerns = concerns_more fits.newest txn fits.records log e refl (concerns_more fits.newest txn fits.records fits.records (begin_at txn) refl (record { under_way = λ t last writes differ active. active; losers = λ t differ. refl; left = λ t differ. refl }));
         holds = holds;
         last = lsn;
-        active = subst (λ (n : ℕ). IsActive (master_of fits.newest) (log ++ e ∷ []) txn lsn ((n, after) ∷ [])) place (active_writes (master_of fits.newest) log lsn txn txn (number / 32) (number % 32) [] before after begun);
+        active = subst (λ (n : ℕ). IsActive (master_of fits.newest) (log ++ e ∷ []) txn lsn ((n, after) ∷ [])) place (active_writes (master_of fits.newest) log lsn txn txn (number / 32) (number % 32) [] before after begun
+            ((undoable store site fits.newest (log ++ e ∷ []) s.table s.commits holds).undone txn));
         owes = omega (arith, owed_update log e refl begun.lives.not_closed begun.chain, owed_begin fits.records txn fresh);
       }
 

@@ -35,7 +35,7 @@ use Rattle.engine.proofs.Changes.{wrote_more}
 use Rattle.engine.proofs.Undoing.{last_seen}
 use Rattle.log_records.specs.Unfinished.{left_open}
 use Rattle.engine.proofs.Locks.{at_set}
-use Rattle.engine.proofs.Meanings.{busy_write_is, free_for}
+use Rattle.engine.proofs.Meanings.{busy_write_is, free_for, undoable}
 use Rattle.txn_table.proofs.Owing.{entry_is}
 
 -- Locks.
@@ -148,7 +148,7 @@ may_write engine site s fits entry number lsn after table at less free room bloc
     let size = length-versions (sizes_of engine.store) site.image in
     let place = page_and_slot number in
     record {
-      follows = active_may_write (master_of fits.newest) versions fits.records lsn entry.begin entry.last (number / 32) (number % 32) found.session.writes before after active
+      follows = active_may_write (master_of fits.newest) versions fits.records lsn entry.begin entry.last (number / 32) (number % 32) found.session.writes before after (undoable engine.store site fits.newest fits.records s.table s.commits fits.holds) active
           (omega (arith, place, less, size)) (subst (IsFreeFor fits.records entry.begin) (sym place) only) (ap (shown fits.records versions) (sym place));
       no_commit = refl;
       room = omega (arith, owed_update fits.records e refl active.lives.not_closed active.chain, fits.sessions.owes, room, blocks, cap);
@@ -167,6 +167,7 @@ write_fits engine last old new s entry number lsn before after fits table at hon
     let more : SessionsAre fits.newest (fits.records ++ e ∷ []) last.active (with_write s n (number, after)) =
     subst (λ (k : ℕ). SessionsAre fits.newest (fits.records ++ e ∷ []) last.active (with_write s n (k, after))) (page_and_slot number)
     (wrote_more fits.newest fits.records engine.active last.active s n lsn (number / 32) (number % 32) entry before after fits.sessions small at changes owes
+    ((undoable last.store new fits.newest (fits.records ++ e ∷ []) s.table s.commits holds).undone entry.begin)
     (λ x found_there. there ∙ ap (λ (o : Option Session). unwrap_or (last_write (writes_of o) number) (content_at s.table number)) found.is
     ∙ ap (λ (o : Option Content). unwrap_or o (content_at s.table number)) (last_seen found.under_way number x (ap (λ (k : ℕ). find (is_on k) (left_open fits.records entry.begin)) (sym (page_and_slot number)) ∙ found_there)))) in
     record {
