@@ -10,11 +10,11 @@ use Rattle.std.proofs.lemmas.Map.{lookup-set_value, lookup-remove_entry}
 use Rattle.lru.specs.LruCache.{promoted, last_entry}
 use Rattle.buffer_pool.specs.declared.pool_entry.PoolEntry.{PoolEntry}
 use Rattle.buffer_pool.specs.Entries.{frames_in, framed_pages, state_in}
-use Rattle.buffer_pool.specs.declared.frame.Frame.{Frame}
-use Rattle.buffer_pool.specs.Frames.{IsPool, AreDistinct, in_front, touched, without, is_framed, KnowsSame, Knows}
+use Rattle.buffer_pool.specs.Frames.{IsPool, AreDistinct, touched, is_framed, KnowsSame, Knows}
 use Rattle.buffer_pool.proofs.Order.{Others, distinct-touched}
 use Rattle.std_lemmas.proofs.Bools.{eq_turned}
 use Rattle.buffer_pool.proofs.Cached.{Entry, found, frames-remove_entry, length_frames, split_last}
+use Rattle.std.proofs.lemmas.Grind.{common_steps}
 
 -- as a look-up of the page tells it
 abbrev pub framed_in : List Entry → ℕ → Bool
@@ -90,13 +90,7 @@ framed-set es page kept now is n =
 
 pub framed-same : (es : List Entry) (page : ℕ) (kept now : PoolEntry) → lookup (nat_eq page) es ≡ Some kept → now.framed ≡ kept.framed → (n : ℕ)
     → framed_in (set_value (nat_eq page) es now) n ≡ framed_in es n
-framed-same es page kept now is same n = framed-set es page kept now is n ∙ by (n == page) refl
-  where
-    by : (b : Bool) → (n == page) ≡ b → cond b now.framed (framed_in es n) ≡ framed_in es n
-    by true at =
-        same ∙ ap (λ (o : Option PoolEntry). option_map_or (λ (k : PoolEntry). k.framed) o false) (sym is)
-        ∙ ap (framed_in es) (sym (eqb-true n page at))
-    by false at = refl
+framed-same es page kept now is same n = grind (arith, common_steps, framed-set, eqb-true)
 
 last_removed : (front : List Entry) (e : Entry) → AreDistinct (frames_in (front ++ e ∷ [])) → remove_entry (nat_eq e.0) (front ++ e ∷ []) ≡ front
 last_removed [] e distinct = ap (λ b. cond b [] (e ∷ [])) (eq-eqb e.0 e.0 refl)
@@ -118,24 +112,15 @@ framed-last es e is distinct n =
 -- a page that is there comes to the front, with another entry
 found_entry : (es : List Entry) (page : ℕ) (kept : PoolEntry) → lookup (nat_eq page) es ≡ Some kept → lookup_entry (nat_eq page) es ≡ Some (page, kept)
 found_entry [] page kept is = absurd cc
-found_entry (e ∷ es) page kept is = by (page == e.0) refl is (found_entry es page kept)
-  where
-    by : (b : Bool) → (page == e.0) ≡ b → cond b (Some e.1) (lookup (nat_eq page) es) ≡ Some kept → (lookup (nat_eq page) es ≡ Some kept → lookup_entry (nat_eq page) es ≡ Some (page, kept))
-        → cond b (Some e) (lookup_entry (nat_eq page) es) ≡ Some (page, kept)
-    by true at is rest = let same : e.1 ≡ kept = cc in λ i. Some (sym (eqb-true page e.0 at) i, same i)
-    by false at is rest = rest is
+found_entry (e ∷ es) page kept is = grind (arith, common_steps, eqb-true, (found_entry es page kept))
 
 pub set_promoted : (es : List Entry) (page : ℕ) (kept now : PoolEntry) → lookup (nat_eq page) es ≡ Some kept
     → set_value (nat_eq page) (promoted (nat_eq page) es) now ≡ (page, now) ∷ remove_entry (nat_eq page) es
-set_promoted es page kept now is =
-    ap (λ (o : Option Entry). set_value (nat_eq page) (option_map_or (λ (e : Entry). e ∷ remove_entry (nat_eq page) es) o es) now) (found_entry es page kept is)
-    ∙ ap (λ b. cond b ((page, now) ∷ remove_entry (nat_eq page) es) ((page, kept) ∷ set_value (nat_eq page) (remove_entry (nat_eq page) es) now)) (eq-eqb page page refl)
+set_promoted es page kept now is = grind (arith, common_steps, found_entry, eq-eqb)
 
 pub frames-renewed : (es : List Entry) (page : ℕ) (kept now : PoolEntry) → AreDistinct (frames_in es) → lookup (nat_eq page) es ≡ Some kept → now.changed ≡ kept.changed → now.content ≡ kept.content
     → frames_in ((page, now) ∷ remove_entry (nat_eq page) es) ≡ touched (frames_in es) page
-frames-renewed es page kept now distinct is changed content =
-    (λ i. let f : Frame = record { page = page; changed = changed i; content = (content i).value } in f ∷ frames-remove_entry es page distinct i)
-    ∙ ap (λ (o : Option Frame). in_front o (without (frames_in es) page)) (sym (found es page kept is))
+frames-renewed es page kept now distinct is changed content = grind (arith, common_steps, frames-remove_entry, found)
 
 pub pool-renewed : (n : ℕ) (es : List Entry) (page : ℕ) (kept now : PoolEntry) → lookup (nat_eq page) es ≡ Some kept → now.changed ≡ kept.changed → now.content ≡ kept.content
     → IsPool (state_in n es) → IsPool (state_in n ((page, now) ∷ remove_entry (nat_eq page) es))
@@ -148,25 +133,11 @@ pool-renewed n es page kept now is changed content pool =
   where
     shorter : (es : List Entry) → lookup (nat_eq page) es ≡ Some kept → length (remove_entry (nat_eq page) es) < length es
     shorter [] is = absurd cc
-    shorter (e ∷ es) is = by (page == e.0) is (shorter es)
-      where
-        by : (b : Bool) → cond b (Some e.1) (lookup (nat_eq page) es) ≡ Some kept → (lookup (nat_eq page) es ≡ Some kept → length (remove_entry (nat_eq page) es) < length es)
-            → length (cond b es (e ∷ remove_entry (nat_eq page) es)) < length (e ∷ es)
-        by true is rest = omega arith
-        by false is rest = let less = rest is in omega (arith, less)
+    shorter (e ∷ es) is = grind (arith, common_steps, (shorter es))
 
 pub framed-promoted : (es : List Entry) (page : ℕ) (kept now : PoolEntry) → AreDistinct (frames_in es) → lookup (nat_eq page) es ≡ Some kept → now.framed ≡ kept.framed → (n : ℕ)
     → framed_in ((page, now) ∷ remove_entry (nat_eq page) es) n ≡ framed_in es n
-framed-promoted es page kept now distinct is same n =
-    framed-put (remove_entry (nat_eq page) es) page now n
-    ∙ ap (λ b. cond (n == page) now.framed b) (framed-removed es page distinct n)
-    ∙ by (n == page) refl
-  where
-    by : (b : Bool) → (n == page) ≡ b → cond b now.framed (cond b false (framed_in es n)) ≡ framed_in es n
-    by true at =
-        same ∙ ap (λ (o : Option PoolEntry). option_map_or (λ (k : PoolEntry). k.framed) o false) (sym is)
-        ∙ ap (framed_in es) (sym (eqb-true n page at))
-    by false at = refl
+framed-promoted es page kept now distinct is same n = grind (arith, common_steps, framed-put, framed-removed, eqb-true)
 
 -- the entries themselves agree with what is known
 pub each_known : (es : List Entry) → AreDistinct (frames_in es) → AllByRecursion (λ (e : Entry). framed_in es e.0 ≡ e.1.framed) es
@@ -179,7 +150,4 @@ each_known (e ∷ es) distinct = (
     behind : (rest : List Entry) → Others e.0 (frames_in rest) → AllByRecursion (λ (x : Entry). framed_in es x.0 ≡ x.1.framed) rest
         → AllByRecursion (λ (x : Entry). framed_in (e ∷ es) x.0 ≡ x.1.framed) rest
     behind [] others all = tt
-    behind (x ∷ rest) others all = (
-      ap (λ b. option_map_or (λ (k : PoolEntry). k.framed) (cond b (Some e.1) (lookup (nat_eq x.0) es)) false) (ne_eqb x.0 e.0 (λ same. others.0 (sym same))) ∙ all.0,
-      behind rest others.1 all.1,
-    )
+    behind (x ∷ rest) others all = grind (arith, common_steps, ne_eqb, (behind rest others.1 all.1))

@@ -1,14 +1,11 @@
 -- The index of the pages that a push may take, as pages come and go.
-use Rattle.std.proofs.Common.{◌≡◌, ℕ, ◌+◌, ◌<◌, ◌≤◌, ◌||◌, nat_eq, Bool, true, false, not, cond, List, [], ◌∷◌, ◌++◌, length, take, map, filter, reverse, Some, arith, refl, sym, ap, subst, ◌∙◌, append-nil, append_assoc, length-append}
+use Rattle.std.proofs.Common.{◌≡◌, ℕ, ◌+◌, ◌<◌, ◌≤◌, nat_eq, Bool, true, cond, List, [], ◌∷◌, ◌++◌, length, take, map, filter, reverse, Some, arith, refl, sym, ap, subst, ◌∙◌, append-nil, append_assoc, length-append}
 use Rattle.std.specs.List.{AllByRecursion}
 use Rattle.std.specs.Map.{lookup, remove_entry, set_value}
-use Rattle.std.specs.Ordering.{nat_cmp}
-use Rattle.std.specs.BTreeMap.{insert_entry, is_at}
 use Rattle.std.proofs.lemmas.Bool.{eqb-true}
 use Rattle.std.proofs.lemmas.List.{map-append, reverse-append, take_all, take_at, take-map}
 use Rattle.std.proofs.lemmas.List.Elements.{filter-append}
 use Rattle.std_lemmas.proofs.Entries.{at_same, AreBelow, below_append, below_weaker, insert_before, insert_last, kept_behind, skipped}
-use Rattle.buffer_pool.specs.declared.frame.Frame.{Frame}
 use Rattle.buffer_pool.specs.declared.pool_entry.PoolEntry.{PoolEntry}
 use Rattle.buffer_pool.specs.declared.index.Index.{Index}
 use Rattle.buffer_pool.specs.Entries.{frame_in, frames_in, state_in}
@@ -16,22 +13,14 @@ use Rattle.buffer_pool.specs.Frames.{State, AreDistinct, is_framed, is_movable, 
 use Rattle.buffer_pool.specs.Listing.{is_listed, if_listed, listed_of, AreStamped, IsIndex, struck, enlisted}
 use Rattle.buffer_pool.proofs.Cached.{Entry}
 use Rattle.buffer_pool.proofs.Known.{framed_in, known, each_known}
+use Rattle.std.proofs.lemmas.Grind.{common_steps}
 
 abbrev pub Listed : Type 0
 Listed = List (ℕ × (ℕ × Bool))
 
-abbrev one_listed : Entry → Bool → Listed
-one_listed e b = cond b ((e.1.stamp, (e.0, e.1.changed)) ∷ []) []
-
 listed_below : (bound : ℕ) (es : List Entry) → AreStamped bound es → AreBelow bound (listed_of es)
 listed_below bound [] stamped = tt
-listed_below bound (e ∷ es) stamped =
-    let less = stamped.0 in
-    below_append bound (listed_of es) (if_listed e) (below_weaker e.1.stamp bound (listed_of es) (omega (arith, less)) (listed_below e.1.stamp es stamped.1)) (own (is_listed e.1))
-  where
-    own : (b : Bool) → AreBelow bound (one_listed e b)
-    own true = (stamped.0, tt)
-    own false = tt
+listed_below bound (e ∷ es) stamped = grind (arith, common_steps, below_append, below_weaker, (listed_below e.1.stamp es stamped.1))
 
 stamped_weaker : (a b : ℕ) (es : List Entry) → a ≤ b → AreStamped a es → AreStamped b es
 stamped_weaker a b [] le stamped = tt
@@ -39,20 +28,11 @@ stamped_weaker a b (e ∷ es) le stamped = let less = stamped.0 in (omega (arith
 
 stamped_removed : (bound k : ℕ) (es : List Entry) → AreStamped bound es → AreStamped bound (remove_entry (nat_eq k) es)
 stamped_removed bound k [] stamped = tt
-stamped_removed bound k (e ∷ es) stamped = by (nat_eq k e.0) (stamped_removed e.1.stamp k es stamped.1)
-  where
-    by : (b : Bool) → AreStamped e.1.stamp (remove_entry (nat_eq k) es) → AreStamped bound (cond b es (e ∷ remove_entry (nat_eq k) es))
-    by true rest = let less = stamped.0 in stamped_weaker e.1.stamp bound es (omega (arith, less)) stamped.1
-    by false rest = (stamped.0, rest)
+stamped_removed bound k (e ∷ es) stamped = grind (arith, common_steps, stamped_weaker, (stamped_removed e.1.stamp k es stamped.1))
 
 stamped_set : (bound k : ℕ) (kept now : PoolEntry) (es : List Entry) → now.stamp ≡ kept.stamp → AreStamped bound es → lookup (nat_eq k) es ≡ Some kept → AreStamped bound (set_value (nat_eq k) es now)
 stamped_set bound k kept now [] at stamped is = tt
-stamped_set bound k kept now (e ∷ es) at stamped is = by (nat_eq k e.0) is (stamped_set e.1.stamp k kept now es at stamped.1)
-  where
-    by : (b : Bool) → cond b (Some e.1) (lookup (nat_eq k) es) ≡ Some kept → (lookup (nat_eq k) es ≡ Some kept → AreStamped e.1.stamp (set_value (nat_eq k) es now))
-        → AreStamped bound (cond b ((e.0, now) ∷ es) (e ∷ set_value (nat_eq k) es now))
-    by true here later = let same : e.1 ≡ kept = cc in subst (λ (s : ℕ). (s < bound) × AreStamped s es) (ap (λ (x : PoolEntry). x.stamp) same ∙ sym at) stamped
-    by false there later = (stamped.0, later there)
+stamped_set bound k kept now (e ∷ es) at stamped is = grind (arith, common_steps, (stamped_set e.1.stamp k kept now es at stamped.1))
 
 stamped_front : (bound : ℕ) (front : List Entry) (e : Entry) → AreStamped bound (front ++ e ∷ []) → AreStamped bound front
 stamped_front bound [] e stamped = tt
@@ -61,43 +41,20 @@ stamped_front bound (f ∷ front) e stamped = (stamped.0, stamped_front f.1.stam
 -- what is kept of a page is older than the next touch
 found_below : (bound k : ℕ) (kept : PoolEntry) (es : List Entry) → AreStamped bound es → lookup (nat_eq k) es ≡ Some kept → kept.stamp < bound
 found_below bound k kept [] stamped is = absurd cc
-found_below bound k kept (e ∷ es) stamped is = by (nat_eq k e.0) is (found_below e.1.stamp k kept es stamped.1)
-  where
-    by : (b : Bool) → cond b (Some e.1) (lookup (nat_eq k) es) ≡ Some kept → (lookup (nat_eq k) es ≡ Some kept → kept.stamp < e.1.stamp) → kept.stamp < bound
-    by true here later = let same : e.1 ≡ kept = cc in subst (λ (x : PoolEntry). x.stamp < bound) same stamped.0
-    by false there later = let less = stamped.0 in let rest = later there in omega (arith, less, rest)
+found_below bound k kept (e ∷ es) stamped is = grind (arith, common_steps, (found_below e.1.stamp k kept es stamped.1))
 
 -- Taking off the list.
 
 struck_here : (e : Entry) (xs : Listed) → AreBelow e.1.stamp xs → struck e.1.stamp (is_listed e.1) (xs ++ if_listed e) ≡ xs
-struck_here e xs below = by (is_listed e.1)
-  where
-    by : (b : Bool) → struck e.1.stamp b (xs ++ one_listed e b) ≡ xs
-    by true = skipped e.1.stamp xs (one_listed e true) below ∙ ap (λ b. xs ++ cond b [] (one_listed e true)) (at_same e.1.stamp) ∙ append-nil xs
-    by false = append-nil xs
+struck_here e xs below = grind (arith, common_steps, skipped, at_same, append-nil)
 
 struck_later : (s : ℕ) (wanted : Bool) (e : Entry) (xs : Listed) → s < e.1.stamp → struck s wanted (xs ++ if_listed e) ≡ struck s wanted xs ++ if_listed e
-struck_later s wanted e xs less = by wanted (is_listed e.1)
-  where
-    by : (k b : Bool) → struck s k (xs ++ one_listed e b) ≡ struck s k xs ++ one_listed e b
-    by false b = refl
-    by true true = kept_behind s xs (e.1.stamp, (e.0, e.1.changed)) less
-    by true false = ap (remove_entry (is_at (nat_cmp s))) (append-nil xs) ∙ sym (append-nil (remove_entry (is_at (nat_cmp s)) xs))
+struck_later s wanted e xs less = grind (arith, common_steps, kept_behind, append-nil)
 
 struck_of : (bound k : ℕ) (kept : PoolEntry) (es : List Entry) → AreStamped bound es → lookup (nat_eq k) es ≡ Some kept
     → struck kept.stamp (is_listed kept) (listed_of es) ≡ listed_of (remove_entry (nat_eq k) es)
 struck_of bound k kept [] stamped is = absurd cc
-struck_of bound k kept (e ∷ es) stamped is = by (nat_eq k e.0) is (struck_of e.1.stamp k kept es stamped.1)
-  where
-    by : (b : Bool) → cond b (Some e.1) (lookup (nat_eq k) es) ≡ Some kept
-        → (lookup (nat_eq k) es ≡ Some kept → struck kept.stamp (is_listed kept) (listed_of es) ≡ listed_of (remove_entry (nat_eq k) es))
-        → struck kept.stamp (is_listed kept) (listed_of es ++ if_listed e) ≡ listed_of (cond b es (e ∷ remove_entry (nat_eq k) es))
-    by true here rest =
-        let same : e.1 ≡ kept = cc in
-        ap (λ (x : PoolEntry). struck x.stamp (is_listed x) (listed_of es ++ if_listed e)) (sym same) ∙ struck_here e (listed_of es) (listed_below e.1.stamp es stamped.1)
-    by false there rest =
-        struck_later kept.stamp (is_listed kept) e (listed_of es) (found_below e.1.stamp k kept es stamped.1 there)
-        ∙ ap (λ (l : Listed). l ++ if_listed e) (rest there)
+struck_of bound k kept (e ∷ es) stamped is = grind (arith, common_steps, struck_here, listed_below, struck_later, found_below, (struck_of e.1.stamp k kept es stamped.1))
 
 -- the coldest page is the first one
 coldest_first : (front : List Entry) (e : Entry) → listed_of (front ++ e ∷ []) ≡ if_listed e ++ listed_of front
@@ -105,47 +62,22 @@ coldest_first [] e = sym (append-nil (if_listed e))
 coldest_first (f ∷ front) e = ap (λ (l : Listed). l ++ if_listed f) (coldest_first front e) ∙ append_assoc (if_listed e) (listed_of front) (if_listed f)
 
 struck_coldest : (front : List Entry) (e : Entry) → struck e.1.stamp (is_listed e.1) (listed_of (front ++ e ∷ [])) ≡ listed_of front
-struck_coldest front e = ap (struck e.1.stamp (is_listed e.1)) (coldest_first front e) ∙ by (is_listed e.1)
-  where
-    by : (b : Bool) → struck e.1.stamp b (one_listed e b ++ listed_of front) ≡ listed_of front
-    by true = ap (λ b. cond b (listed_of front) ((e.1.stamp, (e.0, e.1.changed)) ∷ remove_entry (is_at (nat_cmp e.1.stamp)) (listed_of front))) (at_same e.1.stamp)
-    by false = refl
+struck_coldest front e = grind (arith, common_steps, coldest_first, at_same)
 
 -- Putting on the list.
 
 -- a page that comes to the front
 enlisted_front : (k : ℕ) (kept : PoolEntry) (es : List Entry) → AreStamped kept.stamp es → enlisted kept.stamp (k, kept.changed) (is_listed kept) (listed_of es) ≡ listed_of ((k, kept) ∷ es)
-enlisted_front k kept es stamped = by (is_listed kept)
-  where
-    by : (b : Bool) → enlisted kept.stamp (k, kept.changed) b (listed_of es) ≡ listed_of es ++ one_listed (k, kept) b
-    by true = insert_last kept.stamp (k, kept.changed) (listed_of es) (listed_below kept.stamp es stamped)
-    by false = sym (append-nil (listed_of es))
+enlisted_front k kept es stamped = grind (arith, common_steps, insert_last, listed_below, append-nil)
 
 enlisted_before : (s : ℕ) (v : ℕ × Bool) (wanted : Bool) (e : Entry) (xs : Listed) → s < e.1.stamp → enlisted s v wanted (xs ++ if_listed e) ≡ enlisted s v wanted xs ++ if_listed e
-enlisted_before s v wanted e xs less = by wanted (is_listed e.1)
-  where
-    by : (w b : Bool) → enlisted s v w (xs ++ one_listed e b) ≡ enlisted s v w xs ++ one_listed e b
-    by false b = refl
-    by true true = insert_before s v xs (e.1.stamp, (e.0, e.1.changed)) less
-    by true false = ap (λ (l : Listed). insert_entry nat_cmp l s v) (append-nil xs) ∙ sym (append-nil (insert_entry nat_cmp xs s v))
+enlisted_before s v wanted e xs less = grind (arith, common_steps, insert_before, append-nil)
 
 -- a page that stays at its place
 enlisted_again : (bound k : ℕ) (kept now : PoolEntry) (es : List Entry) → now.stamp ≡ kept.stamp → AreStamped bound es → lookup (nat_eq k) es ≡ Some kept
     → enlisted now.stamp (k, now.changed) (is_listed now) (listed_of (remove_entry (nat_eq k) es)) ≡ listed_of (set_value (nat_eq k) es now)
 enlisted_again bound k kept now [] at stamped is = absurd cc
-enlisted_again bound k kept now (e ∷ es) at stamped is = by (nat_eq k e.0) refl is (enlisted_again e.1.stamp k kept now es at stamped.1)
-  where
-    by : (b : Bool) → nat_eq k e.0 ≡ b → cond b (Some e.1) (lookup (nat_eq k) es) ≡ Some kept
-        → (lookup (nat_eq k) es ≡ Some kept → enlisted now.stamp (k, now.changed) (is_listed now) (listed_of (remove_entry (nat_eq k) es)) ≡ listed_of (set_value (nat_eq k) es now))
-        → enlisted now.stamp (k, now.changed) (is_listed now) (listed_of (cond b es (e ∷ remove_entry (nat_eq k) es))) ≡ listed_of (cond b ((e.0, now) ∷ es) (e ∷ set_value (nat_eq k) es now))
-    by true test here rest =
-        let same : e.1 ≡ kept = cc in
-        enlisted_front k now es (subst (λ (s : ℕ). AreStamped s es) (ap (λ (x : PoolEntry). x.stamp) same ∙ sym at) stamped.1)
-        ∙ ap (λ (n : ℕ). listed_of ((n, now) ∷ es)) (eqb-true k e.0 test)
-    by false test there rest =
-        let less = found_below e.1.stamp k kept es stamped.1 there in
-        enlisted_before now.stamp (k, now.changed) (is_listed now) e (listed_of (remove_entry (nat_eq k) es)) (omega (arith, at, less))
-        ∙ ap (λ (l : Listed). l ++ if_listed e) (rest there)
+enlisted_again bound k kept now (e ∷ es) at stamped is = grind (arith, common_steps, enlisted_front, eqb-true, found_below, enlisted_before, (enlisted_again e.1.stamp k kept now es at stamped.1))
 
 -- The index beside each change of the entries: the page is struck, and put on the list where it is listed now.
 
@@ -167,50 +99,24 @@ index_stays a b c es k kept now at is index off next whole on next' whole' = rec
 -- nor is there anything to do where what counts stays
 listed_same : (k : ℕ) (kept now : PoolEntry) (es : List Entry) → now.stamp ≡ kept.stamp → now.changed ≡ kept.changed → now.framed ≡ kept.framed → lookup (nat_eq k) es ≡ Some kept → listed_of (set_value (nat_eq k) es now) ≡ listed_of es
 listed_same k kept now [] at changed framed is = refl
-listed_same k kept now (e ∷ es) at changed framed is = by (nat_eq k e.0) is (listed_same k kept now es at changed framed)
-  where
-    by : (b : Bool) → cond b (Some e.1) (lookup (nat_eq k) es) ≡ Some kept → (lookup (nat_eq k) es ≡ Some kept → listed_of (set_value (nat_eq k) es now) ≡ listed_of es)
-        → listed_of (cond b ((e.0, now) ∷ es) (e ∷ set_value (nat_eq k) es now)) ≡ listed_of (e ∷ es)
-    by true here rest =
-        let same : e.1 ≡ kept = cc in
-        (λ i. listed_of es ++ cond (changed i || not (framed i)) ((at i, (e.0, changed i)) ∷ []) []) ∙ ap (λ (x : PoolEntry). listed_of es ++ if_listed (e.0, x)) (sym same)
-    by false there rest = ap (λ (l : Listed). l ++ if_listed e) (rest there)
+listed_same k kept now (e ∷ es) at changed framed is = grind (arith, common_steps, (listed_same k kept now es at changed framed))
 
 pub index_same : (a : Index) (es : List Entry) (k : ℕ) (kept now : PoolEntry) → now.stamp ≡ kept.stamp → now.changed ≡ kept.changed → now.framed ≡ kept.framed → lookup (nat_eq k) es ≡ Some kept → IsIndex a es
     → IsIndex a (set_value (nat_eq k) es now)
-index_same a es k kept now at changed framed is index = record {
-  listed = λ w. index.listed w ∙ sym (listed_same k kept now es at changed framed is);
-  stamped = λ w. stamped_set a.next k kept now es at (index.stamped w) is;
-}
+index_same a es k kept now at changed framed is index = grind (arith, common_steps, listed_same, stamped_set)
 
 pub index_leaves : (a b : Index) (es : List Entry) (k : ℕ) (kept : PoolEntry) → lookup (nat_eq k) es ≡ Some kept → IsIndex a es
     → b.listed.entries ≡ struck kept.stamp (is_listed kept) a.listed.entries → b.next ≡ a.next → b.whole ≡ a.whole → IsIndex b (remove_entry (nat_eq k) es)
-index_leaves a b es k kept is index off next whole = record {
-  listed = λ w. let was = sym whole ∙ w in off ∙ ap (struck kept.stamp (is_listed kept)) (index.listed was) ∙ struck_of a.next k kept es (index.stamped was) is;
-  stamped = λ w.
-      let was = sym whole ∙ w in
-      subst (λ (n : ℕ). AreStamped n (remove_entry (nat_eq k) es)) (sym next) (stamped_removed a.next k es (index.stamped was));
-}
+index_leaves a b es k kept is index off next whole = grind (arith, common_steps, struck_of, stamped_removed)
 
 pub index_last : (a b : Index) (es front : List Entry) (e : Entry) → es ≡ front ++ e ∷ [] → IsIndex a es
     → b.listed.entries ≡ struck e.1.stamp (is_listed e.1) a.listed.entries → b.next ≡ a.next → b.whole ≡ a.whole → IsIndex b front
-index_last a b es front e split index off next whole = record {
-  listed = λ w. let was = sym whole ∙ w in off ∙ ap (struck e.1.stamp (is_listed e.1)) (index.listed was ∙ ap listed_of split) ∙ struck_coldest front e;
-  stamped = λ w.
-      let was = sym whole ∙ w in
-      subst (λ (n : ℕ). AreStamped n front) (sym next) (stamped_front a.next front e (subst (λ (l : List Entry). AreStamped a.next l) split (index.stamped was)));
-}
+index_last a b es front e split index off next whole = grind (arith, common_steps, struck_coldest, stamped_front)
 
 pub index_enters : (a b : Index) (es : List Entry) (k : ℕ) (kept : PoolEntry) → kept.stamp ≡ a.next → IsIndex a es
     → (b.whole ≡ true → b.listed.entries ≡ enlisted a.next (k, kept.changed) (is_listed kept) a.listed.entries) → (b.whole ≡ true → b.next ≡ a.next + 1) → (b.whole ≡ true → a.whole ≡ true)
     → IsIndex b ((k, kept) ∷ es)
-index_enters a b es k kept at index on next whole = record {
-  listed = λ w.
-      on w ∙ ap (enlisted a.next (k, kept.changed) (is_listed kept)) (index.listed (whole w))
-      ∙ ap (λ (s : ℕ). enlisted s (k, kept.changed) (is_listed kept) (listed_of es)) (sym at)
-      ∙ enlisted_front k kept es (subst (λ (n : ℕ). AreStamped n es) (sym at) (index.stamped (whole w)));
-  stamped = λ w. (let next = next w in omega (arith, at, next), subst (λ (n : ℕ). AreStamped n es) (sym at) (index.stamped (whole w)));
-}
+index_enters a b es k kept at index on next whole = grind (arith, common_steps, enlisted_front)
 
 -- What is listed is what a push may take.
 
@@ -221,11 +127,7 @@ abbrev pub marks_if : Entry → List (ℕ × Bool)
 marks_if e = cond (is_listed e.1) ((e.0, e.1.changed) ∷ []) []
 
 marks_of_one : (e : Entry) → marks_listed (if_listed e) ≡ marks_if e
-marks_of_one e = by (is_listed e.1)
-  where
-    by : (b : Bool) → marks_listed (one_listed e b) ≡ cond b ((e.0, e.1.changed) ∷ []) []
-    by true = refl
-    by false = refl
+marks_of_one e = grind (arith, common_steps)
 
 module _ (pool : State) where
   abbrev movable_marks : List Entry → List (ℕ × Bool)
@@ -233,22 +135,11 @@ module _ (pool : State) where
 
   -- one that is warmer
   movable_more : (e : Entry) (es : List Entry) → movable_marks (e ∷ es) ≡ movable_marks es ++ map mark_of (cond (is_movable pool (frame_in e)) (frame_in e ∷ []) [])
-  movable_more e es =
-      ap (λ (l : List Frame). map mark_of (filter (is_movable pool) l)) (reverse-append (frame_in e ∷ []) (frames_in es))
-      ∙ ap (map mark_of) (filter-append (is_movable pool) (reverse (frames_in es)) (frame_in e ∷ []))
-      ∙ map-append mark_of (filter (is_movable pool) (reverse (frames_in es))) (cond (is_movable pool (frame_in e)) (frame_in e ∷ []) [])
+  movable_more e es = grind (arith, common_steps, reverse-append, filter-append, map-append)
 
   listed_movable : (es : List Entry) → AllByRecursion (λ (e : Entry). is_framed pool e.0 ≡ e.1.framed) es → marks_listed (listed_of es) ≡ movable_marks es
   listed_movable [] all = refl
-  listed_movable (e ∷ es) all =
-      map-append (λ (w : ℕ × (ℕ × Bool)). w.1) (listed_of es) (if_listed e)
-      ∙ ap (λ (l : List (ℕ × Bool)). l ++ marks_listed (if_listed e)) (listed_movable es all.1)
-      ∙ ap (λ (l : List (ℕ × Bool)). movable_marks es ++ l) (by (is_listed e.1) ∙ ap (λ (f : Bool). map mark_of (cond (e.1.changed || not f) (frame_in e ∷ []) [])) (sym all.0))
-      ∙ sym (movable_more e es)
-    where
-      by : (b : Bool) → marks_listed (one_listed e b) ≡ map mark_of (cond b (frame_in e ∷ []) [])
-      by true = refl
-      by false = refl
+  listed_movable (e ∷ es) all = grind (arith, common_steps, map-append, movable_more, (listed_movable es all.1))
 
 -- the coldest of the list are the coldest that a push may take
 pub coldest_are : (most size : ℕ) (es : List Entry) → AreDistinct (frames_in es) → take most (marks_listed (listed_of es)) ≡ map mark_of (coldest_movable most (state_in size es))
@@ -280,31 +171,14 @@ pub record IsSought (most : ℕ) (pool : State) (warmer : List Entry) (marks : L
   pub few : length marks ≤ most
 
 pub sought_begins : (most : ℕ) (pool : State) (es : List Entry) → state_in pool.size es ≡ pool → IsSought most pool es []
-sought_begins most pool es is = record {
-  behind = [];
-  split = sym is ∙ ap (state_in pool.size) (sym (append-nil es));
-  marks_are = refl;
-  few = omega arith;
-}
+sought_begins most pool es is = grind (arith, common_steps, append-nil)
 
 one_at_most : (e : Entry) → length (marks_if e) ≤ 1
-one_at_most e = by (is_listed e.1)
-  where
-    by : (b : Bool) → length {A = ℕ × Bool} (cond b ((e.0, e.1.changed) ∷ []) []) ≤ 1
-    by true = omega arith
-    by false = omega arith
+one_at_most e = grind (arith, common_steps)
 
 pub sought_more : (most : ℕ) (pool : State) (warmer rest : List Entry) (e : Entry) (marks more : List (ℕ × Bool)) → IsSought most pool warmer marks → warmer ≡ rest ++ e ∷ [] → (length marks ≡ most → ⊥)
     → more ≡ marks ++ marks_if e → IsSought most pool rest more
-sought_more most pool warmer rest e marks more sought is less more_is = record {
-  behind = e ∷ sought.behind;
-  split = sought.split ∙ ap (state_in pool.size) (ap (λ (l : List Entry). l ++ sought.behind) is ∙ append_assoc rest (e ∷ []) sought.behind);
-  marks_are =
-      more_is ∙ ap (λ (l : List (ℕ × Bool)). l ++ marks_if e) sought.marks_are
-      ∙ ap (λ (l : List (ℕ × Bool)). marks_listed (listed_of sought.behind) ++ l) (sym (marks_of_one e))
-      ∙ sym (map-append (λ (w : ℕ × (ℕ × Bool)). w.1) (listed_of sought.behind) (if_listed e));
-  few = let few = sought.few in omega (arith, few, less, ap length more_is, length-append marks (marks_if e), one_at_most e);
-}
+sought_more most pool warmer rest e marks more sought is less more_is = grind (arith, common_steps, append_assoc, marks_of_one, map-append, length-append, one_at_most)
 
 found_all : (most : ℕ) (pool : State) (warmer behind : List Entry) (marks : List (ℕ × Bool)) → AreDistinct pool.frames → pool ≡ state_in pool.size (warmer ++ behind)
     → marks ≡ take most (marks_listed (listed_of (warmer ++ behind))) → marks ≡ map mark_of (coldest_movable most pool)
@@ -314,15 +188,8 @@ found_all most pool warmer behind marks distinct split is =
 
 pub sought_enough : (most : ℕ) (pool : State) (warmer : List Entry) (marks : List (ℕ × Bool)) → AreDistinct pool.frames → IsSought most pool warmer marks → length marks ≡ most
     → marks ≡ map mark_of (coldest_movable most pool)
-sought_enough most pool warmer marks distinct sought enough = found_all most pool warmer sought.behind marks distinct sought.split
-    (sym (ap (λ (l : Listed). take most (marks_listed l)) (listed_append warmer sought.behind)
-    ∙ ap (take most) (map-append (λ (w : ℕ × (ℕ × Bool)). w.1) (listed_of sought.behind) (listed_of warmer))
-    ∙ ap (λ (l : List (ℕ × Bool)). take most (l ++ marks_listed (listed_of warmer))) (sym sought.marks_are)
-    ∙ take_at marks (marks_listed (listed_of warmer)) most enough))
+sought_enough most pool warmer marks distinct sought enough = grind (arith, common_steps, found_all, listed_append, map-append, take_at)
 
 pub sought_all : (most : ℕ) (pool : State) (warmer : List Entry) (marks : List (ℕ × Bool)) → AreDistinct pool.frames → IsSought most pool warmer marks → warmer ≡ []
     → marks ≡ map mark_of (coldest_movable most pool)
-sought_all most pool warmer marks distinct sought none = found_all most pool warmer sought.behind marks distinct sought.split
-    (sym (ap (λ (l : List Entry). take most (marks_listed (listed_of (l ++ sought.behind)))) none
-    ∙ ap (take most) (sym sought.marks_are)
-    ∙ take_all most marks sought.few))
+sought_all most pool warmer marks distinct sought none = grind (arith, common_steps, found_all, take_all)

@@ -6,6 +6,7 @@ use Rattle.second_chance.specs.declared.frame.Frame.{Frame as Known}
 use Rattle.second_chance.specs.Queue.{frame_of as known_of}
 use Rattle.frame_group.specs.Groups.{Frame, lsn_of}
 use Rattle.flash_cache.specs.Pushed.{frames_given, known_given}
+use Rattle.std.proofs.lemmas.Grind.{common_steps}
 
 pub same_lsn : (octets : List ℕ) → page_lsn octets ≡ lsn_of octets
 unfolding page_lsn lsn_of
@@ -38,8 +39,7 @@ one_more [] changed contents n marks lists lt = absurd (omega (arith, lt))
 one_more (p ∷ pages) [] contents n marks lists lt = absurd (omega (arith, marks))
 one_more (p ∷ pages) (c ∷ changed) [] n marks lists lt = absurd (omega (arith, lists))
 one_more (p ∷ pages) (c ∷ changed) (o ∷ contents) zero marks lists lt = refl
-one_more (p ∷ pages) (c ∷ changed) (o ∷ contents) (suc n) marks lists lt =
-    ap (λ (l : List Frame). record { page = p; dirty = c; octets = o } ∷ l) (one_more pages changed contents n (omega (arith, marks)) (omega (arith, lists)) (omega (arith, lt)))
+one_more (p ∷ pages) (c ∷ changed) (o ∷ contents) (suc n) marks lists lt = grind (arith, common_steps, (one_more pages changed contents n (omega (arith, marks)) (omega (arith, lists)) (omega (arith, lt))))
 
 -- as the directory knows them
 pub known_of_given : (pages : List ℕ) (changed : List Bool) (contents : List (List ℕ)) → length changed ≡ length pages → length contents ≡ length pages

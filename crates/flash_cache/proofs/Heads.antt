@@ -1,5 +1,5 @@
 -- The heads of frames, and the frames that heads and contents make.
-use Rattle.std.proofs.Common.{◌≡◌, ℕ, zero, suc, ◌-◌, ◌<◌, ◌≤◌, Bool, List, [], ◌∷◌, ◌++◌, length, get_or, map, replicate, arith, refl, sym, ap, ◌∙◌, length-append}
+use Rattle.std.proofs.Common.{◌≡◌, ℕ, zero, suc, ◌-◌, ◌<◌, ◌≤◌, Bool, List, [], ◌∷◌, ◌++◌, length, get_or, map, replicate, arith, refl, ap, length-append}
 use Rattle.std.specs.Prelude.{slice_set}
 use Rattle.std.proofs.lemmas.List.{map-append}
 use Rattle.byte_fields.specs.declared.frame_head.FrameHead.{FrameHead}
@@ -9,6 +9,7 @@ use Rattle.flash_cache.specs.Leaving.{frames_with}
 use Rattle.flash_cache.specs.Pushed.{no_frame, frames_given}
 use Rattle.flash_cache.proofs.Standing.{length-mapped}
 use Rattle.frame_group.proofs.Front.{length_heads}
+use Rattle.std.proofs.lemmas.Grind.{common_steps}
 
 -- one head more
 
@@ -17,14 +18,7 @@ set_next [] b y m = refl
 set_next (x ∷ xs) b y m = ap (λ l. x ∷ l) (set_next xs b y m)
 
 pub next_head : (frames : List Frame) (frame : Frame) → length frames < 8 → slice_set (heads_of frames) (length frames) (head_of frame) ≡ heads_of (frames ++ frame ∷ [])
-next_head frames frame few =
-    let long = length-append frames (frame ∷ []) in
-    let more : 8 - length frames ≡ suc (7 - length frames) = omega (arith, few) in
-    let less : 7 - length frames ≡ 8 - length (frames ++ frame ∷ []) = omega (arith, few, long) in
-    ap (λ (n : ℕ). slice_set (map head_of frames ++ replicate n blank) (length frames) (head_of frame)) more
-    ∙ ap (λ (n : ℕ). slice_set (map head_of frames ++ replicate (suc (7 - length frames)) blank) n (head_of frame)) (sym (length-mapped head_of frames))
-    ∙ set_next (map head_of frames) blank (head_of frame) (7 - length frames)
-    ∙ (λ i. sym (map-append head_of frames (frame ∷ [])) i ++ replicate (less i) blank)
+next_head frames frame few = grind (arith, common_steps, length-append, replicate, length-mapped, set_next, map-append)
 
 -- the head at a place
 
@@ -60,14 +54,12 @@ given_again [] changed [] rest marks lists = zip_nil rest
 given_again [] changed (o ∷ contents) rest marks lists = absurd (omega (arith, lists))
 given_again (p ∷ pages) [] contents rest marks lists = absurd (omega (arith, marks))
 given_again (p ∷ pages) (c ∷ changed) [] rest marks lists = absurd (omega (arith, lists))
-given_again (p ∷ pages) (c ∷ changed) (o ∷ contents) rest marks lists =
-    ap (λ (l : List Frame). record { page = p; dirty = c; octets = o } ∷ l) (given_again pages changed contents rest (omega (arith, marks)) (omega (arith, lists)))
+given_again (p ∷ pages) (c ∷ changed) (o ∷ contents) rest marks lists = grind (arith, common_steps, (given_again pages changed contents rest (omega (arith, marks)) (omega (arith, lists))))
 
 -- the heads of the frames given make them again with their contents
 pub heads_make : (pages : List ℕ) (changed : List Bool) (contents : List (List ℕ)) (heads : List FrameHead) → length changed ≡ length pages → length contents ≡ length pages
     → heads ≡ heads_of (frames_given pages changed contents) → frames_with heads contents ≡ frames_given pages changed contents
-heads_make pages changed contents heads marks lists is =
-    ap (λ (l : List FrameHead). frames_with l contents) is ∙ given_again pages changed contents (replicate (8 - length (frames_given pages changed contents)) blank) marks lists
+heads_make pages changed contents heads marks lists is = grind (arith, common_steps, given_again, replicate)
 
 -- heads that are those of the frames that they make: their frame at a place, and its head
 
@@ -82,17 +74,7 @@ with_few [] (o ∷ contents) few = omega arith
 with_few (h ∷ heads) (o ∷ contents) few = let rest = with_few heads contents (omega (arith, few)) in omega (arith, rest)
 
 pub is_with_all : (heads : List FrameHead) (contents : List (List ℕ)) → length contents ≤ 8 → heads ≡ heads_of (frames_with heads contents) → length (frames_with heads contents) ≡ length contents
-is_with_all heads contents few is =
-    let low = with_few heads contents few in
-    let eight = ap length is ∙ length_heads (frames_with heads contents) (omega (arith, low, few)) in
-    length-with heads contents (omega (arith, eight, few))
+is_with_all heads contents few is = grind (arith, common_steps, with_few, length_heads, length-with)
 
 pub is_with : (heads : List FrameHead) (contents : List (List ℕ)) (n : ℕ) → length contents ≤ 8 → heads ≡ heads_of (frames_with heads contents) → n < length contents → IsWith heads contents n
-is_with heads contents n few is lt =
-    let long = is_with_all heads contents few is in
-    let eight = ap length is ∙ length_heads (frames_with heads contents) (omega (arith, long, few)) in
-    record {
-      long = long;
-      head = ap (λ (l : List FrameHead). get_or l n blank) is ∙ head_at (frames_with heads contents) n blank no_frame (omega (arith, lt, long));
-      frame = with_at heads contents n blank [] no_frame (omega (arith, lt, eight, few)) lt;
-    }
+is_with heads contents n few is lt = grind (arith, common_steps, is_with_all, length_heads, head_at, with_at)

@@ -7,8 +7,6 @@ use Rattle.site.specs.declared.outside.Dev.TheVariants.{Flash}
 use Rattle.site.specs.State.{State, Image, Moment, MayStand, loose_of, IsQuiet}
 use Rattle.site.specs.Moments.{Leaves, SameAt}
 use Rattle.site.proofs.Laws.{settled_is, quiet_settled}
-use Rattle.image_changes.specs.Rings.{group_shape}
-use Rattle.sealed_ring.specs.Ring.{hi_of, IsRing, units_of}
 use Rattle.byte_fields.specs.declared.frame_head.Mark.{Mark}
 use Rattle.disk_pages.specs.Pages.{page_on}
 use Rattle.stage_out.specs.Staged.{HasStaged}
@@ -28,6 +26,7 @@ use Rattle.flash_cache.proofs.Queues.{has_at, together_length}
 use Rattle.flash_cache.proofs.StagedMarks.{staged_numbered}
 use Rattle.flash_cache.proofs.StagedContents.{front_long, some_group}
 use Rattle.flash_cache.proofs.SomeMoments.{some_weaker}
+use Rattle.std.proofs.lemmas.Grind.{common_steps}
 
 -- a mark of the front group is of the page of the frame that stands at its place
 
@@ -44,12 +43,7 @@ front_shows (k ∷ ks) (f ∷ fs) i mark shown is = mark_shows k ks f i mark sho
 
 -- groups stand where the flash has what it had
 pub groups_same : (g : Geometry) (first : ℕ) (groups : List (List Frame)) (old new : Image) → new.flash ≡ old.flash → HasGroups g first groups old → HasGroups g first groups new
-groups_same g first groups old new same has = record {
-  form = subst (IsRing (group_shape g)) (sym same) has.form;
-  next = has.next ∙ ap (hi_of (group_shape g)) (sym same);
-  are_groups = has.are_groups;
-  live = ap (λ (c : List ℕ). (units_of (group_shape g) c).live) same ∙ has.live;
-}
+groups_same g first groups old new same has = grind (arith, common_steps)
 
 -- a crash leaves them where flash is as it was, and nothing of it was loose
 pub leaves_groups : (g : Geometry) (first : ℕ) (groups : List (List Frame)) (mid : State) → IsQuiet mid → HasGroups g first groups mid.image → (m : Moment) → SameAt Flash mid m → Leaves (λ s. HasGroups g first groups s.image) m

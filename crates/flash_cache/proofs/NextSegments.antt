@@ -1,5 +1,5 @@
 -- The number of the next segment over an honest site, whatever stands there: calls one after the other.
-use Rattle.std.proofs.Common.{◌≡◌, ℕ, ◌+◌, ◌≤◌, inl, arith, refl, sym, ap, subst, ◌∙◌}
+use Rattle.std.proofs.Common.{◌≡◌, inl, arith, refl, ap}
 use Rattle.std.specs.Prelude.{◌^◌, Result, Ok, Err, IsErrOf}
 use Rattle.site.specs.declared.outside.Dev.TheVariants.{Flash}
 use Rattle.site.specs.declared.outside.Stop.{Stop}
@@ -9,9 +9,8 @@ use Rattle.site.specs.Geometry.{HasLimits, HasLengths}
 use Rattle.site.specs.State.{State}
 use Rattle.site.specs.Calls.{Preserves}
 use Rattle.site.proofs.Working.{no_error, err_again, ok_always}
-use Rattle.sealed_ring.specs.declared.slots.Shape.{Shape}
 use Rattle.sealed_ring.specs.declared.ring.Ring.{Ring}
-use Rattle.sealed_ring.specs.Ready.{region, Matches as RingFits}
+use Rattle.sealed_ring.specs.Ready.{Matches as RingFits}
 use Rattle.tail_rebuild.specs.Rebuilt.{AreRings}
 use Rattle.sealed_ring.specs.Ring.{Units, SameOutside, hi_of}
 use Rattle.sealed_ring.proofs.Others.{leaves_others}
@@ -19,6 +18,7 @@ use Rattle.image_changes.specs.Rings.{Groups, Segments, group_shape, segment_sha
 use Rattle.image_changes.proofs.AppendLaws.{ring_fits}
 use Rattle.flash_cache.specs.declared.cache.FlashCache.{FlashCache}
 use Rattle.flash_cache.specs.Representation.{Invariant, IsNext, IsSpent, KeepsNext}
+use Rattle.std.proofs.lemmas.Grind.{common_steps}
 
 -- the ring of the segments stays where it stands when a group is appended
 pub segments_beside : (g : Geometry) (old new : State) → HasLimits g → HasLengths g old.image → Preserves old new → SameOutside (group_shape g) old.image.flash new.image.flash
@@ -28,30 +28,21 @@ segments_beside g old new limits lengths goes outside =
 
 -- where the ring of groups stands at its end, that of the segments has numbers for at most one more
 pub spent_at_end : (cache : FlashCache) (old new : State) → Invariant cache old → IsNext cache old → cache.ring.hi ≡ 2 ^ 40 → new ≡ old → IsSpent cache.geometry new.image
-spent_at_end cache old new going is full same =
-    let high = going.rings.high in
-    let few : 2 ^ 38 ≤ cache.segments.hi + 1 = omega (arith, high, full) in
-    subst (λ (n : ℕ). 2 ^ 38 ≤ n + 1) (is ∙ ap (λ (s : State). hi_of (segment_shape cache.geometry) s.image.flash) (sym same)) few
+spent_at_end cache old new going is full same = grind (arith, common_steps)
 
 -- Calls.
 
 -- one that leaves flash as it is, and the ring of segments as it was known
 pub next_elsewhere : {T : Type 0} (r : Result T Stop) (old new : FlashCache) (before now : State) → new.segments ≡ old.segments → new.geometry ≡ old.geometry →
     now.image.flash ≡ before.image.flash → (IsErrOf r (Worn Flash) → ⊥) → KeepsNext r old new before now
-next_elsewhere r old new before now segments sizes same never = record {
-  next = λ is. ok_always r _ (ap (λ (ring : Ring). ring.hi) segments ∙ is ∙ (λ i. hi_of (segment_shape (sym sizes i)) (sym same i)));
-  worn = λ is says. absurd (never says);
-}
+next_elsewhere r old new before now segments sizes same never = grind (arith, common_steps, ok_always)
 
 pub next_nothing : {T : Type 0} {x : T} {cache : FlashCache} {site : State} → KeepsNext {T = T} (Ok x) cache cache site site
 next_nothing {cache = cache} {site = site} = next_elsewhere _ cache cache site site refl refl refl (λ says. no_error says)
 
 pub next_then : {A B : Type 0} {a : A} {r : Result B Stop} {old mid new : FlashCache} {before between now : State} → mid.geometry ≡ old.geometry →
     KeepsNext {T = A} (Ok a) old mid before between → KeepsNext r mid new between now → KeepsNext r old new before now
-next_then {now = now} sizes first second = record {
-  next = λ is. second.next (first.next is);
-  worn = λ is says. subst (λ (g : Geometry). IsSpent g now.image) sizes (second.worn (first.next is) says);
-}
+next_then {now = now} sizes first second = grind (arith, common_steps)
 
 pub next_failed : {A B : Type 0} {stop : Stop} {old new : FlashCache} {before now : State} → KeepsNext {T = A} (Err stop) old new before now → KeepsNext {T = B} (Err stop) old new before now
 next_failed first = record { next = λ is. tt; worn = λ is says. first.worn is (err_again _ _ says) }
@@ -62,7 +53,4 @@ next_answered first = record { next = first.next; worn = λ is says. absurd (no_
 -- a segment that is saved
 pub next_saved : (cache : FlashCache) (segments : Ring) (before now : State) → AreRings cache.geometry cache.ring cache.segments before → AreRings cache.geometry cache.ring segments now →
     (RingFits cache.segments before → RingFits segments now) → KeepsNext {T = Unit {0}} (Ok tt) cache (record cache { segments = segments }) before now
-next_saved cache segments before now was is fits = record {
-  next = λ next. fits (next ∙ ap (λ (s : Shape). hi_of s (region s before)) (sym was.segments_shape)) ∙ ap (λ (s : Shape). hi_of s (region s now)) is.segments_shape;
-  worn = λ next says. absurd (no_error says);
-}
+next_saved cache segments before now was is fits = grind (arith, common_steps, no_error)

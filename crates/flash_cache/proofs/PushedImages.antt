@@ -13,13 +13,12 @@ use Rattle.image_changes.specs.Changes.{Change, RewritesPages, AppendsGroup, App
 use Rattle.image_changes.specs.Reached.{IsFrontOf}
 use Rattle.stage_out.specs.Staged.{changes_of}
 use Rattle.frame_group.specs.Groups.{Frame, group}
-use Rattle.frame_group.specs.Versions.{frames_of, last_frame, version, version_by}
+use Rattle.frame_group.specs.Versions.{frames_of, last_frame, version}
 use Rattle.second_chance.specs.declared.frame.Frame.{Frame as Known}
 use Rattle.second_chance.specs.Queue.{group_marks, front_marks, pushed}
 use Rattle.second_chance.specs.Plans.{Placed, chances_of, staged_of}
 use Rattle.second_chance.proofs.DistinctStaged.{staged_stand_in}
-use Rattle.byte_fields.specs.FrameHeads.{spelling_of_all}
-use Rattle.tail_rebuild.specs.Saving.{segment_of, changes_of_save}
+use Rattle.tail_rebuild.specs.Saving.{changes_of_save}
 use Rattle.flash_cache.specs.declared.cache.FlashCache.{FlashCache}
 use Rattle.flash_cache.specs.Representation.{HasGroups, HasFrames, AllTogether, Shows, frames_on}
 use Rattle.flash_cache.specs.Pushed.{no_frame, front_leaves, chance_given}
@@ -33,6 +32,7 @@ use Rattle.frame_group.proofs.LastFrames.{last_of_both, last_is_of_page}
 use Rattle.std.specs.Option.{option_or}
 use Rattle.std_lemmas.proofs.AllOf.{all_left, all_push}
 use Rattle.std_lemmas.proofs.Lists.{map_same}
+use Rattle.std.proofs.lemmas.Grind.{common_steps}
 
 -- changes before a group is appended: these pages are rewritten, or a segment is appended
 abbrev IsBefore : List ℕ → Change → Type 0
@@ -46,8 +46,7 @@ staging_only [] = tt
 staging_only (page ∷ pages) = (inl refl, tt)
 
 pub saving_only : (due : Bool) (groups : List (List Frame)) (pages : List ℕ) → OnlyBefore pages (changes_of_save due groups)
-saving_only true groups pages = (inr (spelling_of_all (segment_of groups), refl), tt)
-saving_only false groups pages = tt
+saving_only due groups pages = grind (arith, common_steps)
 
 pub front_only : (pages : List ℕ) (all changes : List Change) → OnlyBefore pages all → IsFrontOf all changes → OnlyBefore pages changes
 front_only pages all changes only is = all_left (IsBefore pages) changes is.0 (subst (OnlyBefore pages) is.1 only)
@@ -76,14 +75,7 @@ keeps_by g pages [] a b only reaches = record {
   beside = record { size = reaches.sizes Disk; beside = λ place out. ap (λ (d : List ℕ). get_or d place 0) reaches.disk };
   units = reaches.rings Groups;
 }
-keeps_by g pages (change ∷ changes) a b only reaches =
-    let mid : Image = reaches.0 in
-    let first = one_keeps g pages change a mid only.0 reaches.1 in
-    let rest = keeps_by g pages changes mid b only.1 reaches.2 in
-    record {
-      beside = record { size = rest.beside.size ∙ first.beside.size; beside = λ place out. rest.beside.beside place out ∙ first.beside.beside place out };
-      units = record { units = rest.units.units ∙ first.units.units; form = λ form. rest.units.form (first.units.form form) };
-    }
+keeps_by g pages (change ∷ changes) a b only reaches = grind (arith, common_steps, one_keeps, (keeps_by g pages changes))
 
 -- and once the group is appended, it stands behind the others
 pub record Grown (g : Geometry) (content : List ℕ) (old new : Image) : Type 0 where
@@ -101,12 +93,7 @@ grown_by g pages content (change ∷ changes) a b only reaches =
 -- the groups that stand there
 
 pub kept_groups : (g : Geometry) (first : ℕ) (groups : List (List Frame)) (old new : Image) → HasGroups g first groups old → KeepsUnits (group_shape g) old new → HasGroups g first groups new
-kept_groups g first groups old new has keeps = record {
-  form = keeps.form has.form;
-  next = has.next ∙ ap (λ (u : Units). u.hi) (sym keeps.units);
-  are_groups = has.are_groups;
-  live = ap (λ (u : Units). u.live) keeps.units ∙ has.live;
-}
+kept_groups g first groups old new has keeps = grind (arith, common_steps)
 
 pub frames_are : (g : Geometry) (first : ℕ) (groups : List (List Frame)) (image : Image) → HasGroups g first groups image → frames_on g image ≡ joined groups
 frames_are g first groups image has = ap frames_of has.live ∙ frames_of_groups g groups has.are_groups
@@ -123,9 +110,7 @@ abbrev pub front_of : Bool → List (List Frame) → List Frame
 front_of b groups = cond b (get_or groups 0 []) []
 
 pub joined_parts : (b : Bool) (groups : List (List Frame)) → front_of b groups ++ joined (rest_of b groups) ≡ joined groups
-joined_parts true [] = refl
-joined_parts true (x ∷ groups) = refl
-joined_parts false groups = refl
+joined_parts b groups = grind (arith, common_steps)
 
 -- a group more
 module _ (g : Geometry) (first : ℕ) (groups : List (List Frame)) (frames : List Frame) (old new : Image) (has : HasGroups g first groups old) (own : HasFrames g frames (group frames)) (grown : Grown g (group frames) old new) where
@@ -169,12 +154,7 @@ module _ (cache : FlashCache) (groups : List (List Frame)) (shown : AllTogether 
 
   pub grown_groups : (known : List Known) (frames : List Frame) (old new : Image) (b : Bool) → front_leaves cache ≡ b → HasGroups cache.geometry cache.directory.first groups old → HasFrames cache.geometry frames (group frames) → Grown cache.geometry (group frames) old new
       → HasGroups cache.geometry (pushed b known cache.directory).first (rest_of b groups ++ frames ∷ []) new
-  grown_groups known frames old new true is has own grown =
-      let all = leaves_when cache is in let n = many in
-      grown_full cache.geometry cache.directory.first groups frames old new has own grown (omega (arith, all, n, few)) (omega (arith, all, n, room))
-  grown_groups known frames old new false is has own grown =
-      let less = stays_when cache is in let n = many in
-      grown_behind cache.geometry cache.directory.first groups frames old new has own grown (omega (arith, less, n))
+  grown_groups known frames old new b h h2 h3 h4 = grind (arith, common_steps, leaves_when, many, grown_full, stays_when, grown_behind)
 
 -- a last frame is one of the frames
 pub last_stands : (page : ℕ) (frames : List Frame) (frame : Frame) → last_frame page frames ≡ Some frame → (i : ℕ) × (i < length frames) × (get_or frames i no_frame ≡ frame)
@@ -192,11 +172,7 @@ none_placed : Placed
 none_placed = (0, no_mark)
 
 nothing_staged : (rest chances : List Frame) (contents : List (List ℕ)) → ((page : ℕ) → last_frame page chances ≡ None) → AreStaged [] rest chances [] contents
-nothing_staged rest chances contents out = record {
-  dirty = λ page listed. absurd (let lt = listed.1 in omega (arith, lt));
-  found = λ page frame none last dirty. absurd (none-some frame last);
-  chosen = λ page frame last. absurd (none-some frame (sym (out page) ∙ last));
-}
+nothing_staged rest chances contents out = grind (arith, common_steps, none-some)
 
 no_chances : (given : Bool) (frames : List Frame) (page : ℕ) → last_frame page (frames_at frames (chances_of given [])) ≡ None
 no_chances true frames page = refl
@@ -214,10 +190,7 @@ module _ (given : Bool) (known : List Known) (later : List (List Known)) (frames
 
   -- a frame that stands is the last one of its page
   last_standing : (f : Placed) (page : ℕ) → Stands frames rest f → f.1.page ≡ page → last_frame page (frames ++ joined rest) ≡ Some (get_or frames f.0 no_frame)
-  last_standing f page s same =
-      let none : last_frame page (joined rest) ≡ None = ap (λ (p : ℕ). last_frame p (joined rest)) (sym same) ∙ s.alone in
-      let last : last_frame page frames ≡ Some (get_or frames f.0 no_frame) = ap (λ (p : ℕ). last_frame p frames) (sym same) ∙ s.last in
-      last_of_both page frames (joined rest) ∙ (λ i. option_or (none i) (last i))
+  last_standing f page s same = grind (arith, common_steps, joined, last_of_both)
 
   staged_dirty : (page : ℕ) → Contains (map (λ (f : Placed). f.1.page) marks) page → (frame : Frame) × (last_frame page (frames ++ joined rest) ≡ Some frame) × (frame.dirty ≡ true)
   staged_dirty page listed =
@@ -257,11 +230,7 @@ module _ (given : Bool) (known : List Known) (later : List (List Known)) (frames
 
   -- a second chance has its page's version
   chance_is : (versions disk : ℕ → List ℕ) (f : Placed) → Stands frames rest f → ((page : ℕ) → versions page ≡ version disk (frames ++ joined rest) page) → chance_given versions f ≡ get_or frames f.0 no_frame
-  chance_is versions disk f s are =
-      let x : Frame = get_or frames f.0 no_frame in
-      let page : f.1.page ≡ x.page = sym (last_is_of_page f.1.page frames x s.last) in
-      let octets : versions f.1.page ≡ x.octets = are f.1.page ∙ ap (λ (o : Option Frame). version_by o (disk f.1.page)) (last_standing f f.1.page s refl) in
-      λ i. record { page = page i; dirty = s.dirty i; octets = octets i }
+  chance_is versions disk f s are = grind (arith, common_steps, last_is_of_page, last_standing)
 
   chances_are : (versions disk : ℕ → List ℕ) → ((page : ℕ) → versions page ≡ version disk (frames ++ joined rest) page) → map (chance_given versions) again ≡ frames_at frames again
   chances_are versions disk are =

@@ -1,5 +1,5 @@
 -- What a push keeps and gives, of each image that it leaves and of the cache.
-use Rattle.std.proofs.Common.{◌≡◌, ◌≢◌, inl, inr, ℕ, ◌<◌, ◌≤◌, Bool, true, false, cond, List, [], ◌∷◌, ◌++◌, length, get_or, map, drop, Option, Some, None, arith, refl, sym, ap, subst, ◌∙◌, append_assoc}
+use Rattle.std.proofs.Common.{◌≡◌, ◌≢◌, inl, inr, ℕ, ◌<◌, ◌≤◌, Bool, false, cond, List, [], ◌∷◌, ◌++◌, length, get_or, map, drop, Option, Some, None, arith, refl, sym, ap, subst, ◌∙◌, append_assoc}
 use Rattle.std.specs.List.{AllPairs, Contains}
 use Rattle.std.proofs.lemmas.List.{get_or_default}
 use Rattle.std_lemmas.proofs.AllOf.{all_append}
@@ -35,6 +35,7 @@ use Rattle.flash_cache.proofs.StagedFrames.{frames_at, not_in_groups}
 use Rattle.flash_cache.proofs.PushedVersions.{AreStaged, page_beside, unframed, staged_versions, staged_clean, dropped_version, dropped_clean}
 use Rattle.flash_cache.proofs.PushedImages.{OnlyBefore, Keeps, Grown, front_of, rest_of, joined_parts, joined_more, frames_are, kept_groups, grown_groups, last_stands, are_staged, chances_stored, keeps_by, grown_by, front_only, staging_only, saving_only}
 use Rattle.flash_cache.proofs.Segments.{groups_are, saved_front, saved_behind, with_pushed}
+use Rattle.std.proofs.lemmas.Grind.{common_steps}
 
 -- a page without a frame
 pub unframed_is_disk : UnframedIsDisk
@@ -52,11 +53,7 @@ module _ (pages : List ℕ) (changed : List Bool) (contents : List (List ℕ)) (
   at k lt = given_at pages changed contents k no_frame marks lists lt
 
   given_last : (k : ℕ) → k < length pages → last_frame (get_or pages k 0) frames ≡ Some (get_or frames k no_frame)
-  given_last k lt =
-      let long = length-given pages changed contents marks lists in
-      last_by_index (get_or pages k 0) frames k no_frame (omega (arith, lt, long)) (ap (λ (f : Frame). f.page) (at k lt)) (λ j above below same.
-      let low : j < length pages = omega (arith, below, long) in
-      differ k j 0 above low (sym (sym (ap (λ (f : Frame). f.page) (at j low)) ∙ same)))
+  given_last k lt = grind (arith, common_steps, length-given, last_by_index, at)
 
   given_none : (page : ℕ) → (Contains pages page → ⊥) → last_frame page frames ≡ None
   given_none page out =
@@ -184,11 +181,7 @@ together_more R (a ∷ as') [] x y all r = absurd all
 together_more R (a ∷ as') (b ∷ bs) x y all r = (all.0, together_more R as' bs x y all.1 r)
 
 together_behind : {A B : Type 0} (R : A → B → Type 0) (b : Bool) (xs : List A) (ys : List B) → AllTogether R xs ys → AllTogether R (cond b (drop 1 xs) xs) (cond b (drop 1 ys) ys)
-together_behind R false xs ys all = all
-together_behind R true [] [] all = tt
-together_behind R true [] (y ∷ ys) all = absurd all
-together_behind R true (x ∷ xs) [] all = absurd all
-together_behind R true (x ∷ xs) (y ∷ ys) all = all.1
+together_behind R b xs ys h = grind (arith, common_steps)
 
 given_shown : (pages : List ℕ) (changed : List Bool) (contents : List (List ℕ)) → length changed ≡ length pages → length contents ≡ length pages → AllTogether Shows (known_given pages changed) (frames_given pages changed contents)
 given_shown [] changed contents marks lists = tt

@@ -1,5 +1,5 @@
 -- What a push makes of the versions of pages.
-use Rattle.std.proofs.Common.{◌≡◌, ◌≢◌, inl, inr, ℕ, ◌+◌, ◌*◌, ◌<◌, ◌≤◌, true, false, true≢false, List, [], ◌++◌, length, get_or, drop, Option, Some, None, arith, refl, sym, ap, subst, ◌∙◌}
+use Rattle.std.proofs.Common.{◌≡◌, ◌≢◌, ℕ, ◌+◌, ◌*◌, ◌<◌, ◌≤◌, true, false, true≢false, List, [], ◌++◌, length, get_or, drop, Option, Some, None, arith, refl, sym, ap, subst, ◌∙◌}
 use Rattle.std.specs.List.{Contains}
 use Rattle.std.specs.Option.{option_or}
 use Rattle.std.proofs.lemmas.Bool.{cases_order}
@@ -10,6 +10,7 @@ use Rattle.stage_out.specs.Staged.{IsBesideAll}
 use Rattle.frame_group.specs.Groups.{Frame}
 use Rattle.frame_group.specs.Versions.{last_frame, version, version_by, CleanAsDisk}
 use Rattle.frame_group.proofs.LastFrames.{last_of_both, drop_keeps_version, drop_keeps_clean, push_keeps_clean}
+use Rattle.std.proofs.lemmas.Grind.{common_steps}
 
 -- the octets of a disk beside some pages are as they were
 pub record IsBeside (pages : List ℕ) (old new : List ℕ) : Type 0 where
@@ -33,13 +34,7 @@ size_is page old new size =
     omega (arith, a, b, c, e, size)
 
 pub apart : (page other place : ℕ) → other ≢ page → 4096 * page ≤ place → place < 4096 * page + 4096 → IsBesidePage other place
-apart page other place ne from below = elim (cases_order page other) [
-  | inl same ↦ absurd (ne (sym same))
-  | inr rest ↦ elim rest [
-    | inl less ↦ inl (omega (arith, below, less))
-    | inr more ↦ inr (omega (arith, from, more))
-  ]
-]
+apart page other place ne from below = grind (arith, common_steps, cases_order)
 
 pub page_beside : (pages : List ℕ) (old new : List ℕ) (page : ℕ) → IsBeside pages old new → (Contains pages page → ⊥) → page_on page new ≡ page_on page old
 page_beside pages old new page is out =
@@ -79,11 +74,7 @@ module _ (front rest chances : List Frame) (pages : List ℕ) (contents : List (
       true≢false (sym d.2 ∙ ap (λ (f : Frame). f.dirty) (sym is) ∙ clean)
 
   pub staged_versions : (page : ℕ) → version new frames page ≡ version old frames page
-  staged_versions page = by (last_frame page frames) refl
-    where
-      by : (o : Option Frame) → last_frame page frames ≡ o → version_by o (new page) ≡ version_by o (old page)
-      by None none = same page (unframed page none)
-      by (Some x) is = refl
+  staged_versions page = grind (arith, common_steps, unframed)
 
   pub staged_clean : CleanAsDisk old frames → CleanAsDisk new frames
   staged_clean before page frame last clean = before page frame last clean ∙ sym (same page (undirty page frame last clean))

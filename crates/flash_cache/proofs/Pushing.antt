@@ -1,5 +1,5 @@
 -- The cache behind an append of a group.
-use Rattle.std.proofs.Common.{◌≡◌, ℕ, ◌+◌, ◌-◌, ◌*◌, ◌<◌, ◌≤◌, Bool, true, false, List, [], ◌∷◌, ◌++◌, length, drop, arith, refl, sym, ap, subst, ◌∙◌}
+use Rattle.std.proofs.Common.{◌≡◌, ℕ, ◌+◌, ◌-◌, ◌*◌, ◌<◌, ◌≤◌, Bool, true, false, List, length, arith, refl, sym, ap, subst, ◌∙◌}
 use Rattle.std.specs.Prelude.{IsTrue, ◌↔◌}
 use Rattle.std.specs.List.{AllByRecursion}
 use Rattle.std.proofs.lemmas.Bool.{leb-true, leb-false, le-leb, eqb-false}
@@ -29,6 +29,7 @@ use Rattle.flash_cache.specs.Pushed.{front_leaves, pushed_queue}
 use Rattle.flash_cache.proofs.Standing.{rings_later, exist_in}
 use Rattle.site.proofs.Working.{lengths_later}
 use Rattle.sealed_ring.proofs.Stays.{usable_later}
+use Rattle.std.proofs.lemmas.Grind.{common_steps}
 
 -- nothing but counts of the ring's device changed, as far as the cache knows
 pub goes_on_same : (cache : FlashCache) (ring : Ring) (queue : Queue) (old new : State) → Invariant cache old → Preserves old new → ring.shape ≡ cache.ring.shape → ring.hi ≡ cache.ring.hi → queue ≡ cache.directory
@@ -66,12 +67,7 @@ pub stays_when : (cache : FlashCache) → front_leaves cache ≡ false → lengt
 stays_when cache is = leb-false (cache.geometry.groups - 1) (length cache.directory.groups) is
 
 pub full_is : (cache : FlashCache) (full : Bool) → length cache.directory.groups < cache.geometry.groups → (IsTrue full ↔ (length cache.directory.groups + 1 ≡ cache.geometry.groups)) → full ≡ front_leaves cache
-full_is cache true few iff = let all = iff.0 refl in sym (le-leb (cache.geometry.groups - 1) (length cache.directory.groups) (omega (arith, all)))
-full_is cache false few iff = by (front_leaves cache) refl
-  where
-    by : (b : Bool) → front_leaves cache ≡ b → false ≡ front_leaves cache
-    by true is = absurd (let all = leaves_when cache is in let full : false ≡ true = iff.1 (omega (arith, all, few)) in cc)
-    by false is = sym is
+full_is cache full h h2 = grind (arith, common_steps, le-leb, leaves_when)
 
 -- what a push makes of the queue
 
@@ -80,24 +76,13 @@ module _ (cache : FlashCache) (group : List Known) (few : length cache.directory
   queue b = pushed b group cache.directory
 
   pub pushed_next : (b : Bool) → front_leaves cache ≡ b → (queue b).first + length (queue b).groups ≡ cache.directory.first + length cache.directory.groups + 1
-  pushed_next true is = let all = leaves_when cache is in by cache.directory.groups (omega (arith, all, room))
-    where
-      by : (groups : List (List Known)) → 0 < length groups → (cache.directory.first + 1) + length (drop 1 groups ++ group ∷ []) ≡ cache.directory.first + length groups + 1
-      by [] some = absurd (omega (arith, some))
-      by (g ∷ groups) some = let long = length-append groups (group ∷ []) in omega (arith, long)
-  pushed_next false is = let long = length-append cache.directory.groups (group ∷ []) in omega (arith, long)
+  pushed_next b h = grind (arith, common_steps, leaves_when, length-append)
 
   pub pushed_few : (b : Bool) → front_leaves cache ≡ b → length (queue b).groups < cache.geometry.groups
-  pushed_few true is = let all = leaves_when cache is in by cache.directory.groups few (omega (arith, all, room))
-    where
-      by : (groups : List (List Known)) → length groups < cache.geometry.groups → 0 < length groups → length (drop 1 groups ++ group ∷ []) < cache.geometry.groups
-      by [] few some = absurd (omega (arith, some))
-      by (g ∷ groups) few some = let long = length-append groups (group ∷ []) in omega (arith, long, few)
-  pushed_few false is = let less = stays_when cache is in let long = length-append cache.directory.groups (group ∷ []) in omega (arith, long, less)
+  pushed_few b h = grind (arith, common_steps, leaves_when, length-append, stays_when)
 
   pub pushed_all : (P : List Known → Type 0) (b : Bool) → AllByRecursion P cache.directory.groups → P group → AllByRecursion P (queue b).groups
-  pushed_all P true all own = all_push P (drop 1 cache.directory.groups) group (all_drop P 1 cache.directory.groups all) own
-  pushed_all P false all own = all_push P cache.directory.groups group all own
+  pushed_all P b h h2 = grind (arith, common_steps, all_push, all_drop)
 
 -- where no segment is due there is room for a group behind the segments
 pub none_is_due : (cache : FlashCache) → is_due cache.ring.hi cache.segments.hi ≡ false → cache.ring.hi ≤ 4 * cache.segments.hi + 4 → cache.ring.hi < 4 * cache.segments.hi + 4
@@ -131,10 +116,7 @@ goes_on_pushed cache heads ring queue old new going goes are exist shape hi usab
 -- the ring of a cache that fits
 
 pub ring_found : (cache : FlashCache) (site : State) → cache.ring.shape ≡ group_shape cache.geometry → Matches cache site → Finds cache.ring site
-ring_found cache site shape fits = record {
-  form = subst (λ (s : Shape). IsRing s (region s site)) (sym shape) fits.form;
-  hi = fits.hi ∙ ap (λ (s : Shape). hi_of s (region s site)) (sym shape);
-}
+ring_found cache site shape fits = grind (arith, common_steps)
 
 -- what an append to it has done
 pub append_is : (cache : FlashCache) (ring : Ring) (content : List ℕ) (old new : State) → Invariant cache old → length content ≡ 32896 → Preserves old new → ring.shape ≡ cache.ring.shape → IsReady ring new

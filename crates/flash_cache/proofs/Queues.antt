@@ -1,9 +1,9 @@
 -- The directory's frames and those on flash.
 use Rattle.std.proofs.Common.{◌≡◌, ℕ, zero, suc, ◌+◌, ◌<◌, ◌==◌, Bool, true, false, cond, List, [], ◌∷◌, ◌++◌, length, get_or, map, Option, Some, None, option_map, add-one, arith, refl, sym, ap, ◌∙◌}
 use Rattle.std.specs.Option.{option_or}
-use Rattle.std.specs.Prelude.{flat_map, Result, Err, IsErrOf}
+use Rattle.std.specs.Prelude.{Result, Err, IsErrOf}
 use Rattle.std.specs.List.{AllByRecursion}
-use Rattle.frame_group.specs.Groups.{Frame, group, frames_in}
+use Rattle.frame_group.specs.Groups.{Frame, group}
 use Rattle.frame_group.specs.Versions.{frames_of, last_frame}
 use Rattle.frame_group.proofs.LastFrames.{last_of_both}
 use Rattle.frame_group.proofs.Contents.{frames_are_in}
@@ -12,19 +12,13 @@ use Rattle.second_chance.specs.Queue.{group_read, groups_read}
 use Rattle.flash_directory.specs.Heads.{last_in, last_place, in_first, in_next}
 use Rattle.flash_cache.specs.Representation.{Shows, AllTogether, HasFrames}
 use Rattle.site.specs.declared.geometry.Geometry.{Geometry}
+use Rattle.std.proofs.lemmas.Grind.{common_steps}
 
 -- the last frame of a page in a group
 
 last_in-next : (n : ℕ) (known : List Known) (page : ℕ) → last_in (n + 1) known page ≡ option_map (λ i. i + 1) (last_in n known page)
 last_in-next n [] page = refl
-last_in-next n (frame ∷ known) page =
-    ap (λ o. option_or o (cond (frame.page == page) (Some (n + 1)) None)) (last_in-next (n + 1) known page)
-    ∙ both (last_in (n + 1) known page) (frame.page == page)
-  where
-    both : (o : Option ℕ) (b : Bool) → option_or (option_map (λ i. i + 1) o) (cond b (Some (n + 1)) None) ≡ option_map (λ i. i + 1) (option_or o (cond b (Some n) None))
-    both None true = refl
-    both None false = refl
-    both (Some i) b = refl
+last_in-next n (frame ∷ known) page = grind (arith, common_steps, (last_in-next (n + 1) known page))
 
 pub last_in_frames : (known : List Known) (frames : List Frame) (page : ℕ) (d : Frame) → AllTogether Shows known frames → last_frame page frames ≡ option_map (λ i. get_or frames i d) (last_in 0 known page)
 last_in_frames [] [] page d shown = refl
@@ -103,9 +97,7 @@ exist_read pages page (k ∷ ks) all = (exist_in_group pages page k ks all.0, ex
 
 pub frames_of_groups : (g : Geometry) (groups : List (List Frame)) → AllByRecursion (λ frames. HasFrames g frames (group frames)) groups → frames_of (map group groups) ≡ joined groups
 frames_of_groups g [] all = refl
-frames_of_groups g (frames ∷ groups) all =
-    ap (λ (l : List Frame). l ++ flat_map frames_in (map group groups)) (frames_are_in (group frames) frames all.0.is_group)
-    ∙ ap (λ (l : List Frame). frames ++ l) (frames_of_groups g groups all.1)
+frames_of_groups g (frames ∷ groups) all = grind (arith, common_steps, frames_are_in, (frames_of_groups g groups all.1))
 
 pub has_at : (g : Geometry) (groups : List (List Frame)) (k : ℕ) → AllByRecursion (λ frames. HasFrames g frames (group frames)) groups → k < length groups → HasFrames g (get_or groups k []) (group (get_or groups k []))
 has_at g [] k all lt = absurd (omega (arith, lt))

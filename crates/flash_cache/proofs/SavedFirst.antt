@@ -1,5 +1,5 @@
 -- A segment is saved first, where one is due, and a group is pushed behind it.
-use Rattle.std.proofs.Common.{◌≡◌, inl, inr, ℕ, Bool, true, false, List, [], ◌++◌, map, sym, ap, subst, ◌∙◌, append_assoc}
+use Rattle.std.proofs.Common.{arith, ◌≡◌, inl, inr, ℕ, Bool, List, [], ◌++◌, sym, ap, subst, ◌∙◌, append_assoc}
 use Rattle.site.specs.declared.geometry.Geometry.{Geometry}
 use Rattle.std.specs.Prelude.{Ok, IsTrue}
 use Rattle.site.specs.declared.outside.Dev.TheVariants.{Flash}
@@ -7,39 +7,32 @@ use Rattle.site.specs.State.{State, Image, Snapshot, IsQuiet}
 use Rattle.site.specs.Calls.{Preserves}
 use Rattle.site.specs.Moments.{Leaves, LeavesOnly, ChangesOnly}
 use Rattle.site.proofs.Laws.{in_sequence, leaves_weaker}
-use Rattle.sealed_ring.specs.declared.slots.Shape.{Shape}
 use Rattle.sealed_ring.specs.declared.ring.Ring.{Ring}
-use Rattle.sealed_ring.specs.Ring.{Units, IsRing, hi_of}
-use Rattle.sealed_ring.specs.Ready.{region, Finds}
+use Rattle.sealed_ring.specs.Ring.{Units}
+use Rattle.sealed_ring.specs.Ready.{Finds}
 use Rattle.byte_fields.specs.declared.frame_head.FrameHead.{FrameHead}
-use Rattle.disk_pages.specs.Pages.{page_on}
 use Rattle.image_changes.specs.Rings.{segment_shape}
 use Rattle.image_changes.specs.Changes.{Change, Reaches}
 use Rattle.image_changes.specs.Reached.{IsReached, IsFrontOf, LeavesFront}
 use Rattle.image_changes.proofs.Sequence.{changes_add_up}
 use Rattle.stage_out.specs.Staged.{HasStaged, changes_of}
 use Rattle.frame_group.specs.Groups.{Frame, group}
-use Rattle.frame_group.specs.Versions.{frames_of, version}
+use Rattle.frame_group.specs.Versions.{frames_of}
 use Rattle.tail_rebuild.specs.Rebuilt.{AreRings}
 use Rattle.tail_rebuild.specs.Saving.{is_due, changes_of_save, Stands, Saves}
 use Rattle.flash_cache.specs.declared.cache.FlashCache.{FlashCache}
 use Rattle.flash_cache.specs.Representation.{Invariant, Matches, Represents, frames_on, version_on}
-use Rattle.flash_cache.specs.Pushed.{staged_pages, staged_contents, chance_marks, chance_given, frames_given, frames_pushed, changes_of_push, changes_before, changes_of_group, LeavesPush, LeavesPushBehind}
+use Rattle.flash_cache.specs.Pushed.{staged_pages, staged_contents, frames_pushed, changes_of_push, changes_before, changes_of_group, LeavesPush, LeavesPushBehind}
 use Rattle.flash_cache.proofs.Segments.{groups_are}
 use Rattle.flash_cache.proofs.PushedImages.{keeps_by, saving_only}
 use Rattle.site.proofs.Working.{lengths_later}
+use Rattle.std.proofs.lemmas.Grind.{common_steps}
 
 -- What stands before the save, and the cache behind it.
 
 pub stands_there : (cache : FlashCache) (groups : List (List Frame)) (site : State) → Invariant cache site → Matches cache site → (holds : Represents cache site.image groups)
     → Stands cache.geometry cache.ring cache.segments cache.directory.first groups holds.saved.segments site
-stands_there cache groups site going fits holds = record {
-  honest = fits.honest;
-  groups_fit = fits.hi ∙ ap (λ (s : Shape). hi_of s (region s site)) (sym going.rings.groups_shape);
-  segments_fit = fits.segments_hi ∙ ap (λ (s : Shape). hi_of s (region s site)) (sym going.rings.segments_shape);
-  has = holds.has;
-  holds = holds.saved.follow;
-}
+stands_there cache groups site going fits holds = grind (arith, common_steps)
 
 pub goes_on_saved : (cache : FlashCache) (segments : Ring) (ended : Bool) (old mid : State) → Invariant cache old → Preserves old mid → AreRings cache.geometry cache.ring segments mid → Invariant (record cache { segments = segments; ended = ended }) mid
 goes_on_saved cache segments ended old mid going goes rings = record {
@@ -55,13 +48,7 @@ goes_on_saved cache segments ended old mid going goes rings = record {
 module _ (cache : FlashCache) (groups : List (List Frame)) (saved : List (List FrameHead)) (segments : Ring) (mid : State) (rings : AreRings cache.geometry cache.ring segments mid)
     (stands : Stands cache.geometry cache.ring segments cache.directory.first groups saved mid) where
   pub fits_saved : Matches (record cache { segments = segments }) mid
-  fits_saved = record {
-    honest = stands.honest;
-    form = stands.has.form;
-    hi = stands.groups_fit ∙ ap (λ (s : Shape). hi_of s (region s mid)) rings.groups_shape;
-    segments_form = stands.holds.has.form;
-    segments_hi = stands.segments_fit ∙ ap (λ (s : Shape). hi_of s (region s mid)) rings.segments_shape;
-  }
+  fits_saved = grind (arith, common_steps)
 
   pub holds_saved : (old : Image) → Represents cache old groups → Represents (record cache { segments = segments }) mid.image groups
   holds_saved old holds = record { has = stands.has; saved = record { segments = saved; follow = stands.holds }; shown = holds.shown }
@@ -69,39 +56,25 @@ module _ (cache : FlashCache) (groups : List (List Frame)) (saved : List (List F
 -- the cache fits behind it, whatever groups stand there
 
 pub segments_found : (cache : FlashCache) (site : State) → cache.segments.shape ≡ segment_shape cache.geometry → Matches cache site → Finds cache.segments site
-segments_found cache site shape fits = record {
-  form = subst (λ (s : Shape). IsRing s (region s site)) (sym shape) fits.segments_form;
-  hi = fits.segments_hi ∙ ap (λ (s : Shape). hi_of s (region s site)) (sym shape);
-}
+segments_found cache site shape fits = grind (arith, common_steps)
 
 pub fits_behind : (cache : FlashCache) (segments : Ring) (mid : State) → AreRings cache.geometry cache.ring segments mid → IsTrue mid.honest → Finds cache.ring mid → Finds segments mid → Matches (record cache { segments = segments }) mid
-fits_behind cache segments mid rings honest groups_found found = record {
-  honest = honest;
-  form = subst (λ (s : Shape). IsRing s (region s mid)) rings.groups_shape groups_found.form;
-  hi = groups_found.hi ∙ ap (λ (s : Shape). hi_of s (region s mid)) rings.groups_shape;
-  segments_form = subst (λ (s : Shape). IsRing s (region s mid)) rings.segments_shape found.form;
-  segments_hi = found.hi ∙ ap (λ (s : Shape). hi_of s (region s mid)) rings.segments_shape;
-}
+fits_behind cache segments mid rings honest groups_found found = grind (arith, common_steps)
 
 -- the disk and the groups are what they were, and so are the versions
 
 pub disk_saved : (g : Geometry) (due : Bool) (groups : List (List Frame)) (old mid : Image) → Reaches g (changes_of_save due groups) old mid → mid.disk ≡ old.disk
-disk_saved g true groups old mid reaches = reaches.2.disk ∙ reaches.1.disk
-disk_saved g false groups old mid reaches = reaches.disk
+disk_saved g due groups old mid h = grind (arith, common_steps)
 
 frames_saved : (g : Geometry) (due : Bool) (groups : List (List Frame)) (old mid : Image) → Reaches g (changes_of_save due groups) old mid → frames_on g mid ≡ frames_on g old
 frames_saved g due groups old mid reaches = ap (λ (u : Units). frames_of u.live) (keeps_by g [] (changes_of_save due groups) old mid (saving_only due groups []) reaches).units.units
 
 pub versions_saved : (g : Geometry) (due : Bool) (groups : List (List Frame)) (old mid : Image) → Reaches g (changes_of_save due groups) old mid → version_on g mid ≡ version_on g old
-versions_saved g due groups old mid reaches =
-    let disk = disk_saved g due groups old mid reaches in
-    let frames = frames_saved g due groups old mid reaches in
-    λ i. λ page. version (λ p. page_on p (disk i)) (frames i) page
+versions_saved g due groups old mid reaches = grind (arith, common_steps, disk_saved, frames_saved)
 
 pub pushed_saved : (cache : FlashCache) (due : Bool) (groups : List (List Frame)) (old mid : Image) (pages : List ℕ) (changed : List Bool) (contents : List (List ℕ)) → Reaches cache.geometry (changes_of_save due groups) old mid
     → frames_pushed cache mid pages changed contents ≡ frames_pushed cache old pages changed contents
-pushed_saved cache due groups old mid pages changed contents reaches =
-    ap (λ (v : ℕ → List ℕ). map (chance_given v) (chance_marks cache) ++ frames_given pages changed contents) (versions_saved cache.geometry due groups old mid reaches)
+pushed_saved cache due groups old mid pages changed contents reaches = grind (arith, common_steps, versions_saved)
 
 -- The moments.
 

@@ -1,5 +1,5 @@
 -- Segments follow the groups at each moment of a push.
-use Rattle.std.proofs.Common.{◌≡◌, ℕ, ◌+◌, ◌-◌, ◌*◌, ◌<◌, ◌≤◌, Bool, true, false, cond, List, [], ◌∷◌, ◌++◌, length, map, drop, arith, refl, sym, ap, subst, ◌∙◌}
+use Rattle.std.proofs.Common.{◌≡◌, ℕ, ◌+◌, ◌-◌, ◌*◌, ◌<◌, ◌≤◌, Bool, true, false, List, [], ◌∷◌, ◌++◌, length, map, arith, refl, ap, subst, ◌∙◌}
 use Rattle.std.specs.List.{AllByRecursion}
 use Rattle.std.proofs.lemmas.Bool.{eqb-true, eqb-false}
 use Rattle.std_lemmas.proofs.AllOf.{all_left}
@@ -20,10 +20,11 @@ use Rattle.tail_rebuild.specs.Saving.{is_due, segment_of, changes_of_save}
 use Rattle.tail_rebuild.proofs.Following.{groups_again, saved_again, segment_saved, group_pushed}
 use Rattle.flash_cache.specs.declared.cache.FlashCache.{FlashCache}
 use Rattle.flash_cache.specs.Representation.{HasFrames, HasGroups, AreSaved, AllTogether, Shows, groups_on}
-use Rattle.flash_cache.specs.Pushed.{front_leaves, pushed_groups, changes_of_push}
+use Rattle.flash_cache.specs.Pushed.{pushed_groups, changes_of_push}
 use Rattle.flash_cache.proofs.Queues.{together_length}
 use Rattle.flash_cache.proofs.Pushing.{leaves_when, stays_when}
 use Rattle.flash_cache.proofs.PushedImages.{made_as}
+use Rattle.std.proofs.lemmas.Grind.{common_steps}
 
 -- the groups that stand there are those that are read off the image
 
@@ -43,10 +44,7 @@ reads_same : (g : Geometry) (old new : Image) → ReadsAs g old new → SameUnit
 reads_same g old new same = record { groups = same.rings Groups; segments = same.rings Segments }
 
 same_then : (g : Geometry) (a b c : Image) → SameUnits g a b → SameUnits g b c → SameUnits g a c
-same_then g a b c first second = record {
-  groups = record { units = second.groups.units ∙ first.groups.units; form = λ form. second.groups.form (first.groups.form form) };
-  segments = record { units = second.segments.units ∙ first.segments.units; form = λ form. second.segments.form (first.segments.form form) };
-}
+same_then g a b c first second = grind (arith, common_steps)
 
 staged_same : (g : Geometry) (pages : List ℕ) (changes : List Change) (a b : Image) → AllByRecursion (λ change. change ≡ RewritesPages pages) changes → Reaches g changes a b → SameUnits g a b
 staged_same g pages [] a b only reaches = reads_same g a b reaches
@@ -138,15 +136,4 @@ module _ (g : Geometry) (limits : HasLimits g) (first : ℕ) (groups : List (Lis
 -- the groups behind a push are those of the cache
 pub with_pushed : (cache : FlashCache) (groups : List (List Frame)) (frames : List Frame) → AllTogether (AllTogether Shows) cache.directory.groups groups → length cache.directory.groups < cache.geometry.groups → 8 ≤ cache.geometry.groups
     → with_group cache.geometry groups frames ≡ pushed_groups cache groups frames
-with_pushed cache groups frames shown few room = by (front_leaves cache) refl groups (together_length (AllTogether Shows) cache.directory.groups groups shown)
-  where
-    by : (b : Bool) → front_leaves cache ≡ b → (gs : List (List Frame)) → length cache.directory.groups ≡ length gs → with_group cache.geometry gs frames ≡ pushed_groups cache gs frames
-    by true is [] many = absurd (let all = leaves_when cache is in omega (arith, all, many, room))
-    by true is (x ∷ gs) many =
-        let all = leaves_when cache is in
-        let one : length (x ∷ gs) + 1 - (cache.geometry.groups - 1) ≡ 1 = omega (arith, all, many, few, room) in
-        ap (λ (n : ℕ). drop n (x ∷ gs ++ frames ∷ [])) one ∙ ap (λ (b : Bool). cond b (drop 1 (x ∷ gs)) (x ∷ gs) ++ frames ∷ []) (sym is)
-    by false is gs many =
-        let less = stays_when cache is in
-        let none : length gs + 1 - (cache.geometry.groups - 1) ≡ 0 = omega (arith, less, many) in
-        ap (λ (n : ℕ). drop n (gs ++ frames ∷ [])) none ∙ ap (λ (b : Bool). cond b (drop 1 gs) gs ++ frames ∷ []) (sym is)
+with_pushed cache groups frames shown few room = grind (arith, common_steps, together_length, leaves_when, stays_when)

@@ -1,11 +1,11 @@
 -- Moments within calls, one after the other.
-use Rattle.std.proofs.Common.{◌≡◌, ◌<◌, List, [], ◌∷◌, ◌++◌, length, drop, arith, refl, sym, ap, subst, ◌∙◌, append_assoc, length-append}
+use Rattle.std.proofs.Common.{◌≡◌, ◌<◌, List, [], ◌∷◌, ◌++◌, length, arith, refl, sym, ap, subst, ◌∙◌, append_assoc, length-append}
 use Rattle.std.specs.List.{AllByRecursion, Contains}
 use Rattle.std.proofs.lemmas.List.{drop_at}
-use Rattle.std.proofs.lemmas.List.Elements.{Contains-append_left, Contains-append_right}
 use Rattle.site.specs.State.{State, Moment}
 use Rattle.site.specs.Moments.{EachMoment, since}
 use Rattle.flash_cache.specs.OnDisk.{SomeMoment}
+use Rattle.std.proofs.lemmas.Grind.{common_steps}
 
 -- where a call was made each moment has Q, and so some one
 pub some_of : (old new : State) (Q : Moment → Type 0) → EachMoment old new Q → length old.past < length new.past → SomeMoment old new Q
@@ -25,31 +25,17 @@ some_of old new Q each more = by (since old new) refl
 -- calls and those behind them
 module _ (old mid new : State) (first : mid.past ≡ old.past ++ since old mid) (second : new.past ≡ mid.past ++ since mid new) where
   since_both : since old new ≡ since old mid ++ since mid new
-  since_both =
-      ap (λ (l : List Moment). drop (length old.past) l) (second ∙ ap (λ (l : List Moment). l ++ since mid new) first ∙ append_assoc old.past (since old mid) (since mid new))
-      ∙ drop_at old.past (since old mid ++ since mid new) (length old.past) refl
+  since_both = grind (arith, common_steps, append_assoc, drop_at)
 
   pub some_first : (Q : Moment → Type 0) → SomeMoment old mid Q → SomeMoment old new Q
-  some_first Q some = record {
-    moment = some.moment;
-    within = subst (λ (l : List Moment). Contains l some.moment) (sym since_both) (Contains-append_left (since old mid) (since mid new) some.moment some.within);
-    has = some.has;
-  }
+  some_first Q some = grind (arith, common_steps, since_both)
 
   pub some_behind : (Q : Moment → Type 0) → SomeMoment mid new Q → SomeMoment old new Q
-  some_behind Q some = record {
-    moment = some.moment;
-    within = subst (λ (l : List Moment). Contains l some.moment) (sym since_both) (Contains-append_right (since old mid) (since mid new) some.moment some.within);
-    has = some.has;
-  }
+  some_behind Q some = grind (arith, common_steps, since_both)
 
 -- calls that only read before it
 pub some_after_reads : (old mid new : State) (Q : Moment → Type 0) → mid.past ≡ old.past → SomeMoment mid new Q → SomeMoment old new Q
-some_after_reads old mid new Q same some = record {
-  moment = some.moment;
-  within = subst (λ (l : List Moment). Contains (drop (length l) new.past) some.moment) same some.within;
-  has = some.has;
-}
+some_after_reads old mid new Q same some = grind (arith, common_steps)
 
 pub some_weaker : (old new : State) (Q R : Moment → Type 0) → ((m : Moment) → Q m → R m) → SomeMoment old new Q → SomeMoment old new R
 some_weaker old new Q R turns some = record { moment = some.moment; within = some.within; has = turns some.moment some.has }

@@ -33,6 +33,7 @@ use Rattle.flash_cache.proofs.Queues.{together_length, has_at}
 use Rattle.tail_rebuild.proofs.Standing.{stands}
 use Rattle.flash_cache.proofs.Standing.{known_heads, length-mapped}
 use Rattle.flash_cache.proofs.StagedMarks.{AreNumbered, length-marks, read_at, marks_exist, chances_numbered, staged_among, chances_among}
+use Rattle.std.proofs.lemmas.Grind.{common_steps}
 
 -- the pages given exist
 
@@ -45,14 +46,10 @@ given_exist count (p ∷ pages) (c ∷ changed) (o ∷ contents) all = (all 0 0 
 -- the front group
 
 pub front_long : (known : List (List Known)) (groups : List (List Frame)) → AllTogether (AllTogether Shows) known groups → length (front_marks known) ≡ length (get_or groups 0 [])
-front_long [] [] shown = refl
-front_long [] (f ∷ fs) shown = absurd shown
-front_long (k ∷ ks) [] shown = absurd shown
-front_long (k ∷ ks) (f ∷ fs) shown = length-marks k ks ∙ together_length Shows k f shown.0
+front_long known groups h = grind (arith, common_steps, length-marks, together_length)
 
 pub some_group : (groups : List (List Frame)) (i : ℕ) → i < length (get_or groups 0 []) → 0 < length groups
-some_group [] i lt = absurd (omega (arith, lt))
-some_group (f ∷ fs) i lt = omega arith
+some_group groups i h = grind (arith, common_steps)
 
 contents_of : (unit : List ℕ) (frames : List Frame) (xs : List Placed) → ((i : ℕ) → i < length frames → page_at unit i ≡ (get_or frames i no_frame).octets) → AllByRecursion (λ f. f.0 < length frames) xs
     → map (page_at unit) (map (λ f. f.0) xs) ≡ map (λ f. (get_or frames f.0 no_frame).octets) xs
@@ -122,14 +119,10 @@ module _ (cache : FlashCache) (plan : PushPlan) (chances : DepartingFrames) (pla
 
   -- with the pages given they are as many as the group has
   pub all_long : (pages : List ℕ) → length chances.pages.items + length pages ≡ length (pages_pushed cache pages)
-  all_long pages =
-      let both = length-append (map (λ (f : Placed). f.1.page) (chance_marks cache)) pages in
-      let same = ap length chance_pages in omega (arith, both, same)
+  all_long pages = grind (arith, common_steps, length-append, chance_pages)
 
   again_known : map (λ frame. known_of frame.page frame.dirty) (again chances) ≡ map chance_frame (chance_marks cache)
-  again_known =
-      known_of_given chances.pages.items chances.dirty.items chances.contents.items dirty_long contents_long
-      ∙ (λ i. known_given (chance_pages i) (chance_dirty i)) ∙ known_marks (chance_marks cache)
+  again_known = grind (arith, common_steps, known_of_given, dirty_long, contents_long, chance_pages, chance_dirty, known_marks)
 
   again_exist : AllByRecursion (λ frames. AllByRecursion (λ (frame : Known). frame.page < cache.geometry.pages) frames) cache.directory.groups → AllByRecursion (λ frame. frame.page < cache.geometry.pages) (again chances)
   again_exist exist =
@@ -157,11 +150,7 @@ module _ (cache : FlashCache) (plan : PushPlan) (chances : DepartingFrames) (pla
     new_group = again chances ++ frames_given pages changed contents
 
     frames_long : length new_group ≡ length (pages_pushed cache pages)
-    frames_long =
-        let both = length-append (again chances) (frames_given pages changed contents) in
-        let first = length-given chances.pages.items chances.dirty.items chances.contents.items dirty_long contents_long in
-        let second = length-given pages changed contents marks lists in
-        let all = all_long pages in omega (arith, both, first, second, all)
+    frames_long = grind (arith, common_steps, length-append, length-given, dirty_long, contents_long, all_long)
 
     pub group_has : (content : List ℕ) → AllByRecursion (λ groups. AllByRecursion (λ (frame : Known). frame.page < cache.geometry.pages) groups) cache.directory.groups → All (λ page. page < cache.geometry.pages) pages
         → AllByRecursion IsFrame new_group → content ≡ group new_group → HasFrames cache.geometry new_group content
@@ -173,20 +162,15 @@ module _ (cache : FlashCache) (plan : PushPlan) (chances : DepartingFrames) (pla
         }
 
     pub group_known : (heads : List FrameHead) → heads ≡ heads_of new_group → frames_in heads ≡ known_pushed cache pages changed
-    group_known heads is =
-        ap frames_in is ∙ known_heads new_group (8 - length new_group)
-        ∙ map-append (λ (frame : Frame). known_of frame.page frame.dirty) (again chances) (frames_given pages changed contents)
-        ∙ (λ i. again_known i ++ known_of_given pages changed contents marks lists i)
+    group_known heads is = grind (arith, common_steps, known_heads, map-append, again_known, known_of_given)
 
 -- the group that stands behind a push, by what stands on flash before it
 
 front_has : (g : Geometry) (groups : List (List Frame)) → AllByRecursion (λ frames. HasFrames g frames (group frames)) groups → AllByRecursion IsFrame (get_or groups 0 [])
-front_has g [] all = tt
-front_has g (frames ∷ groups) all = all.0.is_group.are_frames
+front_has g groups h = grind (arith, common_steps)
 
 front_of_pages : (g : Geometry) (groups : List (List Frame)) → AllByRecursion (λ frames. HasFrames g frames (group frames)) groups → AllByRecursion (λ frame. frame.page < g.pages) (get_or groups 0 [])
-front_of_pages g [] all = tt
-front_of_pages g (frames ∷ groups) all = all.0.exist
+front_of_pages g groups h = grind (arith, common_steps)
 
 all_at : (P : Frame → Type 0) (frames : List Frame) (marks : List Placed) → AllByRecursion P frames → AllByRecursion (λ f. f.0 < length frames) marks → AllByRecursion P (frames_at frames marks)
 all_at P frames [] all low = tt
@@ -226,5 +210,4 @@ given_few cache pages few = let all = length-append (map (λ (f : Placed). f.1.p
 
 -- two lists and a content in a statement are those that they are equal to
 pub with_parts : (P : List ℕ → List (List ℕ) → List ℕ → Type 0) (a a' : List ℕ) (b b' : List (List ℕ)) (c c' : List ℕ) → a ≡ a' → b ≡ b' → c ≡ c' → P a b c → P a' b' c'
-with_parts P a a' b b' c c' first second third p =
-    subst (λ (x : List ℕ). P x b' c') first (subst (λ (x : List (List ℕ)). P a x c') second (subst (λ (x : List ℕ). P a b x) third p))
+with_parts P a a' b b' c c' first second third p = grind (arith, common_steps)

@@ -16,6 +16,7 @@ use Rattle.second_chance.specs.Plans.{Placed, chances_of, staged_of, is_among}
 use Rattle.flash_cache.specs.Representation.{AllTogether, Shows}
 use Rattle.flash_cache.specs.Pushed.{no_frame}
 use Rattle.flash_cache.proofs.Queues.{joined}
+use Rattle.std.proofs.lemmas.Grind.{common_steps}
 
 -- whether a page has a frame
 
@@ -23,28 +24,13 @@ in_group_is : (known : List Known) (frames : List Frame) (page : ℕ) → AllTog
 in_group_is [] [] page shown = refl
 in_group_is [] (f ∷ fs) page shown = absurd shown
 in_group_is (k ∷ ks) [] page shown = absurd shown
-in_group_is (k ∷ ks) (f ∷ fs) page shown =
-    ap (λ (p : ℕ). (p == page) || in_group ks page) shown.0.page ∙ ap (λ (b : Bool). (f.page == page) || b) (in_group_is ks fs page shown.1) ∙ by (f.page == page) (last_frame page fs)
-  where
-    by : (b : Bool) (o : Option Frame) → (b || is_some o) ≡ is_some (option_or o (cond b (Some f) None))
-    by true None = refl
-    by true (Some x) = refl
-    by false None = refl
-    by false (Some x) = refl
+in_group_is (k ∷ ks) (f ∷ fs) page shown = grind (arith, common_steps, (in_group_is ks fs page shown.1))
 
 pub in_groups_is : (known : List (List Known)) (groups : List (List Frame)) (page : ℕ) → AllTogether (AllTogether Shows) known groups → in_groups known page ≡ is_some (last_frame page (joined groups))
 in_groups_is [] [] page shown = refl
 in_groups_is [] (f ∷ fs) page shown = absurd shown
 in_groups_is (k ∷ ks) [] page shown = absurd shown
-in_groups_is (k ∷ ks) (f ∷ fs) page shown =
-    ap (λ (b : Bool). b || in_groups ks page) (in_group_is k f page shown.0) ∙ ap (λ (b : Bool). is_some (last_frame page f) || b) (in_groups_is ks fs page shown.1)
-    ∙ by (last_frame page f) (last_frame page (joined fs)) ∙ ap is_some (sym (last_of_both page f (joined fs)))
-  where
-    by : (a b : Option Frame) → (is_some a || is_some b) ≡ is_some (option_or b a)
-    by None None = refl
-    by None (Some y) = refl
-    by (Some x) None = refl
-    by (Some x) (Some y) = refl
+in_groups_is (k ∷ ks) (f ∷ fs) page shown = grind (arith, common_steps, in_group_is, joined, last_of_both, (in_groups_is ks fs page shown.1))
 
 pub not_in_groups : (known : List (List Known)) (groups : List (List Frame)) (page : ℕ) → AllTogether (AllTogether Shows) known groups → in_groups known page ≡ false → last_frame page (joined groups) ≡ None
 not_in_groups known groups page shown out = none_if_no_some (last_frame page (joined groups)) (sym (in_groups_is known groups page shown) ∙ out)
@@ -68,9 +54,7 @@ pub record StandsFrom (n : ℕ) (frames : List Frame) (later : List (List Known)
   pub alone : in_groups later f.1.page ≡ false
 
 either_false : (a b : Bool) → not (a || b) ≡ true → (a ≡ false) × (b ≡ false)
-either_false true b is = absurd (true≢false (sym is))
-either_false false true is = absurd (true≢false (sym is))
-either_false false false is = (refl, refl)
+either_false a b h = grind (arith, common_steps)
 
 each_from : (test : Test) → TakesValid test → (n : ℕ) (known : List Known) (frames : List Frame) (later : List (List Known)) (j : ℕ) (d : Placed) → AllTogether Shows known frames → j < length (tested_from test n known later)
     → StandsFrom n frames later (get_or (tested_from test n known later) j d)
@@ -177,21 +161,7 @@ frames_at frames marks = map (λ f. get_or frames f.0 no_frame) marks
 -- a page that is none of these frames' has no mark among them
 not_among : (frames : List Frame) (marks : List Placed) (i page : ℕ) → last_frame page (frames_at frames marks) ≡ None → (get_or frames i no_frame).page ≡ page → is_among marks i ≡ false
 not_among frames [] i page none is = refl
-not_among frames (f ∷ marks) i page none is = by (last_frame page (frames_at frames marks)) refl none (λ rest. not_among frames marks i page rest is)
-  where
-    x : Frame
-    x = get_or frames f.0 no_frame
-
-    other : (b : Bool) → (x.page == page) ≡ b → cond b (Some x) None ≡ None → is_among marks i ≡ false → ((f.0 == i) || is_among marks i) ≡ false
-    other true same none' rest = absurd (none-some x (sym none'))
-    other false same none' rest =
-        let ne : (f.0 == i) ≡ false = ne_eqb f.0 i (λ e. true≢false (sym (eq-eqb x.page page (ap (λ (j : ℕ). (get_or frames j no_frame).page) e ∙ is)) ∙ same)) in
-        λ j. ne j || rest j
-
-    by : (o : Option Frame) → last_frame page (frames_at frames marks) ≡ o → option_or o (cond (x.page == page) (Some x) None) ≡ None → (last_frame page (frames_at frames marks) ≡ None → is_among marks i ≡ false)
-        → ((f.0 == i) || is_among marks i) ≡ false
-    by None is' none' rest = other (x.page == page) refl none' (rest is')
-    by (Some y) is' none' rest = absurd (none-some y (sym none'))
+not_among frames (f ∷ marks) i page none is = grind (arith, common_steps, none-some, ne_eqb, eq-eqb, (not_among frames marks i page))
 
 module _ (known : List Known) (later : List (List Known)) (frames : List Frame) (rest : List (List Frame)) (shown : AllTogether Shows known frames) (others : AllTogether (AllTogether Shows) later rest) where
   abbrev marks : List Mark

@@ -10,7 +10,6 @@ use Rattle.second_chance.specs.Queue.{group_marks, front_marks}
 use Rattle.second_chance.specs.Plans.{Placed, chances_given, staged_of}
 use Rattle.second_chance.specs.Machine.{rules_of, leaving}
 use Rattle.site.specs.State.{State}
-use Rattle.sealed_ring.specs.declared.slots.Shape.{Shape}
 use Rattle.sealed_ring.specs.Ring.{IsLive}
 use Rattle.flash_cache.specs.Representation.{Invariant}
 use Rattle.stage_out.specs.Staged.{calls_of}
@@ -20,6 +19,7 @@ use Rattle.flash_cache.specs.declared.cache.FlashCache.{FlashCache}
 use Rattle.flash_cache.specs.Leaving.{no_mark, mark_at}
 use Rattle.flash_cache.specs.declared.cache.PushPlan.{PushPlan}
 use Rattle.flash_cache.specs.Pushed.{front_leaves, staged_marks, staged_pages, chance_marks, IsPlan}
+use Rattle.std.proofs.lemmas.Grind.{common_steps}
 
 -- marks of a group
 
@@ -28,8 +28,7 @@ length-marks [] later = refl
 length-marks (frame ∷ behind) later = ap suc (length-marks behind later)
 
 pub front_few : (groups : List (List Known)) → AllByRecursion (λ frames. (1 ≤ length frames) × (length frames ≤ 8)) groups → length (front_marks groups) ≤ 8
-front_few [] sizes = omega arith
-front_few (group ∷ later) sizes = let few = sizes.0.1 in let many = length-marks group later in omega (arith, few, many)
+front_few groups h = grind (arith, common_steps, length-marks)
 
 mark_exists : (pages : ℕ) (group : List Known) (later : List (List Known)) (i : ℕ) (mark : Mark) → AllByRecursion (λ (frame : Known). frame.page < pages) group → slice_get (group_marks group later) i ≡ Some mark → mark.page < pages
 mark_exists pages [] later i mark all is = absurd cc
@@ -37,8 +36,7 @@ mark_exists pages (frame ∷ behind) later zero mark all is = let same = ap (λ 
 mark_exists pages (frame ∷ behind) later (suc i) mark all is = mark_exists pages behind later i mark all.1 is
 
 pub front_exists : (pages : ℕ) (groups : List (List Known)) (i : ℕ) (mark : Mark) → AllByRecursion (λ frames. AllByRecursion (λ (frame : Known). frame.page < pages) frames) groups → slice_get (front_marks groups) i ≡ Some mark → mark.page < pages
-front_exists pages [] i mark all is = absurd cc
-front_exists pages (group ∷ later) i mark all is = mark_exists pages group later i mark all.0 is
+front_exists pages groups i mark h h2 = grind (arith, common_steps, mark_exists)
 
 -- numbered marks that stand at their places in a group's marks
 abbrev pub AreNumbered : List Mark → List Placed → Type 0
@@ -64,8 +62,7 @@ marks_exist pages groups marks stand exist = All-map (λ (page : ℕ). page < pa
 
 -- a page or a sync for each
 calls_most : (pages : List ℕ) (n : ℕ) → length pages ≤ n → calls_of pages ≤ n + 1
-calls_most [] n few = omega arith
-calls_most (page ∷ pages) n few = omega (arith, few)
+calls_most pages n h = grind (arith, common_steps)
 
 module _ (cache : FlashCache) where
   abbrev front : List Mark
@@ -101,34 +98,20 @@ module _ (cache : FlashCache) where
   leaving_few leaves is sizes = omega (arith, ap length is, marks_few (front_leaves cache), front_few cache.directory.groups sizes)
 
   front_some : (groups : List (List Known)) → 0 < length (front_marks groups) → 0 < length groups
-  front_some [] some = absurd (omega (arith, some))
-  front_some (group ∷ later) some = omega arith
+  front_some groups h = grind (arith, common_steps)
 
   pub leaving_some : (leaves : List Mark) → leaves ≡ out → 0 < length leaves → 0 < length cache.directory.groups
   leaving_some leaves is some = front_some cache.directory.groups (omega (arith, ap length is, marks_few (front_leaves cache), some))
 
   -- no more frames are read than the front group has
   pub reads_few : (staged chances : List ℕ) → AllByRecursion (λ frames. (1 ≤ length frames) × (length frames ≤ 8)) cache.directory.groups → staged ≡ map (λ f. f.0) (staged_marks cache) → chances ≡ map (λ f. f.0) (chance_marks cache) → length staged + length chances ≤ 8
-  reads_few staged chances sizes is are =
-      let first = ap length is ∙ length-map (staged_marks cache) (λ (f : Placed). f.0) in
-      let second = ap length are ∙ length-map (chance_marks cache) (λ (f : Placed). f.0) in
-      let apart = chances_are_not_staged chances_given out in
-      let some = marks_few (front_leaves cache) in
-      let few = front_few cache.directory.groups sizes in
-      omega (arith, first, second, apart, some, few)
+  reads_few staged chances sizes is are = grind (arith, common_steps, length-map, chances_are_not_staged, marks_few, front_few)
 
   pub calls_few : AllByRecursion (λ frames. (1 ≤ length frames) × (length frames ≤ 8)) cache.directory.groups → calls_of (staged_pages cache) ≤ 9
-  calls_few sizes =
-      let marks = staged_marks cache in
-      let few = reads_few (map (λ f. f.0) marks) (map (λ f. f.0) (chance_marks cache)) sizes refl refl in
-      let numbers = length-map marks (λ (f : Placed). f.0) in
-      let pages = length-map marks (λ (f : Placed). f.1.page) in
-      calls_most (staged_pages cache) 8 (omega (arith, few, numbers, pages))
+  calls_few sizes = grind (arith, common_steps, reads_few, length-map, calls_most)
 
   apart_by : (given b : Bool) (groups : List (List Known)) → AllPairs (λ x y. x.1.page ≢ y.1.page) (staged_of given (cond b (front_marks groups) []))
-  apart_by given false groups = λ i j d before within. absurd (omega (arith, within))
-  apart_by given true [] = λ i j d before within. absurd (omega (arith, within))
-  apart_by given true (group ∷ later) = staged_apart given group later
+  apart_by given b groups = grind (arith, common_steps, staged_apart)
 
   pub pages_apart : AllPairs (λ a b. a ≢ b) (staged_pages cache)
   pages_apart i j d before within =
@@ -141,6 +124,4 @@ module _ (cache : FlashCache) where
       (sym (get_or-map (λ (f : Placed). f.1.page) marks i e d low) ∙ same ∙ get_or-map (λ (f : Placed). f.1.page) marks j e d high)
 
 pub front_live : (cache : FlashCache) (site : State) → Invariant cache site → (n : ℕ) → n ≡ cache.directory.first → 1 ≤ length cache.directory.groups → IsLive cache.ring.shape cache.ring.hi n
-front_live cache site going n is some =
-    let slots = ap (λ (s : Shape). s.slots) going.rings.groups_shape in
-    record { below = omega (arith, is, some, going.next); near = omega (arith, is, going.next, going.few, slots) }
+front_live cache site going n is some = grind (arith, common_steps)

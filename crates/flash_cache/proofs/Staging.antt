@@ -1,37 +1,29 @@
 -- A push, device by device: pages are staged, and then a group is appended.
 use Rattle.std.specs.Prelude.{IsTrue}
-use Rattle.std.proofs.Common.{◌≡◌, ◌≢◌, ◌⊎◌, inl, ℕ, List, [], ◌∷◌, ◌++◌, length, drop, refl, sym, ap, subst, ◌∙◌}
-use Rattle.std.specs.List.{AllByRecursion}
+use Rattle.std.proofs.Common.{arith, ◌≡◌, ◌≢◌, inl, ℕ, List, [], ◌∷◌, refl, sym, ap, subst, ◌∙◌}
 use Rattle.site.specs.declared.outside.Dev.{Dev}
 use Rattle.site.specs.declared.outside.Dev.TheVariants.{Log, Flash, Disk}
 use Rattle.site.specs.State.{State, Image, Moment, Snapshot, IsQuiet}
 use Rattle.site.specs.Calls.{Preserves, IsUnchanged}
 use Rattle.site.specs.Moments.{Leaves, LeavesOnly, EachMoment, ChangesOnly, SameAt, Untouched}
 use Rattle.site.proofs.Laws.{others_untouched, untouched_in_sequence, stays_honest, no_call, unchanged_calm, quiet_leaves, leaves_weaker}
-use Rattle.sealed_ring.specs.Ring.{IsRing, hi_of}
-use Rattle.image_changes.specs.Rings.{Groups, group_shape, segment_shape}
-use Rattle.image_changes.specs.Changes.{Change, AppendsGroup, Appends, Reaches}
-use Rattle.image_changes.specs.Reached.{IsFrontOf}
+use Rattle.image_changes.specs.Rings.{Groups}
+use Rattle.image_changes.specs.Changes.{AppendsGroup, Appends, Reaches}
 use Rattle.image_changes.proofs.Sequence.{changes_add_up, reads_itself}
-use Rattle.stage_out.specs.Staged.{HasStaged, changes_of}
+use Rattle.stage_out.specs.Staged.{changes_of}
 use Rattle.site.specs.declared.geometry.Geometry.{Geometry}
 use Rattle.flash_cache.specs.declared.cache.FlashCache.{FlashCache}
 use Rattle.flash_cache.specs.Representation.{Invariant, Matches}
 use Rattle.flash_cache.specs.Pushed.{ChangesPages, LeavesPush, changes_of_push}
 use Rattle.flash_cache.proofs.Pushing.{goes_on_same}
+use Rattle.std.proofs.lemmas.Grind.{common_steps}
 
 pub goes_on_later : (cache : FlashCache) (old new : State) → Invariant cache old → Preserves old new → Invariant cache new
 goes_on_later cache old new going goes = goes_on_same cache cache.ring cache.directory old new going goes refl refl refl
 
 -- where the flash has what it had, the cache fits on
 pub fits_same : (cache : FlashCache) (old new : State) → new.image.flash ≡ old.image.flash → IsTrue new.honest → Matches cache old → Matches cache new
-fits_same cache old new flash honest fits = record {
-  honest = honest;
-  form = subst (IsRing (group_shape cache.geometry)) (sym flash) fits.form;
-  hi = fits.hi ∙ ap (hi_of (group_shape cache.geometry)) (sym flash);
-  segments_form = subst (IsRing (segment_shape cache.geometry)) (sym flash) fits.segments_form;
-  segments_hi = fits.segments_hi ∙ ap (hi_of (segment_shape cache.geometry)) (sym flash);
-}
+fits_same cache old new flash honest fits = grind (arith, common_steps)
 
 pub fits_on : (cache : FlashCache) (old mid : State) → Matches cache old → Preserves old mid → ChangesOnly Disk old mid → Matches cache mid
 fits_on cache old mid fits goes changes = fits_same cache old mid (changes.only.now.content Flash (λ h. cc)) (stays_honest old mid goes fits.honest) fits
@@ -60,11 +52,7 @@ pub pages_read : (old new : State) → IsUnchanged old new → ChangesPages old 
 pages_read old new same = record { log = read_untouched Log old new same; told = same.told; left = same.left }
 
 behind_reads : (a b c : State) (Q : Moment → Type 0) → IsUnchanged a b → EachMoment b c Q → EachMoment a c Q
-behind_reads a b c Q same moments = record {
-  grown = moments.grown ∙ ap (λ (l : List Moment). l ++ drop (length l) c.past) same.past;
-  each = subst (λ (l : List Moment). AllByRecursion Q (drop (length l) c.past)) same.past moments.each;
-  now = moments.now;
-}
+behind_reads a b c Q same moments = grind (arith, common_steps)
 
 module _ (g : Geometry) (pages : List ℕ) (contents : List (List ℕ)) (group : List ℕ) where
   -- where nothing was changed yet, no group was appended
@@ -74,11 +62,7 @@ module _ (g : Geometry) (pages : List ℕ) (contents : List (List ℕ)) (group :
       subst (LeavesPush g pages contents group old) (sym (quiet_leaves old s quiet left)) (record { told = refl; either = inl ([], (changes_of pages, refl), reads_itself g old.image) }))) same
 
   push_since : (old mid : State) (s : Snapshot) → IsUnchanged old mid → LeavesPush g pages contents group mid s → LeavesPush g pages contents group old s
-  push_since old mid s same is = record {
-    told = is.told ∙ same.told;
-    either = subst (λ (i : Image). ((changes : List Change) × IsFrontOf (changes_of pages) changes × Reaches g changes i s.image) ⊎ (HasStaged pages contents i.disk s.image.disk × Reaches g (changes_of_push pages group) i s.image))
-        same.image is.either;
-  }
+  push_since old mid s same is = grind (arith, common_steps)
 
   pub pushed_since : (old mid new : State) → IsUnchanged old mid → LeavesOnly mid new (LeavesPush g pages contents group mid) → LeavesOnly old new (LeavesPush g pages contents group old)
   pushed_since old mid new same leaves =

@@ -1,5 +1,5 @@
 -- The rings on flash, and what the directory has of the groups there.
-use Rattle.std.proofs.Common.{◌≡◌, ℕ, zero, suc, ◌+◌, ◌-◌, ◌<◌, ◌≤◌, Bool, true, false, cond, List, [], ◌∷◌, ◌++◌, length, map, take, replicate, arith, refl, sym, ap, subst, ◌∙◌}
+use Rattle.std.proofs.Common.{◌≡◌, ℕ, zero, suc, ◌+◌, ◌-◌, ◌<◌, ◌≤◌, Bool, true, false, cond, List, [], ◌∷◌, ◌++◌, length, map, take, replicate, arith, refl, sym, ap, subst}
 use Rattle.std.specs.List.{All, AllByRecursion, take_while, prefix_len}
 use Rattle.site.specs.declared.geometry.Geometry.{Geometry}
 use Rattle.site.specs.State.{State}
@@ -15,17 +15,11 @@ use Rattle.flash_directory.proofs.Opened.{size_of_heads}
 use Rattle.tail_rebuild.specs.Rebuilt.{AreRings}
 use Rattle.flash_cache.specs.Representation.{AllTogether, Shows, PagesExist}
 use Rattle.sealed_ring.proofs.Stays.{usable_later}
+use Rattle.std.proofs.lemmas.Grind.{common_steps}
 
 -- and so may both rings
 pub rings_later : (g : Geometry) (ring segments : Ring) (old new : State) → Preserves old new → AreRings g ring segments old → AreRings g ring segments new
-rings_later g ring segments old new goes rings = record {
-  groups_usable = usable_later ring old new goes rings.groups_usable;
-  segments_usable = usable_later segments old new goes rings.segments_usable;
-  groups_shape = rings.groups_shape;
-  segments_shape = rings.segments_shape;
-  low = rings.low;
-  high = rings.high;
-}
+rings_later g ring segments old new goes rings = grind (arith, common_steps, usable_later)
 
 pub length-mapped : {A B : Type 0} (f : A → B) (xs : List A) → length (map f xs) ≡ length xs
 length-mapped f [] = refl
@@ -38,11 +32,7 @@ none_of_blanks (suc n) = refl
 
 pub known_heads : (frames : List Frame) (n : ℕ) → frames_in (map head_of frames ++ replicate n blank) ≡ map (λ frame. known_of frame.page frame.dirty) frames
 known_heads [] n = ap (map (λ (head : FrameHead). known_of head.page head.dirty)) (none_of_blanks n)
-known_heads (frame ∷ frames) n =
-    let rest = map head_of frames ++ replicate n blank in
-    let len = prefix_len (λ (head : FrameHead). head.present) rest in
-    let e : 1 + len ≡ suc len = omega arith in
-    ap (λ (m : ℕ). map (λ (head : FrameHead). known_of head.page head.dirty) (take m (head_of frame ∷ rest))) e ∙ ap (λ (l : List Known). known_of frame.page frame.dirty ∷ l) (known_heads frames n)
+known_heads (frame ∷ frames) n = grind (arith, common_steps, replicate, (known_heads frames n))
 
 pub known_groups : (groups : List (List Frame)) → map frames_in (map heads_of groups) ≡ map (map (λ frame. known_of frame.page frame.dirty)) groups
 known_groups [] = refl

@@ -1,9 +1,8 @@
 -- Which disk pages some changes of an image rewrite, and how many groups and segments they append, by how many calls.
-use Rattle.std.proofs.Common.{◌≡◌, ◌≢◌, inl, inr, Bool, true, false, ℕ, ◌+◌, ◌*◌, ◌<◌, ◌≤◌, List, [], ◌∷◌, ◌++◌, length, get_or, drop, arith, refl, sym, ap, subst, ◌∙◌, append_assoc, append-nil}
+use Rattle.std.proofs.Common.{◌≡◌, Bool, true, false, ℕ, ◌+◌, ◌*◌, ◌<◌, ◌≤◌, List, [], ◌∷◌, ◌++◌, length, get_or, arith, refl, sym, ap, subst, ◌∙◌, append_assoc, append-nil}
 use Rattle.std.specs.Prelude.{if◌then◌else◌}
 use Rattle.std.specs.List.{Contains}
-use Rattle.std.proofs.lemmas.Bool.{cases_order}
-use Rattle.std.proofs.lemmas.List.{same_lists, get_or_default, get_or-take, get_or-drop, length-take, length-drop}
+use Rattle.std.proofs.lemmas.List.{same_lists}
 use Rattle.std.proofs.lemmas.List.Elements.{Contains-append_left, Contains-append_right}
 use Rattle.flash_cache.proofs.PushedVersions.{within_disk, octet_is, size_is, apart}
 use Rattle.site.specs.declared.geometry.Geometry.{Geometry}
@@ -20,6 +19,7 @@ use Rattle.tail_rebuild.specs.Saving.{changes_of_save}
 use Rattle.flash_cache.specs.Representation.{disk_on}
 use Rattle.stage_out.specs.Staged.{changes_of, calls_of}
 use Rattle.flash_cache.specs.Pushed.{changes_of_push, sum_of, calls_by}
+use Rattle.std.proofs.lemmas.Grind.{common_steps}
 
 -- A page of the disk beside which alone octets differ is as it was, whether it lies on the disk or not.
 
@@ -87,11 +87,7 @@ wrote_then g pages more groups segments groups' segments' a b c one two =
     }
 
 rewritten_first : (change : Change) (changes : List Change) → rewritten (change ∷ []) ++ rewritten changes ≡ rewritten (change ∷ changes)
-rewritten_first (SealsBlock records) changes = refl
-rewritten_first (RewritesPages pages) changes = append_assoc pages [] (rewritten changes)
-rewritten_first (AppendsGroup content) changes = refl
-rewritten_first (AppendsSegment content) changes = refl
-rewritten_first (AppendsMaster content) changes = refl
+rewritten_first change changes = grind (arith, common_steps, append_assoc)
 
 pub wrote : (g : Geometry) (changes : List Change) (old new : Image) → Reaches g changes old new → Wrote g (rewritten changes) (sum_of groups_by changes) (sum_of segments_by changes) old new
 wrote g [] old new reads = by_units g [] 0 0 old new (still g Groups old new (reads.rings Groups)) (still g Segments old new (reads.rings Segments)) reads.disk
@@ -104,9 +100,7 @@ wrote g (change ∷ changes) old new reaches =
 
 rewritten_joined : (first later : List Change) → rewritten (first ++ later) ≡ rewritten first ++ rewritten later
 rewritten_joined [] later = refl
-rewritten_joined (change ∷ first) later =
-    sym (rewritten_first change (first ++ later)) ∙ ap (λ (l : List ℕ). rewritten (change ∷ []) ++ l) (rewritten_joined first later)
-    ∙ sym (append_assoc (rewritten (change ∷ [])) (rewritten first) (rewritten later)) ∙ ap (λ (l : List ℕ). l ++ rewritten later) (rewritten_first change first)
+rewritten_joined (change ∷ first) later = grind (arith, common_steps, rewritten_first, append_assoc, (rewritten_joined first later))
 
 -- numbers of changes add up
 pub sum_joined : (number : Change → ℕ) (first later : List Change) → sum_of number (first ++ later) ≡ sum_of number first + sum_of number later
@@ -114,8 +108,7 @@ sum_joined number [] later = omega arith
 sum_joined number (change ∷ first) later = omega (arith, sum_joined number first later)
 
 pub front_rewritten : (all changes : List Change) → IsFrontOf all changes → (page : ℕ) → Contains (rewritten changes) page → Contains (rewritten all) page
-front_rewritten all changes front page listed =
-    subst (λ (l : List ℕ). Contains l page) (sym (ap rewritten front.1 ∙ rewritten_joined changes front.0)) (Contains-append_left (rewritten changes) (rewritten front.0) page listed)
+front_rewritten all changes front page listed = grind (arith, common_steps, rewritten_joined)
 
 pub front_sum : (number : Change → ℕ) (all changes : List Change) → IsFrontOf all changes → sum_of number changes ≤ sum_of number all
 front_sum number all changes front = let same = ap (sum_of number) front.1 in omega (arith, same, sum_joined number changes front.0)
@@ -123,8 +116,7 @@ front_sum number all changes front = let same = ap (sum_of number) front.1 in om
 -- Those of a push.
 
 pub push_rewrites : (pages group : List ℕ) (page : ℕ) → Contains (rewritten (changes_of_push pages group)) page → Contains pages page
-push_rewrites [] group page listed = listed
-push_rewrites (first ∷ pages) group page listed = subst (λ (l : List ℕ). Contains l page) (append-nil (first ∷ pages)) listed
+push_rewrites pages group page h = grind (arith, common_steps, append-nil)
 
 pub push_groups : (pages group : List ℕ) → sum_of groups_by (changes_of_push pages group) ≡ 1
 push_groups [] group = refl
@@ -140,13 +132,11 @@ save_rewrites true saved changes = refl
 save_rewrites false saved changes = refl
 
 pub save_groups : (due : Bool) (saved : List (List Stored)) (changes : List Change) → sum_of groups_by (changes_of_save due saved ++ changes) ≡ sum_of groups_by changes
-save_groups true saved changes = omega arith
-save_groups false saved changes = omega arith
+save_groups due saved changes = grind (arith, common_steps)
 
 -- it is one more of them
 pub save_segments : (due : Bool) (saved : List (List Stored)) (changes : List Change) → sum_of segments_by (changes_of_save due saved ++ changes) ≡ (if due then 1 else 0) + sum_of segments_by changes
-save_segments true saved changes = omega arith
-save_segments false saved changes = omega arith
+save_segments due saved changes = grind (arith, common_steps)
 
 -- The calls of a push: five for a segment, one for each page that is staged and for their sync, and five for the group.
 
@@ -159,8 +149,4 @@ saved_calls true saved = refl
 saved_calls false saved = refl
 
 pub push_calls : (due : Bool) (saved : List (List Stored)) (pages group : List ℕ) → sum_of calls_by (changes_of_save due saved ++ changes_of_push pages group) ≡ (if due then 5 else 0) + (calls_of pages + 5)
-push_calls due saved pages group =
-    let all = sum_joined calls_by (changes_of_save due saved) (changes_of_push pages group) in
-    let push = sum_joined calls_by (changes_of pages) (AppendsGroup group ∷ []) in
-    let one : sum_of calls_by (AppendsGroup group ∷ []) ≡ 5 = refl in
-    omega (arith, all, push, one, staged_calls pages, saved_calls due saved)
+push_calls due saved pages group = grind (arith, common_steps, sum_joined, staged_calls, saved_calls)

@@ -1,5 +1,5 @@
 -- A write to a site in memory is a write to a site.
-use Rattle.std.proofs.Common.{◌≡◌, ◌⊎◌, inl, inr, ℕ, ◌+◌, ◌≤◌, List, [], ◌∷◌, ◌++◌, length, take, drop, refl, sym, ◌∙◌, ap, Vec, Global, Result, Ok, Err, OnOk, OnErr}
+use Rattle.std.proofs.Common.{◌≡◌, ◌⊎◌, inl, inr, ℕ, ◌+◌, ◌≤◌, List, [], ◌∷◌, ◌++◌, length, take, drop, refl, sym, ◌∙◌, ap, subst, Vec, Global, Result, Ok, Err, OnOk, OnErr}
 use Rattle.site.specs.declared.outside.Dev.{Dev}
 use Rattle.site.specs.declared.outside.Dev.TheVariants.{Log, Flash, Disk}
 use Rattle.site.specs.declared.outside.Failed.{Failed}
@@ -22,6 +22,10 @@ pub record Moved (dev : Dev) (old new : State) (before now : Area) (history hist
   pub left : new.input ≡ old.input
   pub past : old.past ≡ moments_of (now_of old) history
   pub past' : new.past ≡ moments_of (now_of new) history'
+
+-- the same of a device that is this one
+pub moved_as : {dev d : Dev} {old new : State} {before now : Area} {h h' : List Change} → dev ≡ d → Moved d old new before now h h' → Moved dev old new before now h h'
+moved_as {old} {new} {before} {now} {h} {h'} is moved = subst (λ (x : Dev). Moved x old new before now h h') (sym is) moved
 
 pub with_content_same : (dev : Dev) (image : Image) → with_content dev (content_of dev image) image ≡ image
 with_content_same Log image = refl

@@ -2,7 +2,7 @@
 ghost use Rattle.std.specs.Prelude.{replicate, min, IfOk, ◌≡◌, ◌≢◌, ◌⊎◌, ◌-◌, ◌^◌, ◌≤◌, ◌<◌, ◌+◌, ◌/◌, ◌∷◌, [], ◌++◌};
 ghost use Rattle.std.specs.Prelude.{length, take, drop, OnOk, OnErr, IsOk, IsErr, ◌↔◌, true, false, vec_len};
 ghost use Rattle.std.specs.Prelude.{vec_capacity};
-ghost use Rattle.site.specs.Calls.{Rose, put, range};
+ghost use Rattle.site.specs.Calls.{put, range};
 ghost use Rattle.mem_site.specs.History.{ranges_of};
 ghost use Rattle.mem_site.specs.Crash.{scattered, drawn};
 
@@ -49,8 +49,7 @@ fn note_span(loose: &mut Vec<Span>, at: u64, len: u64) -> Result<(), AllocError>
 }
 
 impl Area {
-    ghost use Rattle.site.specs.Faults.{one_more};
-    ghost use Rattle.mem_site.specs.Area.{Laid, Kept, Settled};
+    ghost use Rattle.mem_site.specs.Area.{Laid, Kept, Settled, CountsFault, FailsAt};
 
     // Where memory lacks nothing changes.
     fn lay(
@@ -99,14 +98,9 @@ impl Area {
         ensures ok { OnOk result (Laid dev at bytes.now self.old self.new history.old.items history.new.items) }
         ensures err { OnErr result (Kept self.old self.new history.old.items history.new.items
             ⊎ Laid dev at bytes.now self.old self.new history.old.items history.new.items) }
-        ensures cause { OnErr result (Rose self.old.faults self.new.faults) }
-        ensures failed { OnErr result (self.new.faults ≡ one_more self.old.faults) }
-        ensures faults { self.old.faults ≤ self.new.faults }
+        ensures faults { CountsFault result self.old self.new }
         ensures reads { self.new.reads ≡ self.old.reads }
-        ensures quiet { OnOk result (self.new.faults ≡ self.old.faults) }
-        ensures lacked { lacked.old ≡ true → lacked.new ≡ true }
-        ensures why { OnErr result (gate ≡ Gate.Open → lacked.new ≡ true) }
-        ensures open { OnOk result ((gate ≡ Gate.Open) × (lacked.new ≡ lacked.old)) }
+        ensures gate { FailsAt gate result lacked.old lacked.new }
         ensures over { gate ≡ Gate.Over → Kept self.old self.new history.old.items history.new.items
             × (lacked.new ≡ lacked.old) }
         ensures left { OnErr result (gate ≢ Gate.Over
@@ -142,14 +136,9 @@ impl Area {
     ) -> Result<(), Failed>
         ensures ok { OnOk result (Settled dev self.old self.new history.old.items history.new.items) }
         ensures err { OnErr result (Kept self.old self.new history.old.items history.new.items) }
-        ensures cause { OnErr result (Rose self.old.faults self.new.faults) }
-        ensures failed { OnErr result (self.new.faults ≡ one_more self.old.faults) }
-        ensures faults { self.old.faults ≤ self.new.faults }
+        ensures faults { CountsFault result self.old self.new }
         ensures reads { self.new.reads ≡ self.old.reads }
-        ensures quiet { OnOk result (self.new.faults ≡ self.old.faults) }
-        ensures lacked { lacked.old ≡ true → lacked.new ≡ true }
-        ensures why { OnErr result (gate ≡ Gate.Open → lacked.new ≡ true) }
-        ensures open { OnOk result ((gate ≡ Gate.Open) × (lacked.new ≡ lacked.old)) }
+        ensures gate { FailsAt gate result lacked.old lacked.new }
         ensures closed { gate ≢ Gate.Open → lacked.new ≡ lacked.old }
     {
         if gate != Gate::Open {
@@ -178,12 +167,9 @@ impl Area {
         ensures gives { OnOk result (into.new ≡ take (length into.new) (drop at self.old.content.items)) }
         ensures content { self.new.content.items ≡ self.old.content.items }
         ensures loose { self.new.loose.items ≡ self.old.loose.items }
-        ensures cause { OnErr result (Rose self.old.faults self.new.faults) }
-        ensures failed { OnErr result (self.new.faults ≡ one_more self.old.faults) }
-        ensures faults { self.old.faults ≤ self.new.faults }
+        ensures faults { CountsFault result self.old self.new }
         ensures reads { self.old.reads ≤ self.new.reads }
         ensures quiet { refused ≡ false → self.new.faults ≡ self.old.faults }
-        ensures done { OnOk result (self.new.faults ≡ self.old.faults) }
         ensures exactly { IsErr result ↔ (refused ≡ true) }
         ensures reads_few { self.new.reads ≤ self.old.reads + (length into.old + 4095) / 4096 }
         ensures counted { OnOk result (self.new.reads

@@ -1,5 +1,6 @@
 // What a site in memory was told.
 ghost use Rattle.std.specs.Prelude.{◌≡◌, ◌≢◌, ◌≤◌, ◌++◌, length, OnOk, OnErr, true};
+ghost use Rattle.mem_site.specs.Area.{FailsAt};
 ghost use Rattle.mem_site.specs.Output.{Said};
 
 use crate::area::keep;
@@ -44,9 +45,7 @@ pub fn say(
     ensures ok { OnOk result (Said count piece.now told.old.items told.new.items history.old.items history.new.items) }
     ensures told_err { OnErr result (told.new.items ≡ told.old.items) }
     ensures history_err { OnErr result (history.new.items ≡ history.old.items) }
-    ensures lacked { lacked.old ≡ true → lacked.new ≡ true }
-    ensures why { OnErr result (gate ≡ Gate.Open → lacked.new ≡ true) }
-    ensures open { OnOk result ((gate ≡ Gate.Open) × (lacked.new ≡ lacked.old)) }
+    ensures gate { FailsAt gate result lacked.old lacked.new }
     ensures closed { gate ≢ Gate.Open → lacked.new ≡ lacked.old }
 {
     if gate != Gate::Open {

@@ -1,5 +1,5 @@
 -- What a push appends: its group, and a segment before it where one is due.
-use Rattle.std.proofs.Common.{◌≡◌, ◌≢◌, ℕ, ◌+◌, ◌-◌, ◌<◌, ◌≤◌, Bool, true, false, cond, List, [], ◌∷◌, ◌++◌, length, map, drop, Some, refl, sym, ap, subst, ◌∙◌, arith, append_assoc}
+use Rattle.std.proofs.Common.{◌≡◌, ◌≢◌, ℕ, ◌+◌, ◌-◌, ◌<◌, ◌≤◌, Bool, true, false, cond, List, [], ◌∷◌, ◌++◌, length, drop, Some, ap, ◌∙◌, arith, append_assoc}
 use Rattle.std.specs.Prelude.{nat_le}
 use Rattle.std.specs.List.{AllByRecursion}
 use Rattle.std.proofs.lemmas.Bool.{leb-true, leb-false}
@@ -12,7 +12,7 @@ use Rattle.image_changes.specs.Rings.{RingName, Groups, Segments, group_shape, s
 use Rattle.image_changes.specs.Changes.{Change, AppendsGroup, ring_of, Reaches}
 use Rattle.image_changes.proofs.Sequence.{ring_kept}
 use Rattle.stage_out.specs.Staged.{changes_of}
-use Rattle.frame_group.specs.Groups.{Frame as Stored, group, frames_in}
+use Rattle.frame_group.specs.Groups.{Frame as Stored}
 use Rattle.tail_rebuild.specs.Saving.{changes_of_save}
 use Rattle.flash_cache.specs.Representation as flash_cache
 use Rattle.image_meaning.proofs.WholePushes.{reaches_parts}
@@ -21,8 +21,9 @@ use Rattle.log_store.specs.declared.store.LogStore.{LogStore}
 use Rattle.log_store.specs.LogList.{LogList, changes_if}
 use Rattle.page_store.specs.declared.store.PageStore.{PageStore}
 use Rattle.page_store.specs.Leaves.{AreReady}
-use Rattle.page_store.specs.Changing.{Standing, is_forced, staged_at, is_due_at, save_changes, group_at, push_changes, standing}
+use Rattle.page_store.specs.Changing.{Standing, is_forced, staged_at, save_changes, group_at, push_changes, standing}
 use Rattle.page_store.proofs.Changing.{HasPushed}
+use Rattle.std.proofs.lemmas.Grind.{common_steps}
 
 -- these changes append nothing to a ring
 abbrev NoneTo : RingName → List Change → Type 0
@@ -33,16 +34,14 @@ none_both ring [] second none more = more
 none_both ring (change ∷ first) second none more = (none.0, none_both ring first second none.1 more)
 
 none_sealing : (sealing : Bool) (list : LogList) → NoneTo Groups (changes_if sealing list) × NoneTo Segments (changes_if sealing list)
-none_sealing true list = (((λ same. cc), tt), ((λ same. cc), tt))
-none_sealing false list = (tt, tt)
+none_sealing sealing list = grind (arith, common_steps)
 
 none_saving : (due : Bool) (groups : List (List Stored)) → NoneTo Groups (changes_of_save due groups)
 none_saving true groups = ((λ same. cc), tt)
 none_saving false groups = tt
 
 none_staging : (pages : List ℕ) → NoneTo Groups (changes_of pages) × NoneTo Segments (changes_of pages)
-none_staging [] = (tt, tt)
-none_staging (page ∷ pages) = (((λ same. cc), tt), ((λ same. cc), tt))
+none_staging pages = grind (arith, common_steps)
 
 none_pushing : (pages content : List ℕ) → NoneTo Segments (changes_of pages ++ AppendsGroup content ∷ [])
 none_pushing pages content = none_both Segments (changes_of pages) (AppendsGroup content ∷ []) (none_staging pages).1 ((λ same. cc), tt)
@@ -70,19 +69,7 @@ segments_then g false groups first rest old new none later reached =
 -- as many groups live as can
 live_then : (live : List (List ℕ)) (content : List ℕ) (groups count : ℕ) → length live ≡ count → count < groups → 2 ≤ groups →
     drop (length (live ++ content ∷ []) - (groups - 1)) (live ++ content ∷ []) ≡ cond (nat_le (groups - 1) count) (drop 1 live) live ++ content ∷ []
-live_then live content groups count long few some = by (nat_le (groups - 1) count) refl
-  where
-    more : length (live ++ content ∷ []) ≡ length live + 1
-    more = length-append live (content ∷ [])
-
-    by : (b : Bool) → nat_le (groups - 1) count ≡ b → drop (length (live ++ content ∷ []) - (groups - 1)) (live ++ content ∷ []) ≡ cond b (drop 1 live) live ++ content ∷ []
-    by true is =
-        let full = leb-true (groups - 1) count is in
-        let one : length (live ++ content ∷ []) - (groups - 1) ≡ 1 = let size = more in omega (arith, size, long, few, full) in
-        ap (λ (n : ℕ). drop n (live ++ content ∷ [])) one ∙ drop-append-le 1 live (content ∷ []) (omega (arith, long, full, some))
-    by false is =
-        let none : length (live ++ content ∷ []) - (groups - 1) ≡ 0 = let size = more in omega (arith, size, long, leb-false (groups - 1) count is) in
-        ap (λ (n : ℕ). drop n (live ++ content ∷ [])) none
+live_then live content groups count long few some = grind (arith, common_steps, length-append, leb-true, drop-append-le, leb-false)
 
 module _ (log : LogStore) (list : LogList) (store store' : PageStore) (mid new : State) (ready : AreReady store log list mid) (fits : flash_cache.Matches store'.flash new) (geometry : store'.flash.geometry ≡ store.flash.geometry)
     (next : store.flash.directory.first + length store.flash.directory.groups ≡ store.flash.ring.hi) (limits : HasLimits store.flash.geometry) (few : length store.flash.directory.groups < store.flash.geometry.groups) (frames : List Frame)
@@ -97,27 +84,13 @@ module _ (log : LogStore) (list : LogList) (store store' : PageStore) (mid new :
   seal = changes_if (is_forced s frames) list
 
   apart : push_changes s frames ≡ (seal ++ (save_changes s ++ changes_of (staged_at s))) ++ AppendsGroup (group_at s frames) ∷ []
-  apart =
-      ap (λ (l : List Change). seal ++ l) (sym (append_assoc (save_changes s) (changes_of (staged_at s)) (AppendsGroup (group_at s frames) ∷ [])))
-      ∙ sym (append_assoc seal (save_changes s ++ changes_of (staged_at s)) (AppendsGroup (group_at s frames) ∷ []))
+  apart = grind (arith, common_steps, append_assoc)
 
   grown : units_on (group_shape g) new.image ≡ appended (group_shape g) (units_on (group_shape g) mid.image) (group_at s frames)
-  grown =
-      groups_then g (seal ++ (save_changes s ++ changes_of (staged_at s))) (group_at s frames) mid.image new.image
-      (none_both Groups seal (save_changes s ++ changes_of (staged_at s)) (none_sealing (is_forced s frames) list).0
-      (none_both Groups (save_changes s) (changes_of (staged_at s)) (none_saving (is_due_at s) (map frames_in s.live)) (none_staging (staged_at s)).0))
-      (subst (λ (l : List Change). Reaches g l mid.image new.image) apart reached)
+  grown = grind (arith, common_steps, groups_then, none_both, none_sealing, none_saving, none_staging, apart)
 
   count : length (units_on (group_shape g) mid.image).live ≡ length store.flash.directory.groups
-  count =
-      omega (arith, ready.pages.holds.has.next, ready.pages.flash.hi, next, ap length ready.pages.holds.has.live ∙ length-map ready.pages.groups group)
+  count = grind (arith, common_steps, length-map)
 
   pub has_pushed : HasPushed s frames store' new.image
-  has_pushed = record {
-    live = ap (λ (k : Geometry). (units_on (group_shape k) new.image).live) geometry ∙ ap (λ (u : Units). u.live) grown
-        ∙ live_then (units_on (group_shape g) mid.image).live (group_at s frames) g.groups (length store.flash.directory.groups) count few (let many = limits.groups in omega (arith, many));
-    next_group = fits.hi ∙ ap (λ (k : Geometry). hi_of (group_shape k) new.image.flash) geometry ∙ ap (λ (u : Units). u.hi) grown ∙ ap (λ (n : ℕ). n + 1) (sym ready.pages.flash.hi);
-    next_segment = fits.segments_hi ∙ ap (λ (k : Geometry). hi_of (segment_shape k) new.image.flash) geometry
-        ∙ segments_then g (is_due_at s) (map frames_in s.live) seal (changes_of (staged_at s) ++ AppendsGroup (group_at s frames) ∷ []) mid.image new.image (none_sealing (is_forced s frames) list).1 (none_pushing (staged_at s) (group_at s frames)) reached
-        ∙ ap (λ (n : ℕ). cond (is_due_at s) (n + 1) n) (sym ready.pages.flash.segments_hi);
-  }
+  has_pushed = grind (arith, common_steps, grown, live_then, count, segments_then, none_sealing, none_pushing)

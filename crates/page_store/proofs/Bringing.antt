@@ -1,35 +1,28 @@
 -- A page is brought in, behind the eviction of another.
-use Rattle.std.proofs.Common.{◌≡◌, IsTrue, ℕ, ◌+◌, ◌*◌, ◌<◌, ◌≤◌, Bool, true, false, cond, arith, sym, ap, subst, ◌∙◌}
+use Rattle.std.proofs.Common.{◌≡◌, IsTrue, ℕ, ◌<◌, ◌≤◌, arith, sym, subst}
 use Rattle.std.specs.List.{AllByRecursion}
-use Rattle.site.specs.declared.geometry.Geometry.{Geometry}
 use Rattle.site.specs.State.{State, Image, snapshot_of}
 use Rattle.site.specs.Calls.{IsUnchanged}
-use Rattle.sealed_ring.specs.Ring.{IsRing, hi_of}
-use Rattle.image_changes.specs.Rings.{log_shape}
 use Rattle.flash_cache.specs.Representation.{version_on}
 use Rattle.buffer_pool.specs.declared.frame.Frame.{Frame}
 use Rattle.buffer_pool.specs.Frames.{front_of}
 use Rattle.log_store.specs.declared.store.LogStore.{LogStore}
 use Rattle.log_store.specs.LogList.{LogList}
 use Rattle.log_store.specs.Representation as log_store
-use Rattle.log_store.specs.Representation.{has_tail}
 use Rattle.write_ahead.specs.Forcing.{IsLogged, end_forced}
 use Rattle.page_store.specs.declared.store.PageStore.{PageStore}
 use Rattle.page_store.specs.Representation.{Matches}
 use Rattle.page_store.specs.Ahead.{AreSealed, IsAhead, sealed_end}
 use Rattle.page_store.specs.Leaves.{AreReady, KeepsCurrent, PutsIn}
 use Rattle.page_store.proofs.PushLaws.{logged_more}
+use Rattle.std.proofs.lemmas.Grind.{common_steps}
 
 -- a site of which nothing changed leaves the same snapshot
 pub snapshot_same : (old new : State) → IsUnchanged old new → snapshot_of new ≡ snapshot_of old
 snapshot_same old new same = λ i. record { told = same.told i; image = same.image i }
 
 pub log_found_same : (log : LogStore) (old new : State) → IsUnchanged old new → IsTrue new.honest → log_store.Finds log old → log_store.Finds log new
-log_found_same log old new same honest fits = record {
-  honest = honest;
-  form = subst (λ (i : Image). IsRing (log_shape log.geometry) i.log) (sym same.image) fits.form;
-  hi = fits.hi ∙ ap (λ (i : Image). hi_of (log_shape log.geometry) i.log) (sym same.image);
-}
+log_found_same log old new same honest fits = grind (arith, common_steps)
 
 pub ready_same : (store store' : PageStore) (log : LogStore) (list : LogList) (old new : State) → Matches store' new → IsUnchanged old new → AreReady store log list old → AreReady store' log list new
 ready_same store store' log list old new fits same ready = record {
@@ -39,30 +32,14 @@ ready_same store store' log list old new fits same ready = record {
 }
 
 pub current_again : (a b c : PageStore) (x y z : Image) → b.flash.geometry ≡ a.flash.geometry → KeepsCurrent a x b y → KeepsCurrent b y c z → KeepsCurrent a x c z
-current_again a b c x y z geometry first second = record {
-  each = λ page exists. second.each page (subst (λ (g : Geometry). page < g.pages) (sym geometry) exists) ∙ first.each page exists;
-}
+current_again a b c x y z geometry first second = grind (arith, common_steps)
 
 -- the LSN of a version is below the end of the log's blocks
 sealed_below : (log : LogStore) (site : State) → log_store.Finds log site → sealed_end log.geometry site.image ≤ end_forced log
-sealed_below log site fits = let hi = fits.hi in by (has_tail log) hi
-  where
-    by : (b : Bool) → log.ring.hi ≡ hi_of (log_shape log.geometry) site.image.log → 512 * hi_of (log_shape log.geometry) site.image.log ≤ 512 * (log.ring.hi + cond b 1 0)
-    by true hi = omega (arith, hi)
-    by false hi = omega (arith, hi)
+sealed_below log site fits = grind (arith, common_steps)
 
 pub ahead_in : (store mid store' : PageStore) (log : LogStore) (page : ℕ) (site new : State) → mid.flash.geometry ≡ store.flash.geometry → store'.flash.geometry ≡ mid.flash.geometry → log.geometry ≡ store.flash.geometry
     → log_store.Finds log site → new.image ≡ site.image → page < store.flash.geometry.pages → AreSealed store.flash.geometry site.image
     → AllByRecursion (λ (frame : Frame). IsLogged (end_forced log) frame.content) mid.pool.frames
     → PutsIn page mid.pool.frames store'.pool.frames → (front_of store'.pool.frames).content ≡ version_on mid.flash.geometry site.image page → IsAhead log store' new.image
-ahead_in store mid store' log page site new geometry geometry' log_geometry fits same exists sealed rest put read = record {
-  pool = subst (AllByRecursion (λ (frame : Frame). IsLogged (end_forced log) frame.content)) (sym put.frames) (front, rest);
-  versions = subst (λ (i : Image). AreSealed store'.flash.geometry i) (sym same) (subst (λ (g : Geometry). AreSealed g site.image) (sym (geometry' ∙ geometry)) sealed);
-}
-  where
-    below : sealed_end store.flash.geometry site.image ≤ end_forced log
-    below = subst (λ (g : Geometry). sealed_end g site.image ≤ end_forced log) log_geometry (sealed_below log site fits)
-
-    front : IsLogged (end_forced log) (front_of store'.pool.frames).content
-    front = subst (IsLogged (end_forced log)) (sym (read ∙ ap (λ (g : Geometry). version_on g site.image page) geometry))
-        (logged_more (sealed_end store.flash.geometry site.image) (end_forced log) _ below (sealed.each page exists))
+ahead_in store mid store' log page site new geometry geometry' log_geometry fits same exists sealed rest put read = grind (arith, common_steps, sealed_below, logged_more)

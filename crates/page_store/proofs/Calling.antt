@@ -1,5 +1,5 @@
 -- Calls on pages one after the other, each known by its record.
-use Rattle.std.proofs.Common.{◌≡◌, ℕ, ◌+◌, Bool, true, false, true≢false, ◌||◌, cond, List, [], ◌++◌, refl, sym, subst, ap, ◌∙◌, arith}
+use Rattle.std.proofs.Common.{◌≡◌, ℕ, ◌+◌, Bool, true, false, ◌||◌, List, [], ◌++◌, sym, subst, ap, ◌∙◌, arith}
 use Rattle.image_changes.proofs.Sequence.{reads_itself}
 use Rattle.log_store.proofs.SealLaws.{none_front}
 use Rattle.std.proofs.lemmas.Bool.{or_left, or_right}
@@ -22,7 +22,6 @@ use Rattle.image_changes.specs.Costs.{CallsForUnits}
 use Rattle.image_changes.proofs.Counting.{calls_none, calls_then as counts_then}
 use Rattle.image_meaning.specs.Beside.{AreRingsSoundUnder}
 use Rattle.slotted_page.specs.Layout.{IsSound}
-use Rattle.flash_cache.specs.declared.cache.FlashCache.{FlashCache}
 use Rattle.flash_cache.specs.Representation.{IsWorn}
 use Rattle.flash_cache.specs.Pushed.{sum_of, calls_by}
 use Rattle.flash_cache.specs.Kept.{AreCleanGiven}
@@ -44,6 +43,7 @@ use Rattle.page_store.proofs.Rounds.{sealed_again, more_sealed, one_more_pages, 
 use Rattle.page_store.proofs.Changing.{front_more}
 use Rattle.page_store.proofs.Rings.{stays_rings}
 use Rattle.page_store.proofs.NextUnits.{next_still, next_then, next_with, next_failed}
+use Rattle.std.proofs.lemmas.Grind.{common_steps}
 
 -- The same said otherwise.
 
@@ -57,55 +57,25 @@ pub stops_as : {T : Type 0} {r : Result T Stop} {log : LogStore} {pages : PageSt
 stops_as {r = r} {log = log} {pages = pages} {a = a} {q = q} same pushed is = subst (λ (s : Bool). StopsAtEnd r log pages s q) same (subst (λ (t : Bool). StopsAtEnd r log pages a t) pushed is)
 
 pub keeps_as : {T : Type 0} {r : Result T Stop} {log : LogStore} {pages : PageStore} {before now : State} {list : LogList} {a b : Bool} {c d : List Change} → a ≡ b → c ≡ d → Keeps r log pages before now list a c → Keeps r log pages before now list b d
-keeps_as {r = r} {log = log} {pages = pages} {before = before} {now = now} {list = list} {a = a} {d = d} same more keeps =
-    subst (λ (s : Bool). Keeps r log pages before now list s d) same (subst (λ (l : List Change). Keeps r log pages before now list a l) more keeps)
+keeps_as {r = r} {log = log} {pages = pages} {before = before} {now = now} {list = list} {a = a} {d = d} same more keeps = grind (arith, common_steps)
 
 pub stands_as : {old new : LogStore} {pages pages' : PageStore} {before now : State} {list : LogList} {a b : Bool} {c d : List Change} → a ≡ b → c ≡ d → Stands old new pages pages' before now list a c → Stands old new pages pages' before now list b d
-stands_as {old = old} {new = new} {pages = pages} {pages' = pages'} {before = before} {now = now} {list = list} {a = a} {d = d} same more stands =
-    subst (λ (s : Bool). Stands old new pages pages' before now list s d) same (subst (λ (l : List Change). Stands old new pages pages' before now list a l) more stands)
+stands_as {old = old} {new = new} {pages = pages} {pages' = pages'} {before = before} {now = now} {list = list} {a = a} {d = d} same more stands = grind (arith, common_steps)
 
 -- Nothing is called.
 
 pub stops_not : {T : Type 0} {x : T} {log : LogStore} {pages : PageStore} {sealing pushing : Bool} → sealing ≡ false → pushing ≡ false → StopsAtEnd {T = T} (Ok x) log pages sealing pushing
-stops_not {T = T} {x = x} none kept = record {
-  worn_log = λ says. absurd (no_error {T = T} {x = x} {e = Worn Log} says);
-  at_log_end = λ forced end. absurd (true≢false (sym forced ∙ none));
-  worn_flash = λ says. absurd (no_error {T = T} {x = x} {e = Worn Flash} says);
-  never_past = λ pushed past. true≢false (sym pushed ∙ kept);
-}
+stops_not {T = T} {x = x} none kept = grind (arith, common_steps, no_error)
 
 pub forces_still : {T : Type 0} (r : Result T Stop) {log : LogStore} {sealing : Bool} → OnOk r (sealing ≡ false) → (has_tail log ≡ true → HasRoom log) → Forces r log log sealing
-forces_still r {log = log} none room = record {
-  next = ok_as r _ _ (λ is. sym (ap {B = ℕ} (λ (b : Bool). cond b (log.ring.hi + 1) log.ring.hi) is)) none;
-  rises = omega arith;
-  end = ok_always r _ refl;
-  grows = ok_always r _ (omega arith);
-  room = ok_always r _ room;
-  kept = refl;
-  geometry = refl;
-}
+forces_still r {log = log} none room = grind (arith, common_steps, ok_as, ok_always)
 
 pub pushes_still : {T : Type 0} (r : Result T Stop) {log : LogStore} {pages pages' : PageStore} {site : State} {sealing : Bool} → Calls r site site →
     IfErr r (λ stop. MayStop stop) → (IsErrOf r (Worn Log) → ⊥) → (IsErrOf r (Worn Flash) → ⊥) → OnOk r (sealing ≡ false) → MayWork log pages site →
     Invariant pages' site → pages'.flash ≡ pages.flash → pages'.pool.size ≡ pages.pool.size → pages'.ended ≡ pages.ended →
     (AreLogged (end_forced log) pages.pool.frames → AreLogged (end_forced log) pages'.pool.frames) →
     Pushes r log log pages pages' site site sealing
-pushes_still r calls stops no_log no_flash none may going flash size ended logged = record {
-  works = record {
-    calls = calls;
-    forces = forces_still r none may.room;
-    going = going;
-    log_going = may.log_going;
-    geometry = ap (λ (f : FlashCache). f.geometry) flash;
-    size = size;
-    log_reads = refl;
-    stops = stops;
-    next = λ honest. next_still r flash no_log no_flash;
-  };
-  logged = λ all. ok_always r _ (logged all);
-  ended = ended;
-  others = λ d other. refl;
-}
+pushes_still r calls stops no_log no_flash none may going flash size ended logged = grind (arith, common_steps, forces_still, next_still, ok_always)
 
 pub keeps_still : {T : Type 0} {r : Result T Stop} {log : LogStore} {pages : PageStore} {site : State} {list : LogList} {sealing : Bool} {changes : List Change} → log.geometry ≡ pages.flash.geometry → AreReady pages log list site →
     (IsErrOf r (Worn Log) → ⊥) → (IsErrOf r (Worn Flash) → ⊥) → (IsErrOf r Foreign → ⊥) → Keeps r log pages site site list sealing changes
@@ -142,15 +112,7 @@ stands_still {log = log} {pages = pages} {pages' = pages'} {site = site} {list =
 -- A page is read behind a call that was Ok, or want of memory stops it.
 
 pub forces_again : {A B : Type 0} {a : A} (r : Result B Stop) {old new : LogStore} {sealing : Bool} → Forces {T = A} (Ok a) old new sealing → Forces r old new sealing
-forces_again r first = record {
-  next = ok_always r _ first.next;
-  rises = first.rises;
-  end = ok_always r _ first.end;
-  grows = ok_always r _ first.grows;
-  room = ok_always r _ first.room;
-  kept = first.kept;
-  geometry = first.geometry;
-}
+forces_again r first = grind (arith, common_steps, ok_always)
 
 pub keeps_read : {A B : Type 0} {a : A} {r : Result B Stop} {log : LogStore} {pages : PageStore} {before between now : State} {list : LogList} {sealing : Bool} {changes : List Change} → (IsQuiet before → IsQuiet between) → IsUnchanged between now →
     (IsErrOf r (Worn Log) → ⊥) → (IsErrOf r (Worn Flash) → ⊥) → (IsErrOf r Foreign → ⊥) → Keeps {T = A} (Ok a) log pages before between list sealing changes → Keeps r log pages before now list sealing changes
@@ -168,22 +130,7 @@ keeps_read {r = r} {pages = pages} {before = before} {between = between} {now = 
 -- A push behind a call that was Ok. The log is forced by one of them at most.
 
 pub forces_then : {A B : Type 0} {a : A} {r : Result B Stop} {old mid new : LogStore} {b f : Bool} → (b ≡ true → f ≡ false) → Forces {T = A} (Ok a) old mid b → Forces r mid new f → Forces r old new (b || f)
-forces_then {r = r} {old = old} {mid = mid} {new = new} {b = b} {f = f} once first second =
-    record {
-      next = ok_as r _ _ (next b f once first.next) second.next;
-      rises = omega (arith, first.rises, second.rises);
-      end = ok_as r _ _ (λ more. more ∙ first.end) second.end;
-      grows = ok_as r _ _ (λ more. omega (arith, first.grows, more)) second.grows;
-      room = second.room;
-      kept = second.kept ∙ first.kept;
-      geometry = second.geometry ∙ first.geometry;
-    }
-  where
-    next : (b f : Bool) → (b ≡ true → f ≡ false) → mid.ring.hi ≡ cond b (old.ring.hi + 1) old.ring.hi → new.ring.hi ≡ cond f (mid.ring.hi + 1) mid.ring.hi → new.ring.hi ≡ cond (b || f) (old.ring.hi + 1) old.ring.hi
-    next true true once one two = absurd (true≢false (once refl))
-    next true false once one two = two ∙ one
-    next false true once one two = two ∙ ap (λ (n : ℕ). n + 1) one
-    next false false once one two = two ∙ one
+forces_then {r = r} {old = old} {mid = mid} {new = new} {b = b} {f = f} once first second = grind (arith, common_steps, ok_as)
 
 pub pushes_then : {A B : Type 0} {a : A} {r : Result B Stop} {old mid new : LogStore} {pages between pages' : PageStore} {before middle now : State} {b f : Bool} → (b ≡ true → f ≡ false) →
     Pushes {T = A} (Ok a) old mid pages between before middle b → Pushes r mid new between pages' middle now f → Pushes r old new pages pages' before now (b || f)
@@ -230,25 +177,7 @@ pushes_with push front behind going geometry size ended logged =
 
 -- an error says nothing of what is sealed
 pub pushes_failed : {A B : Type 0} {stop : Stop} {old new : LogStore} {pages pages' : PageStore} {before now : State} {a b : Bool} → Pushes {T = A} (Err stop) old new pages pages' before now a → Pushes {T = B} (Err stop) old new pages pages' before now b
-pushes_failed first =
-    let works = first.works in
-    let forces = works.forces in
-    record {
-      works = record {
-        calls = calls_failed works.calls;
-        forces = record { next = tt; rises = forces.rises; end = tt; grows = tt; room = tt; kept = forces.kept; geometry = forces.geometry };
-        going = works.going;
-        log_going = works.log_going;
-        geometry = works.geometry;
-        size = works.size;
-        log_reads = works.log_reads;
-        stops = works.stops;
-        next = λ honest. next_failed (works.next honest);
-      };
-      logged = λ all. tt;
-      ended = first.ended;
-      others = first.others;
-    }
+pushes_failed first = grind (arith, common_steps, calls_failed, next_failed)
 
 pub keeps_then : {A B : Type 0} {a : A} {r : Result B Stop} {log log' : LogStore} {pages between : PageStore} {before middle now : State} {list : LogList} {b f : Bool} {c d : List Change} → FrontsAddUp → (b ≡ true → f ≡ false) →
     between.flash.geometry ≡ pages.flash.geometry → (IsQuiet before → IsQuiet middle) → Stands log log' pages between before middle list b c → Keeps {T = A} (Ok a) log pages before middle list b c →
@@ -321,16 +250,7 @@ pub record AreItsOwn (log : LogStore) (store : PageStore) (numbers : List ℕ) (
 pub keeps_given : {T : Type 0} {r : Result T Stop} {log : LogStore} {store : PageStore} {pool : Pool} {numbers : List ℕ} {changed : List Bool} {contents : List (List ℕ)} {before now : State} {list : LogList} {changes : List Change} →
     AreItsOwn log store numbers changed contents before.image → KeepsGiven r log (record store { pool = pool }) numbers changed contents before now list changes →
     Keeps r log store before now list (forces log contents) changes
-keeps_given {store = store} {before = before} own push = record {
-  any_moment = λ quiet. push.any_moment (current store before.image) quiet own.given own.clean;
-  ahead_moment = λ quiet ahead. push.ahead_moment quiet ahead.versions (own.logged ahead.pool);
-  rings_moment = λ newest quiet rings. push.rings_moment newest quiet rings own.sound;
-  front_moment = push.front_moment;
-  quiet = push.quiet;
-  worn_log = push.worn_log;
-  worn = push.worn;
-  readable = push.readable;
-}
+keeps_given {store = store} {before = before} own push = grind (arith, common_steps)
 
 pub stands_given : {log new : LogStore} {store between after : PageStore} {pool : Pool} {numbers : List ℕ} {changed : List Bool} {contents : List (List ℕ)} {before now : State} {list : LogList} {changes : List Change} →
     AreItsOwn log store numbers changed contents before.image → after.flash.geometry ≡ store.flash.geometry → AreReady after new (sealed_if (forces log contents) list) now → KeepsCurrent store before.image after now.image →

@@ -13,13 +13,13 @@ use Rattle.site.proofs.Laws.{leaves_weaker}
 use Rattle.image_changes.specs.Rings.{group_shape, units_on}
 use Rattle.image_changes.specs.Changes.{Change}
 use Rattle.image_changes.specs.Reached.{IsReached, IsFrontOf, LeavesFront}
-use Rattle.frame_group.specs.Groups.{Frame as Stored, group}
-use Rattle.flash_cache.specs.Pushed.{staged_pages, chance_marks, chance_given, frames_given, pushed_queue, changes_of_push, changes_before}
+use Rattle.frame_group.specs.Groups.{Frame as Stored}
+use Rattle.flash_cache.specs.Pushed.{chance_marks, frames_given, pushed_queue}
 use Rattle.flash_cache.specs.Representation.{version_on}
 use Rattle.buffer_pool.specs.declared.frame.Frame.{Frame}
 use Rattle.buffer_pool.specs.Frames.{frame_of}
 use Rattle.log_store.specs.declared.store.LogStore.{LogStore}
-use Rattle.log_store.specs.LogList.{LogList, sealed_if, changes_if}
+use Rattle.log_store.specs.LogList.{LogList, sealed_if}
 use Rattle.page_store.specs.declared.store.PageStore.{PageStore}
 use Rattle.log_store.specs.Representation.{has_tail}
 use Rattle.page_store.specs.Flushing.{saved_next, cleared_all, flushed_first}
@@ -28,6 +28,7 @@ use Rattle.second_chance.specs.declared.frame.Frame.{Frame as Known}
 use Rattle.second_chance.specs.Machine.{chance_frame, wants_flush, rules_of, is_full as queue_is_full}
 use Rattle.page_store.specs.Changing.{Standing, stored, is_due_at, group_at, push_changes, standing, given_changes, changes_if_any, eviction_changes, cache_at, next_saved, after_push, pushes_changes}
 use Rattle.page_store.specs.Pulling.{evicted_frames}
+use Rattle.std.proofs.lemmas.Grind.{common_steps}
 
 -- What the first changes leave, more changes may leave too.
 pub front_more : (g : Geometry) (first more : List Change) (old new : State) → LeavesFront g first old new → LeavesFront g (first ++ more) old new
@@ -46,26 +47,19 @@ frames_given_are (x ∷ xs) = ap (λ (l : List Stored). stored x ∷ l) (frames_
 
 pub given_are : (log : LogStore) (list : LogList) (store : PageStore) (image : Image) (xs : List Frame)
     → given_changes log list store image (map (λ (f : Frame). f.page) xs) (map (λ (f : Frame). f.changed) xs) (map (λ (f : Frame). f.content) xs) ≡ push_changes (standing log list store image) xs
-given_are log list store image xs =
-    ap (λ (l : List Stored). changes_if (forces log (map (λ (f : Frame). f.content) xs)) list
-    ++ (changes_before store.flash image ++ changes_of_push (staged_pages store.flash) (group (map (chance_given (version_on store.flash.geometry image)) (chance_marks store.flash) ++ l)))) (frames_given_are xs)
+given_are log list store image xs = grind (arith, common_steps, frames_given_are)
 
 -- Pages that are given as changed, with what the pool has of them, are frames of the pool.
 frames_changed : (xs : List Frame) (changed : List Bool) → length changed ≡ length xs → AllByRecursion (λ (b : Bool). b ≡ true) changed → AllByRecursion (λ (f : Frame). f.changed ≡ true) xs
     → frames_given (map (λ (f : Frame). f.page) xs) changed (map (λ (f : Frame). f.content) xs) ≡ map stored xs
 frames_changed [] changed lists marks all = refl
 frames_changed (x ∷ xs) [] lists marks all = absurd (omega (arith, lists))
-frames_changed (x ∷ xs) (b ∷ bs) lists marks all =
-    λ i. (let f : Stored = record { page = x.page; dirty = (marks.0 ∙ sym all.0) i; octets = x.content } in f) ∷ frames_changed xs bs (omega (arith, lists)) marks.1 all.1 i
+frames_changed (x ∷ xs) (b ∷ bs) lists marks all = grind (arith, common_steps, (frames_changed xs bs (omega (arith, lists)) marks.1 all.1))
 
 pub given_is : (log : LogStore) (list : LogList) (store : PageStore) (image : Image) (pages : List ℕ) (changed : List Bool) (contents : List (List ℕ)) (xs : List Frame) → pages ≡ map (λ (f : Frame). f.page) xs
     → contents ≡ map (λ (f : Frame). f.content) xs → length changed ≡ length pages → AllByRecursion (λ (b : Bool). b ≡ true) changed → AllByRecursion (λ (f : Frame). f.changed ≡ true) xs
     → given_changes log list store image pages changed contents ≡ push_changes (standing log list store image) xs
-given_is log list store image pages changed contents xs are have lists marks all =
-    (λ i. given_changes log list store image (are i) changed (have i))
-    ∙ ap (λ (l : List Stored). changes_if (forces log (map (λ (f : Frame). f.content) xs)) list
-    ++ (changes_before store.flash image ++ changes_of_push (staged_pages store.flash) (group (map (chance_given (version_on store.flash.geometry image)) (chance_marks store.flash) ++ l))))
-    (frames_changed xs changed (let count = ap length are in omega (arith, lists, count, length-map xs (λ (f : Frame). f.page))) marks all)
+given_is log list store image pages changed contents xs are have lists marks all = grind (arith, common_steps, frames_changed, length-map)
 
 -- An eviction pushes some pages, or none.
 pub eviction_is : (log : LogStore) (list : LogList) (store : PageStore) (image : Image) (frames : List Frame) → evicted_frames store ≡ frames
@@ -79,13 +73,7 @@ pages_in xs = map (λ (f : Frame). f.page) xs
 
 none_listed : (n : ℕ) (ys : List Frame) → frame_of ys n ≡ None → (k : ℕ) → k < length (pages_in ys) → get_or (pages_in ys) k n ≡ n → ⊥
 none_listed n [] none k less found = omega (arith, less)
-none_listed n (y ∷ ys) none k less found = at (y.page == n) refl none k less found (λ rest. none_listed n ys rest)
-  where
-    at : (b : Bool) → (y.page == n) ≡ b → cond b (Some y) (frame_of ys n) ≡ None → (k : ℕ) → k < length (pages_in (y ∷ ys)) → get_or (pages_in (y ∷ ys)) k n ≡ n
-        → (frame_of ys n ≡ None → (j : ℕ) → j < length (pages_in ys) → get_or (pages_in ys) j n ≡ n → ⊥) → ⊥
-    at true is none k less found rest = none-some y (sym none)
-    at false is none zero less found rest = eqb-false _ _ is found
-    at false is none (suc k) less found rest = rest none k (omega (arith, less)) found
+none_listed n (y ∷ ys) none k less found = grind (arith, common_steps, none-some, eqb-false, (none_listed n ys))
 
 -- a page's frame stands at a place
 record StandsAt (n : ℕ) (ys : List Frame) (f : Frame) : Type 0 where
@@ -125,12 +113,7 @@ pub record HasPushed (s : Standing) (pushed : List Frame) (store : PageStore) (i
 
 -- Where the log was forced there is no tail, else it is as it was.
 tail_after : (tail tail' any : Bool) (next next' : ℕ) → next' ≡ cond (tail && any) (next + 1) next → 512 * (next' + cond tail' 1 0) ≡ 512 * (next + cond tail 1 0) → tail' ≡ (tail && not (tail && any))
-tail_after true true true next next' is end = absurd (omega (arith, is, end))
-tail_after true true false next next' is end = refl
-tail_after true false true next next' is end = refl
-tail_after true false false next next' is end = absurd (omega (arith, is, end))
-tail_after false true any next next' is end = absurd (omega (arith, is, end))
-tail_after false false any next next' is end = refl
+tail_after tail tail' any next next' h h2 = grind (arith, common_steps)
 
 pub standing_after : (log log' : LogStore) (list list' : LogList) (store store' : PageStore) (image image' : Image) (any : Bool) → forces log (flushed_first store) ≡ (has_tail log && any)
     → log'.ring.hi ≡ cond (forces log (flushed_first store)) (log.ring.hi + 1) log.ring.hi → 512 * (log'.ring.hi + cond (has_tail log') 1 0) ≡ 512 * (log.ring.hi + cond (has_tail log) 1 0)
@@ -166,11 +149,7 @@ pub record HasMade (all made : List Change) (s : Standing) (count : ℕ) : Type 
 module _ (all made : List Change) (s : Standing) (count : ℕ) (so_far : HasMade all made s count) where
   -- no page is changed
   pub none_to_come : wants_flush (cache_at s) ≡ false → made ≡ all
-  none_to_come none = sym (append-nil made) ∙ ap (λ (l : List Change). made ++ l) (sym (by so_far.pushes)) ∙ sym so_far.split
-    where
-      by : (n : ℕ) → pushes_changes n s ≡ []
-      by zero = refl
-      by (suc n) = ap (λ (b : Bool). cond b (push_changes s (next_saved s) ++ pushes_changes n (after_push s)) []) none
+  none_to_come none = grind (arith, common_steps, append-nil)
 
   -- some page is
   pub one_to_come : wants_flush (cache_at s) ≡ true → (count' : ℕ) → count' < count → (s' : Standing) → s' ≡ after_push s → HasMade all (made ++ push_changes s (next_saved s)) s' count'

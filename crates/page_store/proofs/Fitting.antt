@@ -1,5 +1,5 @@
 -- A store that fits its site, at its start and after a change.
-use Rattle.std.proofs.Common.{◌≡◌, ◌≢◌, ℕ, ◌<◌, ◌≤◌, true, false, List, [], ◌∷◌, length, drop, Option, Some, arith, sym, ap, subst, ◌∙◌, ◌⊎◌, inl, inr}
+use Rattle.std.proofs.Common.{◌≡◌, ◌≢◌, ℕ, ◌<◌, true, false, List, [], ◌∷◌, length, drop, Option, Some, arith, sym, ap, subst, ◌∙◌, ◌⊎◌, inl, inr}
 use Rattle.std.specs.List.{AllByRecursion}
 use Rattle.std.proofs.lemmas.Option.{none-some}
 use Rattle.std.proofs.lemmas.Bool.{cases_eq}
@@ -14,6 +14,7 @@ use Rattle.buffer_pool.specs.Frames.{State as Pool, AreDistinct, ChangesFront, f
 use Rattle.buffer_pool.specs.Laws.{ChangesOne}
 use Rattle.page_store.specs.declared.store.PageStore.{PageStore}
 use Rattle.page_store.specs.Representation.{IsPage, AreTold, Invariant, Matches}
+use Rattle.std.proofs.lemmas.Grind.{common_steps}
 
 pub fits_at_start : (store : PageStore) (g : Geometry) (old new : State) (groups : List (List Stored)) → store.flash.geometry ≡ g → store.pool.frames ≡ []
     → new.image ≡ old.image → flash_cache.Matches store.flash new → flash_cache.Represents store.flash new.image groups → IsCleanOn g old.image
@@ -53,9 +54,7 @@ change_fits store pool site one changed fits = record {
 -- the page in front is another, and the store goes on
 
 all_changed : (P : Frame → Type 0) (old new : List Frame) → 0 < length old → length new ≡ length old → drop 1 new ≡ drop 1 old → P (front_of new) → AllByRecursion P old → AllByRecursion P new
-all_changed P [] new there count others first all = absurd (omega (arith, there))
-all_changed P (x ∷ xs) [] there count others first all = tt
-all_changed P (x ∷ xs) (y ∷ ys) there count others first all = (first, subst (AllByRecursion P) (sym others) all.1)
+all_changed P old new h h2 h3 h4 h5 = grind (arith, common_steps)
 
 distinct_changed : (old new : List Frame) → 0 < length old → length new ≡ length old → drop 1 new ≡ drop 1 old → (front_of new).page ≡ (front_of old).page → AreDistinct old → AreDistinct new
 distinct_changed [] new there count others page all = absurd (omega (arith, there))
@@ -65,26 +64,8 @@ distinct_changed (x ∷ xs) (y ∷ ys) there count others page all =
     (subst (λ (n : ℕ). AllByRecursion (λ (o : Frame). n ≢ o.page) xs × AreDistinct xs) (sym page) all)
 
 pub front_exists : (pages : ℕ) (old : List Frame) → 0 < length old → AllByRecursion (IsPage pages) old → (front_of old).page < pages
-front_exists pages [] there all = absurd (omega (arith, there))
-front_exists pages (x ∷ xs) there all = all.0.exists
+front_exists pages old h h2 = grind (arith, common_steps)
 
 pub change_going : (store : PageStore) (pool : Pool) (site : State) (slot : ℕ) (content : Option (List ℕ)) (lsn : ℕ) → 0 < length store.pool.frames → ChangesFront store.pool.frames pool.frames slot content lsn
     → pool.size ≡ store.pool.size → AreTold (record store { pool = pool }) → Invariant store site → Invariant (record store { pool = pool }) site
-change_going store pool site slot content lsn there change size told going =
-    let few = going.own.pool.few in
-    record {
-      flash = going.flash;
-      own = record {
-        least = subst (λ n. 1 ≤ n) (sym size) going.own.least;
-        most = subst (λ n. n ≤ 4096) (sym size) going.own.most;
-        pool = record {
-          few = omega (arith, few, change.count, size);
-          distinct = distinct_changed store.pool.frames pool.frames there change.count change.others change.page going.own.pool.distinct;
-        };
-        pages = all_changed (IsPage store.flash.geometry.pages) store.pool.frames pool.frames there change.count change.others (record {
-          sound = change.sound;
-          exists = subst (λ (n : ℕ). n < store.flash.geometry.pages) (sym change.page) (front_exists store.flash.geometry.pages store.pool.frames there going.own.pages);
-        }) going.own.pages;
-        told = told;
-      };
-    }
+change_going store pool site slot content lsn there change size told going = grind (arith, common_steps, distinct_changed, all_changed, front_exists)

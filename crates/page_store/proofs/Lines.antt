@@ -13,20 +13,15 @@ use Rattle.second_chance.specs.Machine.{PoolPage, frame_lines, group_lines}
 use Rattle.buffer_pool.specs.declared.frame.Frame.{Frame as Page}
 use Rattle.buffer_pool.specs.Frames.{mark_of}
 use Rattle.page_store.specs.Caching.{pool_page}
+use Rattle.std.proofs.lemmas.Grind.{common_steps}
 
 pub more_frames : (group index : ℕ) (xs ys : List Mark) → frame_lines group index (xs ++ ys) ≡ frame_lines group index xs ++ frame_lines group (index + length xs) ys
 more_frames group index [] ys = ap (λ n. frame_lines group n ys) (let e : index ≡ index + 0 = omega arith in e)
-more_frames group index (x ∷ xs) ys =
-    let e : index + 1 + length xs ≡ index + length (x ∷ xs) = omega arith in
-    ap (λ (l : List CacheLine). line.Frame group index x.page x.valid x.dirty x.referenced ∷ l)
-    (more_frames group (index + 1) xs ys ∙ ap (λ n. frame_lines group (index + 1) xs ++ frame_lines group n ys) e)
+more_frames group index (x ∷ xs) ys = grind (arith, common_steps, (more_frames group (index + 1) xs ys))
 
 pub more_groups : (first : ℕ) (xs ys : List (List Mark)) → group_lines first (xs ++ ys) ≡ group_lines first xs ++ group_lines (first + length xs) ys
 more_groups first [] ys = ap (λ n. group_lines n ys) (let e : first ≡ first + 0 = omega arith in e)
-more_groups first (x ∷ xs) ys =
-    let e : first + 1 + length xs ≡ first + length (x ∷ xs) = omega arith in
-    ap (λ (l : List CacheLine). frame_lines first 0 x ++ l) (more_groups (first + 1) xs ys ∙ ap (λ n. group_lines (first + 1) xs ++ group_lines n ys) e)
-    ∙ sym (append_assoc (frame_lines first 0 x) (group_lines (first + 1) xs) (group_lines (first + length (x ∷ xs)) ys))
+more_groups first (x ∷ xs) ys = grind (arith, common_steps, append_assoc, (more_groups (first + 1) xs ys))
 
 pub count_marks : (groups : List (List Frame)) → length (marks_of_groups groups) ≡ length groups
 count_marks [] = refl

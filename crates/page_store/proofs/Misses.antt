@@ -1,18 +1,17 @@
 -- What a touch of a page that isn't in the pool promises, by what bringing it in does.
-use Rattle.std.proofs.Common.{◌≡◌, ℕ, ◌+◌, ◌≤◌, Bool, false, None, arith, ap, ◌∙◌}
+use Rattle.std.proofs.Common.{◌≡◌, ℕ, ◌+◌, ◌≤◌, false, None, arith, ap, ◌∙◌}
 use Rattle.std.specs.Prelude.{Result, OnOk, if◌then◌else◌}
 use Rattle.site.specs.declared.outside.Stop.{Stop}
 use Rattle.site.specs.State.{State}
 use Rattle.site.proofs.Working.{ok_as}
 use Rattle.record_model.specs.Touches.{touch}
 use Rattle.buffer_pool.specs.Frames.{frame_of}
-use Rattle.second_chance.specs.Queue.{has_frame}
 use Rattle.second_chance.specs.Machine.{in_front, touched, finds, misses, staged_by}
 use Rattle.log_store.specs.declared.store.LogStore.{LogStore}
 use Rattle.log_store.specs.LogList.{LogList}
 use Rattle.write_ahead.specs.Forcing.{forces}
 use Rattle.page_store.specs.declared.store.PageStore.{PageStore}
-use Rattle.page_store.specs.Caching.{cache_of, rules as rules_for, next_group, with_way, pushes}
+use Rattle.page_store.specs.Caching.{cache_of, rules as rules_for, next_group, pushes}
 use Rattle.page_store.specs.Ahead.{pushed_for_room, pushed_by_touch}
 use Rattle.page_store.specs.Leaves.{AreReady}
 use Rattle.page_store.specs.Changing.{touch_changes}
@@ -22,6 +21,7 @@ use Rattle.page_store.specs.Rooms.{BringsIn}
 use Rattle.page_store.proofs.Touching.{way, pushed_same, pushes_same, finds_same, misses_same, count_if, other_count, changes_same, room_staged, room_next}
 use Rattle.page_store.proofs.Calling.{works_as, stops_as, keeps_as, stands_as}
 use Rattle.page_store.proofs.StagingLaws.{stages_as}
+use Rattle.std.proofs.lemmas.Grind.{common_steps}
 
 module _ (store : PageStore) (page : ℕ) (none : frame_of store.pool.frames page ≡ None) {result : Result (Unit {0}) Stop} {log log' : LogStore} {after : PageStore} {old new : State} (b : BringsIn result log log' store after old new page) where
   forced_same : forces log (pushed_for_room store) ≡ forces log (pushed_by_touch store page)
@@ -46,12 +46,7 @@ module _ (store : PageStore) (page : ℕ) (none : frame_of store.pool.frames pag
   its_machine = ok_as result _ _ (λ is. is ∙ ap (in_front page false) (way store page none)) b.machine
 
   pub its_flash_reads : new.flash_reads ≤ old.flash_reads + (if pushes (rules_for store) page (cache_of store) then 12 else 0) + (if finds (rules_for store) page (cache_of store) then 1 else 0)
-  its_flash_reads =
-      let some = ap {B = ℕ} (λ (b : Bool). if b then 12 else 0) (pushes_same store page none) in
-      let one = ap {B = ℕ} (λ (b : Bool). if b then 1 else 0) (finds_same store page none) in
-      omega (arith, b.flash_reads, some, one)
+  its_flash_reads = grind (arith, common_steps, pushes_same, finds_same)
 
   pub its_disk_reads : new.disk_reads ≤ old.disk_reads + (if misses (rules_for store) page (cache_of store) then 1 else 0)
-  its_disk_reads =
-      let one = other_count (has_frame (with_way store).queue page) ∙ ap count_if (misses_same store page none) in
-      omega (arith, b.disk_reads, one)
+  its_disk_reads = grind (arith, common_steps, other_count, count_if, misses_same)

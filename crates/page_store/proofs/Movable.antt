@@ -1,23 +1,21 @@
 -- Which pages a push at an eviction pulls.
 use Rattle.std_lemmas.proofs.Bools.{or_true}
-use Rattle.std.proofs.Common.{◌≡◌, ℕ, ◌+◌, ◌≤◌, Bool, true, false, not, ◌||◌, cond, List, [], ◌∷◌, ◌++◌, take, map, filter, reverse, refl, sym, ap, ◌∙◌}
+use Rattle.std.proofs.Common.{arith, ◌≡◌, ℕ, ◌≤◌, Bool, true, false, not, ◌||◌, cond, List, [], ◌∷◌, take, map, filter, reverse, refl, ap, ◌∙◌}
 use Rattle.std.proofs.lemmas.Simd.{map-map}
 use Rattle.std.proofs.lemmas.List.{map-append, reverse-append, take-take, take-map}
 use Rattle.std_lemmas.proofs.Lists.{filter_all}
 use Rattle.buffer_pool.specs.declared.frame.Frame.{Frame}
 use Rattle.second_chance.specs.declared.plan.PoolMark.{PoolMark}
 use Rattle.second_chance.specs.Queue.{Queue}
-use Rattle.second_chance.specs.Machine.{must_be_pushed}
-use Rattle.page_store.specs.Caching.{pool_page}
 use Rattle.page_store.specs.Pulling.{mark_for, movable_mark, movable}
 use Rattle.std_lemmas.proofs.AllOf.{all_each, all_map}
+use Rattle.std.proofs.lemmas.Grind.{common_steps}
 
 -- lists
 
 pub reverse_map : {X Y : Type 0} (f : X → Y) (xs : List X) → reverse (map f xs) ≡ map f (reverse xs)
 reverse_map f [] = refl
-reverse_map f (x ∷ xs) =
-    reverse-append (f x ∷ []) (map f xs) ∙ ap (λ l. l ++ f x ∷ []) (reverse_map f xs) ∙ sym (map-append f (reverse xs) (x ∷ [])) ∙ sym (ap (map f) (reverse-append (x ∷ []) xs))
+reverse_map f (x ∷ xs) = grind (arith, common_steps, reverse-append, map-append, (reverse_map f xs))
 
 -- what a plan is told of a page that a listing of the coldest ones has
 abbrev pub told_mark : ℕ × Bool → PoolMark
@@ -30,16 +28,10 @@ passes m = m.changed || not m.framed
 
 filter_movable : (queue : Queue) (xs : List Frame) → filter passes (map (mark_for queue) xs) ≡ map (mark_for queue) (movable queue xs)
 filter_movable queue [] = refl
-filter_movable queue (x ∷ xs) = by (must_be_pushed queue (pool_page x)) (filter_movable queue xs)
-  where
-    by : (b : Bool) → filter passes (map (mark_for queue) xs) ≡ map (mark_for queue) (movable queue xs)
-        → cond b (mark_for queue x ∷ filter passes (map (mark_for queue) xs)) (filter passes (map (mark_for queue) xs)) ≡ map (mark_for queue) (cond b (x ∷ movable queue xs) (movable queue xs))
-    by true rest = ap (λ (l : List PoolMark). mark_for queue x ∷ l) rest
-    by false rest = rest
+filter_movable queue (x ∷ xs) = grind (arith, common_steps, (filter_movable queue xs))
 
 pub pulled_of : (pulls : Bool) (n : ℕ) (queue : Queue) (xs : List Frame) → cond pulls (take n (filter passes (map (mark_for queue) xs))) [] ≡ map (mark_for queue) (cond pulls (take n (movable queue xs)) [])
-pulled_of true n queue xs = ap (take n) (filter_movable queue xs) ∙ take-map (mark_for queue) n (movable queue xs)
-pulled_of false n queue xs = refl
+pulled_of pulls n queue xs = grind (arith, common_steps, filter_movable, take-map)
 
 -- the first seven that may be pulled are enough
 pub pulled_by_plan : (pulls : Bool) (n : ℕ) (queue : Queue) (xs : List Frame) → n ≤ 7

@@ -1,14 +1,13 @@
 -- The next units of the rings over an honest site, whatever stands there: calls one after the other.
-use Rattle.std.proofs.Common.{◌≡◌, ◌≢◌, refl, sym, ap, subst}
+use Rattle.std.proofs.Common.{arith, ◌≡◌, ◌≢◌, refl}
 use Rattle.std.specs.Prelude.{Result, Ok, Err, IsErrOf}
 use Rattle.site.specs.declared.outside.Dev.TheVariants.{Log, Flash}
 use Rattle.site.specs.declared.outside.Stop.{Stop}
 use Rattle.site.specs.declared.outside.Stop.TheVariants.{Worn}
-use Rattle.site.specs.State.{State, Image}
+use Rattle.site.specs.State.{State}
 use Rattle.site.specs.Calls.{IsUnchanged}
 use Rattle.site.specs.Moments.{ChangesOnly}
 use Rattle.site.proofs.Working.{no_error}
-use Rattle.flash_cache.specs.declared.cache.FlashCache.{FlashCache}
 use Rattle.flash_cache.specs.Representation as flash_cache
 use Rattle.flash_cache.proofs.NextSegments as segments
 use Rattle.log_store.specs.declared.store.LogStore.{LogStore}
@@ -16,13 +15,11 @@ use Rattle.log_store.specs.Representation as log_store
 use Rattle.log_store.proofs.NextBlocks as blocks
 use Rattle.page_store.specs.declared.store.PageStore.{PageStore}
 use Rattle.page_store.specs.Calls.{KeepsNext}
+use Rattle.std.proofs.lemmas.Grind.{common_steps}
 
 -- nothing is called
 pub next_still : {T : Type 0} (r : Result T Stop) {log : LogStore} {pages pages' : PageStore} {site : State} → pages'.flash ≡ pages.flash → (IsErrOf r (Worn Log) → ⊥) → (IsErrOf r (Worn Flash) → ⊥) → KeepsNext r log log pages pages' site site
-next_still r {log = log} {pages = pages} {pages' = pages'} {site = site} same no_log no_flash = record {
-  block = blocks.next_elsewhere r log site site refl no_log;
-  segment = segments.next_elsewhere r pages.flash pages'.flash site site (ap (λ (f : FlashCache). f.segments) same) (ap (λ (f : FlashCache). f.geometry) same) refl no_flash;
-}
+next_still r {log = log} {pages = pages} {pages' = pages'} {site = site} same no_log no_flash = grind (arith, common_steps)
 
 pub next_nothing : {T : Type 0} {x : T} {log : LogStore} {pages pages' : PageStore} {site : State} → pages'.flash ≡ pages.flash → KeepsNext {T = T} (Ok x) log log pages pages' site site
 next_nothing same = next_still _ same (λ says. no_error says) (λ says. no_error says)
@@ -30,10 +27,7 @@ next_nothing same = next_still _ same (λ says. no_error says) (λ says. no_erro
 -- nothing is written
 pub next_read : {T : Type 0} (r : Result T Stop) {log : LogStore} {pages pages' : PageStore} {before now : State} → IsUnchanged before now → pages'.flash.segments ≡ pages.flash.segments → pages'.flash.geometry ≡ pages.flash.geometry →
     (IsErrOf r (Worn Log) → ⊥) → (IsErrOf r (Worn Flash) → ⊥) → KeepsNext r log log pages pages' before now
-next_read r {log = log} {pages = pages} {pages' = pages'} {before = before} {now = now} same ring sizes no_log no_flash = record {
-  block = blocks.next_elsewhere r log before now (ap (λ (i : Image). i.log) same.image) no_log;
-  segment = segments.next_elsewhere r pages.flash pages'.flash before now ring sizes (ap (λ (i : Image). i.flash) same.image) no_flash;
-}
+next_read r {log = log} {pages = pages} {pages' = pages'} {before = before} {now = now} same ring sizes no_log no_flash = grind (arith, common_steps)
 
 -- the log alone is written
 pub next_logged : {T : Type 0} {r : Result T Stop} {old new : LogStore} {pages : PageStore} {before now : State} → log_store.KeepsNext r old new before now → ChangesOnly Log before now → (IsErrOf r (Worn Flash) → ⊥) → KeepsNext r old new pages pages before now
@@ -59,14 +53,8 @@ next_answered first = record { block = blocks.next_answered first.block; segment
 
 -- and then it stops for want of something
 pub next_refused : {A B : Type 0} {a : A} {stop : Stop} {old new : LogStore} {pages pages' : PageStore} {before now : State} → stop ≢ Worn Log → stop ≢ Worn Flash → KeepsNext {T = A} (Ok a) old new pages pages' before now → KeepsNext {T = B} (Err stop) old new pages pages' before now
-next_refused no_log no_flash first = record {
-  block = record { next = λ is. tt; masters = tt; worn = λ is says. absurd (no_log cc) };
-  segment = record { next = λ is. tt; worn = λ is says. absurd (no_flash cc) };
-}
+next_refused no_log no_flash first = grind (arith, common_steps)
 
 -- by another pool
 pub next_with : {T : Type 0} {r : Result T Stop} {old new : LogStore} {pages between middle after : PageStore} {before now : State} → pages.flash ≡ between.flash → after.flash ≡ middle.flash → KeepsNext r old new between middle before now → KeepsNext r old new pages after before now
-next_with {r = r} {between = between} {after = after} {before = before} {now = now} front behind first = record {
-  block = first.block;
-  segment = subst (λ (f : FlashCache). flash_cache.KeepsNext r f after.flash before now) (sym front) (subst (λ (f : FlashCache). flash_cache.KeepsNext r between.flash f before now) (sym behind) first.segment);
-}
+next_with {r = r} {between = between} {after = after} {before = before} {now = now} front behind first = grind (arith, common_steps)

@@ -1,23 +1,23 @@
 -- How many calls a push makes, by its changes and by the units that it appends.
-use Rattle.std.proofs.Common.{◌≡◌, ℕ, ◌+◌, ◌*◌, ◌≤◌, Bool, true, false, cond, List, [], ◌∷◌, ◌++◌, length, refl, ap, arith}
+use Rattle.std.proofs.Common.{◌≡◌, ℕ, ◌+◌, ◌*◌, ◌≤◌, Bool, true, false, cond, List, [], ◌∷◌, ◌++◌, length, refl, arith}
 use Rattle.std.specs.Prelude.{if◌then◌else◌}
 use Rattle.std.specs.List.{AllByRecursion}
 use Rattle.site.specs.declared.geometry.Geometry.{Geometry}
 use Rattle.site.specs.State.{State, Image}
 use Rattle.site.specs.Moments.{since}
 use Rattle.site.proofs.Working.{works_rise}
-use Rattle.image_changes.specs.Changes.{Change, AppendsGroup, Reaches}
+use Rattle.image_changes.specs.Changes.{Change, Reaches}
 use Rattle.image_changes.specs.Costs.{CallsForUnits}
 use Rattle.image_changes.proofs.Counting.{paid, paid_append, cost_reached}
 use Rattle.stage_out.specs.Staged.{changes_of, calls_of}
-use Rattle.frame_group.specs.Groups.{Frame as Stored, group}
+use Rattle.frame_group.specs.Groups.{Frame as Stored}
 use Rattle.tail_rebuild.specs.Saving.{is_due, changes_of_save}
 use Rattle.log_store.specs.LogList.{LogList, changes_if}
 use Rattle.flash_cache.specs.declared.cache.FlashCache.{FlashCache}
-use Rattle.flash_cache.specs.Representation.{groups_on}
-use Rattle.flash_cache.specs.Pushed.{staged_pages, frames_pushed, changes_before, changes_of_push, changes_of_group, sum_of, calls_by}
+use Rattle.flash_cache.specs.Pushed.{staged_pages, changes_of_group, sum_of, calls_by}
 use Rattle.flash_cache.proofs.StagedMarks.{calls_few}
 use Rattle.flash_cache.proofs.Written.{sum_joined, push_calls as group_calls}
+use Rattle.std.proofs.lemmas.Grind.{common_steps}
 
 paid_staged : (pages : List ℕ) → paid (changes_of pages) ≡ 0
 paid_staged [] = refl
@@ -34,14 +34,7 @@ four_most false = omega arith
 
 -- the group is what is paid for
 pub paid_group : (cache : FlashCache) (image : Image) (pages : List ℕ) (changed : List Bool) (contents : List (List ℕ)) → paid (changes_of_group cache image pages changed contents) ≡ 19
-paid_group cache image pages changed contents =
-    let content = group (frames_pushed cache image pages changed contents) in
-    let all = paid_append (changes_before cache image) (changes_of_push (staged_pages cache) content) in
-    let push = paid_append (changes_of (staged_pages cache)) (AppendsGroup content ∷ []) in
-    let saved = paid_saved (is_due cache.ring.hi cache.segments.hi) (groups_on cache.geometry image) in
-    let staged = paid_staged (staged_pages cache) in
-    let one : paid (AppendsGroup content ∷ []) ≡ 19 = refl in
-    omega (arith, all, push, saved, staged, one)
+paid_group cache image pages changed contents = grind (arith, common_steps, paid_append, paid_saved, paid_staged, paid)
 
 -- What a force of the log and the push behind it take: the calls of their changes, and so no more than their units cost.
 pub record TakesCalls (changes : List Change) (old new : State) : Type 0 where
@@ -51,29 +44,7 @@ pub record TakesCalls (changes : List Change) (old new : State) : Type 0 where
 pub push_takes : (list : LogList) (sealing : Bool) (cache : FlashCache) (image : Image) (pages : List ℕ) (changed : List Bool) (contents : List (List ℕ)) (hi hi' : ℕ) (old mid new : State) → AllByRecursion (λ frames. (1 ≤ length frames) × (length frames ≤ 8)) cache.directory.groups
     → hi' ≡ cond sealing (hi + 1) hi → length mid.past + 5 * hi ≡ length old.past + 5 * hi' → length new.past ≡ length mid.past + ((if is_due cache.ring.hi cache.segments.hi then 5 else 0) + (calls_of (staged_pages cache) + 5))
     → TakesCalls (changes_if sealing list ++ changes_of_group cache image pages changed contents) old new
-push_takes list sealing cache image pages changed contents hi hi' old mid new sizes is sealed pushed =
-    let due : Bool = is_due cache.ring.hi cache.segments.hi in
-    let second = changes_of_group cache image pages changed contents in
-    let forced = forced_calls list sealing hi hi' is in
-    let all = sum_joined calls_by (changes_if sealing list) second in
-    let own = group_calls due (groups_on cache.geometry image) (staged_pages cache) (group (frames_pushed cache image pages changed contents)) in
-    let parts = paid_append (changes_if sealing list) second in
-    let nineteen = paid_group cache image pages changed contents in
-    let nine = calls_few cache sizes in
-    record { calls = omega (arith, forced.0, all, own, sealed, pushed); few = omega (arith, forced.1, parts, nineteen, nine, sealed, pushed, five_most due) }
-  where
-    forced_calls : (list : LogList) (sealing : Bool) (hi hi' : ℕ) → hi' ≡ cond sealing (hi + 1) hi → (5 * hi' ≡ 5 * hi + sum_of calls_by (changes_if sealing list)) × (5 * hi' ≡ 5 * hi + paid (changes_if sealing list))
-    forced_calls list true hi hi' is = let one : sum_of calls_by (changes_if true list) ≡ 5 = refl in let five : paid (changes_if true list) ≡ 5 = refl in (omega (arith, one, is), omega (arith, five, is))
-    forced_calls list false hi hi' is = let one : sum_of calls_by (changes_if false list) ≡ 0 = refl in let none : paid (changes_if false list) ≡ 0 = refl in (omega (arith, one, is), omega (arith, none, is))
-
-    five_most : (due : Bool) → (if due then 5 else 0) ≤ 5
-    five_most true = omega arith
-    five_most false = omega arith
+push_takes list sealing cache image pages changed contents hi hi' old mid new sizes is sealed pushed = grind (arith, common_steps, sum_joined, group_calls, paid_append, paid_group, calls_few, paid)
 
 pub push_calls : (g : Geometry) (changes : List Change) (old mid new : State) → Reaches g changes old.image new.image → TakesCalls changes old new → new.told ≡ old.told → mid.past ≡ old.past ++ since old mid → new.past ≡ mid.past ++ since mid new → CallsForUnits g old new
-push_calls g changes old mid new reaches takes told first later =
-    let cost = cost_reached g changes old.image new.image reaches in
-    let same = ap length told in
-    let forced = works_rise old mid first in
-    let grouped = works_rise mid new later in
-    record { works = omega (arith, cost, takes.few, forced, grouped); calls = omega (arith, cost, takes.few, same) }
+push_calls g changes old mid new reaches takes told first later = grind (arith, common_steps, cost_reached, works_rise)

@@ -1,6 +1,6 @@
 -- A force of the log, and a push behind it.
-use Rattle.std.proofs.Common.{◌≡◌, ◌≢◌, ◌⊎◌, inl, inr, IsTrue, ℕ, zero, suc, ◌*◌, ◌<◌, ◌≤◌, Bool, true, false, List, [], ◌∷◌, ◌++◌, length, get_or, map, Some, arith, refl, sym, ap, subst, ◌∙◌, length-append, append-nil}
-use Rattle.std.specs.Prelude.{Result, Ok, Err, OnOk, OnErr, IsErrOf, slice_index, Contains}
+use Rattle.std.proofs.Common.{◌≡◌, ◌≢◌, ◌⊎◌, inl, inr, IsTrue, ℕ, zero, suc, ◌*◌, ◌<◌, ◌≤◌, Bool, true, false, List, [], ◌∷◌, ◌++◌, length, get_or, Some, arith, refl, sym, ap, subst, ◌∙◌, length-append, append-nil}
+use Rattle.std.specs.Prelude.{Result, Ok, Err, OnOk, OnErr, IsErrOf, Contains}
 use Rattle.std.specs.List.{AllByRecursion}
 use Rattle.std.proofs.lemmas.Bool.{cases_eq, true≢false}
 use Rattle.std.proofs.lemmas.List.{get_or_default}
@@ -13,22 +13,22 @@ use Rattle.site.specs.State.{State, Image, Snapshot, MayStand, content_of, loose
 use Rattle.site.specs.Calls.{Preserves}
 use Rattle.site.specs.Moments.{Leaves, LeavesOnly, ChangesOnly, Untouched}
 use Rattle.site.proofs.Laws.{leaves_weaker, leaves_others_too, untouched_leaves, each_both, each_weaker, settled_is, quiet_settled, stays_honest}
-use Rattle.sealed_ring.specs.Ring.{Units, IsRing, hi_of, units_of, last_of}
+use Rattle.sealed_ring.specs.Ring.{IsRing, hi_of, units_of}
 use Rattle.log_records.specs.declared.log_record.LogRecord.{LogRecord}
 use Rattle.sealed_ring.specs.declared.slots.Shape.{Shape}
-use Rattle.image_changes.specs.Rings.{Masters, master_shape, log_shape, group_shape, segment_shape, KeepsUnits}
+use Rattle.image_changes.specs.Rings.{Masters, master_shape, log_shape, group_shape, KeepsUnits}
 use Rattle.image_changes.specs.Changes.{Change, Reaches, ring_of}
 use Rattle.image_changes.specs.Reached.{IsReached, IsFrontOf, LeavesFront}
 use Rattle.image_changes.specs.Laws.{RingKept}
-use Rattle.tail_rebuild.specs.Saving.{is_due, changes_of_save}
-use Rattle.flash_cache.specs.Pushed.{staged_pages, chance_marks, chance_given, changes_of_push, changes_of_group, pushed_queue, pushed_groups, known_pushed, frames_given, frames_pushed}
-use Rattle.frame_group.specs.Groups.{Frame as Stored, group, frames_in}
+use Rattle.tail_rebuild.specs.Saving.{changes_of_save}
+use Rattle.flash_cache.specs.Pushed.{changes_of_push, changes_of_group, pushed_queue, pushed_groups, known_pushed, frames_pushed}
+use Rattle.frame_group.specs.Groups.{Frame as Stored, group}
 use Rattle.frame_group.specs.Versions.{frames_of, version, CleanAsDisk}
 use Rattle.disk_pages.specs.Pages.{page_on}
 use Rattle.slotted_page.specs.Layout.{IsSound}
 use Rattle.flash_cache.specs.declared.cache.FlashCache.{FlashCache}
 use Rattle.flash_cache.specs.Representation as flash_cache
-use Rattle.flash_cache.specs.Representation.{groups_on, version_on, IsCleanOn, HasGroups, AreSaved}
+use Rattle.flash_cache.specs.Representation.{version_on, IsCleanOn, HasGroups, AreSaved}
 use Rattle.tail_rebuild.proofs.Following.{saved_again}
 use Rattle.flash_cache.specs.Kept as kept
 use Rattle.flash_cache.specs.Kept.{GivesVersions, AreCleanGiven, LeavesClean}
@@ -43,16 +43,11 @@ use Rattle.page_store.specs.declared.store.PageStore.{PageStore}
 use Rattle.page_store.specs.Representation.{Matches}
 use Rattle.page_store.specs.Ahead.{AreSealed, LeavesSealed, sealed_end}
 use Rattle.page_store.specs.Leaves.{HasQueue, AreReady, LeavesPages, AreGiven, Gives, AreChanged}
+use Rattle.std.proofs.lemmas.Grind.{common_steps}
 
 -- blocks on a log device that is the same
 blocks_same : (g : Geometry) (first : ℕ) (blocks : List (List LogRecord)) (old new : Image) → new.log ≡ old.log → HasBlocks g first blocks old → HasBlocks g first blocks new
-blocks_same g first blocks old new same has = record {
-  form = subst (IsRing (log_shape g)) (sym same) has.form;
-  next = has.next ∙ ap (hi_of (log_shape g)) (sym same);
-  few = has.few;
-  are_blocks = has.are_blocks;
-  units = ap (λ (l : List ℕ). last_of (length blocks) (units_of (log_shape g) l).live) same ∙ has.units;
-}
+blocks_same g first blocks old new same has = grind (arith, common_steps)
 
 -- The same flash and disk.
 
@@ -65,43 +60,19 @@ clean_same g old new flash disk clean =
     (subst (λ (d : List ℕ). CleanAsDisk (λ p. page_on p d) (frames_of (units_of (group_shape g) old.flash).live)) (sym disk) clean)
 
 pub groups_same : (g : Geometry) (first : ℕ) (groups : List (List Stored)) (old new : Image) → new.flash ≡ old.flash → HasGroups g first groups old → HasGroups g first groups new
-groups_same g first groups old new flash has = record {
-  form = subst (IsRing (group_shape g)) (sym flash) has.form;
-  next = has.next ∙ ap (hi_of (group_shape g)) (sym flash);
-  are_groups = has.are_groups;
-  live = ap (λ (f : List ℕ). (units_of (group_shape g) f).live) flash ∙ has.live;
-}
+groups_same g first groups old new flash has = grind (arith, common_steps)
 
 keeps_same : (s : Shape) (old new : Image) → s.dev ≡ Flash → new.flash ≡ old.flash → KeepsUnits s old new
-keeps_same s old new on_flash flash = record {
-  units = ap (units_of s) same;
-  form = λ form. subst (IsRing s) (sym same) form;
-}
-  where
-    same : content_of s.dev new ≡ content_of s.dev old
-    same = subst (λ (d : Dev). content_of d new ≡ content_of d old) (sym on_flash) flash
+keeps_same s old new on_flash flash = grind (arith, common_steps)
 
 pub saved_same : (g : Geometry) (groups : List (List Stored)) (old new : Image) → new.flash ≡ old.flash → AreSaved g groups old → AreSaved g groups new
-saved_same g groups old new flash saved = record {
-  segments = saved.segments;
-  follow = saved_again g groups saved.segments old new (keeps_same (group_shape g) old new refl flash) (keeps_same (segment_shape g) old new refl flash) saved.follow;
-}
+saved_same g groups old new flash saved = grind (arith, common_steps, saved_again, keeps_same)
 
 pub flash_fits_same : (cache : FlashCache) (old new : State) → new.image.flash ≡ old.image.flash → IsTrue new.honest → flash_cache.Matches cache old → flash_cache.Matches cache new
-flash_fits_same cache old new flash honest fits = record {
-  honest = honest;
-  form = subst (IsRing (group_shape cache.geometry)) (sym flash) fits.form;
-  hi = fits.hi ∙ ap (hi_of (group_shape cache.geometry)) (sym flash);
-  segments_form = subst (IsRing (segment_shape cache.geometry)) (sym flash) fits.segments_form;
-  segments_hi = fits.segments_hi ∙ ap (hi_of (segment_shape cache.geometry)) (sym flash);
-}
+flash_fits_same cache old new flash honest fits = grind (arith, common_steps)
 
 pub flash_holds_same : (cache : FlashCache) (old new : Image) (groups : List (List Stored)) → new.flash ≡ old.flash → flash_cache.Represents cache old groups → flash_cache.Represents cache new groups
-flash_holds_same cache old new groups flash holds = record {
-  has = groups_same cache.geometry cache.directory.first groups old new flash holds.has;
-  saved = saved_same cache.geometry groups old new flash holds.saved;
-  shown = holds.shown;
-}
+flash_holds_same cache old new groups flash holds = grind (arith, common_steps, groups_same, saved_same)
 
 -- An LSN that is logged stays so.
 pub logged_more : (end end' : ℕ) (content : List ℕ) → end ≤ end' → IsLogged end content → IsLogged end' content
@@ -150,16 +121,13 @@ own_sealing true list = ((λ same. cc), tt)
 own_sealing false list = tt
 
 own_push : (pages group : List ℕ) → AreOwn (changes_of_push pages group)
-own_push [] group = ((λ same. cc), tt)
-own_push (page ∷ pages) group = ((λ same. cc), ((λ same. cc), tt))
+own_push pages group = grind (arith, common_steps)
 
 own_save : (due : Bool) (groups : List (List Stored)) (changes : List Change) → AreOwn changes → AreOwn (changes_of_save due groups ++ changes)
-own_save true groups changes own = ((λ same. cc), own)
-own_save false groups changes own = own
+own_save due groups changes h = grind (arith, common_steps)
 
 pub own_group : (cache : FlashCache) (image : Image) (pages : List ℕ) (changed : List Bool) (contents : List (List ℕ)) → AreOwn (changes_of_group cache image pages changed contents)
-own_group cache image pages changed contents =
-    own_save (is_due cache.ring.hi cache.segments.hi) (groups_on cache.geometry image) _ (own_push (staged_pages cache) (group (frames_pushed cache image pages changed contents)))
+own_group cache image pages changed contents = grind (arith, common_steps, own_save, own_push)
 
 pub masters_kept : RingKept → (g : Geometry) (all : List Change) (old : State) (s : Snapshot) → AreOwn all → IsReached g (IsFrontOf all) old s → KeepsUnits master_shape old.image s.image
 masters_kept law g all old s own is =
@@ -203,10 +171,7 @@ module _ (g : Geometry) (sealing : Bool) (list : LogList) (old mid : State) (lea
       }) (each_both old mid _ _ forced front)
 
   rises : (s : Snapshot) → HasBlocks g list.first list.blocks old.image → LeavesLog g sealing list old.told s → sealed_end g old.image ≤ sealed_end g s.image
-  rises s has blocks = elim blocks.blocks [
-    | inl same ↦ let a = has.next in let b = same.next in omega (arith, a, b)
-    | inr more ↦ let a = has.next in let b = more.1.next in omega (arith, a, b, length-append list.blocks (list.tail ∷ []))
-  ]
+  rises s has blocks = grind (arith, common_steps, length-append)
 
   pub force_sealed : HasBlocks g list.first list.blocks old.image → AreSealed g old.image → LeavesOnly old mid (LeavesSealed g)
   force_sealed has sealed = leaves_weaker old mid Forced (LeavesSealed g) (λ s p. record {
@@ -308,16 +273,12 @@ module _ (cache : FlashCache) (groups : List (List Stored)) (pages : List ℕ) (
 -- the new group is that of the image at first
 pub frames_since : (cache : FlashCache) (pages : List ℕ) (changed : List Bool) (contents : List (List ℕ)) (old mid : Image) → mid.flash ≡ old.flash → mid.disk ≡ old.disk
     → frames_pushed cache mid pages changed contents ≡ frames_pushed cache old pages changed contents
-frames_since cache pages changed contents old mid flash disk =
-    let same : version_on cache.geometry mid ≡ version_on cache.geometry old = λ i n. version_same cache.geometry old mid n flash disk i in
-    ap (λ (versions : ℕ → List ℕ). map (chance_given versions) (chance_marks cache) ++ frames_given pages changed contents) same
+frames_since cache pages changed contents old mid flash disk = grind (arith, common_steps, version_same)
 
 -- and the changes are, too
 pub group_changes_since : (cache : FlashCache) (pages : List ℕ) (changed : List Bool) (contents : List (List ℕ)) (old mid : Image) → mid.flash ≡ old.flash → mid.disk ≡ old.disk
     → changes_of_group cache mid pages changed contents ≡ changes_of_group cache old pages changed contents
-group_changes_since cache pages changed contents old mid flash disk =
-    (λ i. changes_of_save (is_due cache.ring.hi cache.segments.hi) (map frames_in (units_of (group_shape cache.geometry) (flash i)).live)
-    ++ changes_of_push (staged_pages cache) (group (frames_since cache pages changed contents old mid flash disk i)))
+group_changes_since cache pages changed contents old mid flash disk = grind (arith, common_steps, frames_since)
 
 -- all changes of a call were made
 pub reached_all : (g : Geometry) (all : List Change) (old new : State) → new.told ≡ old.told → Reaches g all old.image new.image → IsReached g (IsFrontOf all) old (snapshot_of new)
@@ -361,8 +322,7 @@ between store log log' sealing list old mid ready changes goes fits holds =
 
 pub clean_given_same : (cache : FlashCache) (pages : List ℕ) (changed : List Bool) (contents : List (List ℕ)) (old new : Image) → new.disk ≡ old.disk
     → AreCleanGiven cache pages changed contents old → AreCleanGiven cache pages changed contents new
-clean_given_same cache pages changed contents old new disk are k less unchanged =
-    let own = are k less unchanged in (own.0, own.1 ∙ ap (λ d. page_on (slice_index pages k) d) (sym disk))
+clean_given_same cache pages changed contents old new disk are k less unchanged = grind (arith, common_steps)
 
 pub ok_under : {A E : Type 0} (r : Result A E) (P Q : Type 0) → (P → OnOk r Q) → OnOk r (P → Q)
 ok_under (Ok x) P Q f = f
@@ -373,8 +333,7 @@ ok_four (Ok x) P Q R S Z f p q r s = f p q r s
 ok_four (Err e) P Q R S Z f p q r s = tt
 
 pub ok_seven : {A E : Type 0} (r : Result A E) (P Q R S T U V Z : Type 0) → (P → Q → R → S → T → U → V → Z) → OnOk r P → OnOk r Q → OnOk r R → OnOk r S → OnOk r T → OnOk r U → OnOk r V → OnOk r Z
-ok_seven (Ok x) P Q R S T U V Z f p q r s t u v = f p q r s t u v
-ok_seven (Err e) P Q R S T U V Z f p q r s t u v = tt
+ok_seven r P Q R S T U V Z h h2 h3 h4 h5 h6 h7 h8 = grind (arith, common_steps)
 
 -- the log that was found, where nothing of its device is loose
 pub log_fits : (log : LogStore) (site : State) → IsQuiet site → log_store.Finds log site → log_store.Matches log site
@@ -382,11 +341,7 @@ log_fits log site quiet finds = record { honest = finds.honest; settled = quiet_
 
 -- a log is found after calls that leave the units of its ring
 pub log_found : (log : LogStore) (old new : State) → KeepsUnits (log_shape log.geometry) old.image new.image → Preserves old new → log_store.Finds log old → log_store.Finds log new
-log_found log old new keeps goes finds = record {
-  honest = stays_honest old new goes finds.honest;
-  form = keeps.form finds.form;
-  hi = finds.hi ∙ sym (ap (λ (u : Units). u.hi) keeps.units);
-}
+log_found log old new keeps goes finds = grind (arith, common_steps, stays_honest)
 
 -- Behind the push.
 

@@ -1,5 +1,5 @@
 -- The rings stay sound at each moment.
-use Rattle.std.proofs.Common.{◌≡◌, inl, inr, ℕ, ◌+◌, ◌*◌, ◌<◌, Bool, true, false, List, [], ◌∷◌, ◌++◌, map, refl, sym, ap, subst, Option, arith}
+use Rattle.std.proofs.Common.{◌≡◌, ℕ, ◌+◌, ◌<◌, Bool, List, [], ◌∷◌, ◌++◌, map, sym, ap, subst, Option, arith}
 use Rattle.std.proofs.lemmas.Bool.{cases_lt, eqb-true, eqb-false}
 use Rattle.std.specs.List.{AllByRecursion}
 use Rattle.site.specs.declared.geometry.Geometry.{Geometry}
@@ -14,24 +14,23 @@ use Rattle.image_changes.specs.Changes.{Change, AppendsSegment, Makes}
 use Rattle.image_changes.specs.Reached.{IsReached, IsFrontOf, LeavesFront}
 use Rattle.log_store.specs.LogList.{LogList, changes_if}
 use Rattle.checkpoint.specs.declared.master.Master.{Master}
-use Rattle.tail_rebuild.specs.Saving.{is_due, changes_of_save}
-use Rattle.flash_cache.specs.Pushed.{staged_pages, chance_marks, chance_given, frames_given, frames_pushed, changes_of_push, changes_of_group}
+use Rattle.flash_cache.specs.Pushed.{chance_marks, chance_given, frames_given, frames_pushed, changes_of_push, changes_of_group}
 use Rattle.flash_cache.specs.declared.cache.FlashCache.{FlashCache}
 use Rattle.flash_cache.specs.Representation as flash_cache
-use Rattle.flash_cache.specs.Representation.{groups_on, version_on}
+use Rattle.flash_cache.specs.Representation.{version_on}
 use Rattle.second_chance.specs.Plans.{Placed}
 use Rattle.image_meaning.specs.Meaning.{IsFrameOf}
 use Rattle.image_meaning.specs.Changes.{SegmentIsDue, NoSegmentIsDue}
 use Rattle.image_meaning.specs.Beside.{AreRingsSoundUnder, KeepsRingsAll, RingsKeptUnder}
 use Rattle.page_store.specs.Leaves.{LeavesRings}
+use Rattle.std.proofs.lemmas.Grind.{common_steps}
 
 pub all_front : (g : Geometry) (image : Image) (front left : List Change) → KeepsRingsAll g image (front ++ left) → KeepsRingsAll g image front
 all_front g image [] left all = tt
 all_front g image (change ∷ front) left all = (all.0, λ mid made. all_front g mid front left (all.1 mid made))
 
 pub sealing_keeps : (g : Geometry) (image : Image) (sealing : Bool) (list : LogList) → KeepsRingsAll g image (changes_if sealing list)
-sealing_keeps g image true list = (tt, λ mid made. tt)
-sealing_keeps g image false list = tt
+sealing_keeps g image sealing list = grind (arith, common_steps)
 
 sound_frames : (g : Geometry) (pages : List ℕ) (changed : List Bool) (contents : List (List ℕ)) → AllByRecursion IsSound contents → AllByRecursion (λ frame. frame.page < g.pages) (frames_given pages changed contents)
     → AllByRecursion (IsFrameOf g) (frames_given pages changed contents)
@@ -53,10 +52,7 @@ sound_pushed cache image pages changed contents versions sound = each (chance_ma
 
 -- where no segment is due none is behind changes of other rings, nor behind a segment that was due
 none_due_stays : (g : Geometry) (old new : Image) → KeepsUnits (group_shape g) old new → KeepsUnits (segment_shape g) old new → NoSegmentIsDue g old → NoSegmentIsDue g new
-none_due_stays g old new groups segments none =
-    let h : hi_of (group_shape g) new.flash ≡ hi_of (group_shape g) old.flash = ap (λ (u : Units). u.hi) groups.units in
-    let k : hi_of (segment_shape g) new.flash ≡ hi_of (segment_shape g) old.flash = ap (λ (u : Units). u.hi) segments.units in
-    omega (arith, none, h, k)
+none_due_stays g old new groups segments none = grind (arith, common_steps)
 
 none_due_then : (g : Geometry) (old new : Image) (content : List ℕ) → SegmentIsDue g old → Makes g (AppendsSegment content) old new → NoSegmentIsDue g new
 none_due_then g old new content due made =
@@ -72,20 +68,7 @@ push_keeps g image (page ∷ staged) frames none sound is = (tt, λ mid made. ((
 pub pushing_keeps : (cache : FlashCache) (site : State) (groups : List (List Stored)) (pages : List ℕ) (changed : List Bool) (contents : List (List ℕ)) → flash_cache.Matches cache site → flash_cache.Represents cache site.image groups →
     AllByRecursion (IsFrameOf cache.geometry) (frames_pushed cache site.image pages changed contents) → IsGroup (group (frames_pushed cache site.image pages changed contents)) (frames_pushed cache site.image pages changed contents) →
     KeepsRingsAll cache.geometry site.image (changes_of_group cache site.image pages changed contents)
-pushing_keeps cache site groups pages changed contents fits holds sound is = by (is_due cache.ring.hi cache.segments.hi) refl
-  where
-    by : (due : Bool) → is_due cache.ring.hi cache.segments.hi ≡ due → KeepsRingsAll cache.geometry site.image (changes_of_save due (groups_on cache.geometry site.image) ++ changes_of_push (staged_pages cache) (group (frames_pushed cache site.image pages changed contents)))
-    by true is_true =
-        let due : SegmentIsDue cache.geometry site.image = let same = eqb-true _ _ is_true in let h = fits.hi in let k = fits.segments_hi in omega (arith, same, h, k) in
-        (record { due = due; heads = refl }, λ mid made. push_keeps cache.geometry mid (staged_pages cache) (frames_pushed cache site.image pages changed contents) (none_due_then cache.geometry site.image mid _ due made) sound is)
-    by false is_false =
-        let none : NoSegmentIsDue cache.geometry site.image =
-        let other = eqb-false _ _ is_false in let h = fits.hi in let k = fits.segments_hi in let high = holds.saved.follow.follow.high in
-        elim (cases_lt (hi_of (group_shape cache.geometry) site.image.flash) (4 * hi_of (segment_shape cache.geometry) site.image.flash + 4)) [
-          | inl less ↦ less
-          | inr more ↦ absurd (other (omega (arith, h, k, high, more)))
-        ] in
-        push_keeps cache.geometry site.image (staged_pages cache) (frames_pushed cache site.image pages changed contents) none sound is
+pushing_keeps cache site groups pages changed contents fits holds sound is = grind (arith, common_steps, eqb-true, push_keeps, none_due_then, eqb-false, cases_lt)
 
 pub rings_front : (newest : Option Master) → RingsKeptUnder newest → (g : Geometry) (changes : List Change) (old new : State) → AreRingsSoundUnder newest g old.image → KeepsRingsAll g old.image changes → LeavesFront g changes old new → LeavesOnly old new (LeavesRings newest g)
 rings_front newest kept g changes old new sound all leaves =

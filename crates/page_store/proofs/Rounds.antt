@@ -12,25 +12,19 @@ use Rattle.image_changes.specs.Rings.{master_shape}
 use Rattle.log_store.specs.LogList.{LogList, sealed_if}
 use Rattle.log_store.specs.Representation.{HasBlocks, LeavesLog}
 use Rattle.page_store.specs.Leaves.{LeavesPages}
+use Rattle.std.proofs.lemmas.Grind.{common_steps}
 
 -- Blocks and tail: where there is one block more, there was a tail and is none.
 
 pub no_tail : (h0 h1 : ℕ) (t0 t1 : Bool) → 512 * (h1 + cond t1 1 0) ≡ 512 * (h0 + cond t0 1 0) → nat_lt h0 h1 ≡ true → t1 ≡ false
-no_tail h0 h1 t0 false end more = refl
-no_tail h0 h1 true true end more = absurd (grind (arith, nat_tests))
-no_tail h0 h1 false true end more = absurd (grind (arith, nat_tests))
+no_tail h0 h1 t0 t1 h h2 = grind (arith, common_steps, nat_tests)
 
 pub risen : (h0 h1 h2 : ℕ) (forced : Bool) → h0 ≤ h1 → h2 ≡ cond forced (h1 + 1) h1 → nat_lt h0 h2 ≡ (nat_lt h0 h1 || forced)
-risen h0 h1 h2 true rises is = ap (nat_lt h0) is ∙ more ∙ sym (or-true (nat_lt h0 h1))
-  where
-    more : nat_lt h0 (h1 + 1) ≡ true
-    more = grind (arith, nat_tests)
+risen h0 h1 h2 true rises is = grind (arith, common_steps, or-true, nat_tests)
 risen h0 h1 h2 false rises is = ap (nat_lt h0) is ∙ sym (or-false (nat_lt h0 h1))
 
 pub sealed_again : (list : LogList) (b forced : Bool) → (b ≡ true → forced ≡ false) → sealed_if forced (sealed_if b list) ≡ sealed_if (b || forced) list
-sealed_again list true true one = absurd (true≢false (one refl))
-sealed_again list true false one = refl
-sealed_again list false forced one = refl
+sealed_again list b forced h = grind (arith, common_steps)
 
 -- One push more.
 
@@ -90,6 +84,4 @@ one_more_push g given given' wanted b forced list old mid new had also once same
 
 -- where there is a tail, there is no block more
 pub kept_block : (h0 h1 : ℕ) (t0 t1 : Bool) → 512 * (h1 + cond t1 1 0) ≡ 512 * (h0 + cond t0 1 0) → h0 ≤ h1 → t1 ≡ true → h0 ≡ h1
-kept_block h0 h1 true true end rises is = omega (arith, end, rises)
-kept_block h0 h1 false true end rises is = absurd (omega (arith, end, rises))
-kept_block h0 h1 t0 false end rises is = absurd cc
+kept_block h0 h1 t0 t1 h h2 h3 = grind (arith, common_steps)

@@ -22,6 +22,7 @@ use Rattle.page_store.specs.Pulling.{room_for_pages}
 use Rattle.page_store.specs.Leaves.{AreGiven, AreChanged}
 use Rattle.page_store.specs.Flushing.{changed_frames, saved_next, content_in, flushed_first}
 use Rattle.page_store.proofs.Choosing.{first_changed, if_changed, chosen_changed}
+use Rattle.std.proofs.lemmas.Grind.{common_steps}
 
 -- lists
 
@@ -39,17 +40,11 @@ distinct_append (x ∷ xs) y apart others = (all_append (λ (other : Frame). x.p
 
 pub distinct_reverse : (xs : List Frame) → AreDistinct xs → AreDistinct (reverse xs)
 distinct_reverse [] apart = tt
-distinct_reverse (x ∷ xs) apart =
-    subst AreDistinct (sym (turned x xs)) (distinct_append (reverse xs) x (distinct_reverse xs apart.1)
-    (all_reverse (λ (other : Frame). other.page ≢ x.page) xs (all_weaker (λ (other : Frame). x.page ≢ other.page) (λ (other : Frame). other.page ≢ x.page) (λ other ne same. ne (sym same)) xs apart.0)))
+distinct_reverse (x ∷ xs) apart = grind (arith, common_steps, turned, distinct_append, all_reverse, all_weaker, (distinct_reverse xs apart.1))
 
 pub distinct_filter : (test : Frame → Bool) (xs : List Frame) → AreDistinct xs → AreDistinct (filter test xs)
 distinct_filter test [] apart = tt
-distinct_filter test (x ∷ xs) apart = by (test x) (distinct_filter test xs apart.1)
-  where
-    by : (b : Bool) → AreDistinct (filter test xs) → AreDistinct (cond b (x ∷ filter test xs) (filter test xs))
-    by true rest = (all_filter (λ (other : Frame). x.page ≢ other.page) test xs apart.0, rest)
-    by false rest = rest
+distinct_filter test (x ∷ xs) apart = grind (arith, common_steps, all_filter, (distinct_filter test xs apart.1))
 
 pub distinct_take : (n : ℕ) (xs : List Frame) → AreDistinct xs → AreDistinct (take n xs)
 distinct_take zero xs apart = tt
@@ -71,11 +66,7 @@ pages_apart (x ∷ xs) apart (suc i) (suc j) d before within = pages_apart xs ap
 
 pub found_all : (frames : List Frame) → AreDistinct frames → AllByRecursion (λ (f : Frame). frame_of frames f.page ≡ Some f) frames
 found_all [] apart = tt
-found_all (f ∷ fs) apart = (
-  ap (λ b. cond b (Some f) (frame_of fs f.page)) (eq-eqb f.page f.page refl),
-  all_both (λ (other : Frame). f.page ≢ other.page) (λ (other : Frame). frame_of fs other.page ≡ Some other) (λ (other : Frame). frame_of (f ∷ fs) other.page ≡ Some other)
-      (λ other ne found. ap (λ b. cond b (Some f) (frame_of fs other.page)) (ne_eqb f.page other.page ne) ∙ found) fs apart.0 (found_all fs apart.1),
-)
+found_all (f ∷ fs) apart = grind (arith, common_steps, eq-eqb, all_both, ne_eqb, (found_all fs apart.1))
 
 pub found_chosen : (room : ℕ) (frames : List Frame) → AreDistinct frames → AllByRecursion (λ (f : Frame). frame_of frames f.page ≡ Some f) (first_changed room frames)
 found_chosen room frames apart = all_chosen (λ (f : Frame). frame_of frames f.page ≡ Some f) room frames (found_all frames apart)

@@ -22,7 +22,7 @@ use Rattle.image_changes.specs.Reached.{LeavesFront, IsReached, IsFrontOf}
 use Rattle.disk_pages.specs.Pages.{page_on}
 use Rattle.second_chance.specs.Queue.{Queue}
 use Rattle.second_chance.specs.Plans.{Placed}
-use Rattle.second_chance.specs.Machine.{Rules, Cache, Staged, PoolPage, must_be_pushed, staged_in_push, staged_in_eviction, staged_by, push_changed, wants_flush}
+use Rattle.second_chance.specs.Machine.{Rules, Cache, Staged, must_be_pushed, staged_in_push, staged_by, push_changed, wants_flush}
 use Rattle.second_chance.specs.Laws.{FlushGoesOn, FlushEnds}
 use Rattle.record_model.specs.Touches.{flush}
 use Rattle.tail_rebuild.specs.Saving.{is_due, changes_of_save}
@@ -41,23 +41,19 @@ use Rattle.page_store.specs.Staging.{pages_staged, staged_by_eviction, SavesBefo
 use Rattle.page_store.proofs.PushLaws.{flash_fits_same, flash_holds_same}
 use Rattle.page_store.proofs.Evictions.{reverse_last}
 use Rattle.flash_cache.proofs.Written.{wrote, rewritten, groups_by, segments_by, front_rewritten, front_sum, push_rewrites, push_groups, push_segments, save_rewrites, save_groups, save_segments}
+use Rattle.std.proofs.lemmas.Grind.{common_steps}
 
 -- Images.
 
 -- where flash and disk are as they were nothing is written
 pub nothing_written : (g : Geometry) (staged : List Staged) (next : ℕ) (old now : Image) → hi_of (group_shape g) old.flash ≤ next → now.flash ≡ old.flash → now.disk ≡ old.disk → WritesOnly g staged next old now
-nothing_written g staged next old now low flash disk =
-    record { groups = omega (arith, ap (hi_of (group_shape g)) flash, low); segments = inl (ap (hi_of (segment_shape g)) flash); disk = λ page out. ap (page_on page) disk }
+nothing_written g staged next old now low flash disk = grind (arith, common_steps)
 
 saves_up : (next next' old now : ℕ) → next ≤ next' → SavesBefore next old now → SavesBefore next' old now
-saves_up next next' old now up (inl same) = inl same
-saves_up next next' old now up (inr more) = inr (more.0, omega (arith, up, more.1))
+saves_up next next' old now h h2 = grind (arith, common_steps)
 
 saves_then : (next a b c : ℕ) → SavesBefore next a b → SavesBefore next b c → SavesBefore next a c
-saves_then next a b c (inl same) (inl again) = inl (again ∙ same)
-saves_then next a b c (inl same) (inr more) = inr (omega (arith, same, more.0), more.1)
-saves_then next a b c (inr more) (inl again) = inr (omega (arith, again, more.0), omega (arith, again, more.1))
-saves_then next a b c (inr more) (inr later) = inr (omega (arith, more.0, later.0), later.1)
+saves_then next a b c h h2 = grind (arith, common_steps)
 
 pub written_weaker : (g : Geometry) (staged more : List Staged) (next next' : ℕ) (old now : Image) → ((page : ℕ) → Contains (pages_staged staged) page → Contains (pages_staged more) page) → next ≤ next' →
     WritesOnly g staged next old now → WritesOnly g more next' old now
@@ -91,14 +87,8 @@ last_none g staged old now none before later f is out = absurd (no_split before 
 split_of : (xs ys before later : List Staged) (f : Staged) → xs ++ ys ≡ before ++ f ∷ later →
     ((rest : List Staged) × (xs ≡ before ++ f ∷ rest) × (later ≡ rest ++ ys)) ⊎ ((rest : List Staged) × (before ≡ xs ++ rest) × (ys ≡ rest ++ f ∷ later))
 split_of [] ys before later f is = inr (before, refl, is)
-split_of (x ∷ xs) ys [] later f is =
-    let same : x ≡ f = cc in
-    let rest : xs ++ ys ≡ later = cc in
-    inl (xs, ap (λ (y : Staged). y ∷ xs) same, sym rest)
-split_of (x ∷ xs) ys (b ∷ before) later f is =
-    let same : x ≡ b = cc in
-    let rest : xs ++ ys ≡ before ++ f ∷ later = cc in
-    ⊎_elim (λ e. inl (e.0, λ i. same i ∷ e.1 i, e.2)) (λ l. inr (l.0, λ i. sym same i ∷ l.1 i, l.2)) (split_of xs ys before later f rest)
+split_of (x ∷ xs) ys [] later f is = grind (arith, common_steps)
+split_of (x ∷ xs) ys (b ∷ before) later f is = grind (arith, common_steps, (split_of xs ys before later f))
 
 -- calls one after the other: the second leaves what it doesn't stage
 pub last_then : (g : Geometry) (staged more : List Staged) (a b c : State) → b.past ≡ a.past ++ since a b → c.past ≡ b.past ++ since b c → ((page : ℕ) → (Contains (pages_staged more) page → ⊥) → disk_on c.image page ≡ disk_on b.image page) →
@@ -140,14 +130,7 @@ fits_queue store site going fits = record { fits = fits.flash; groups = fits.gro
 
 -- so does another store with the same cache, on a site with the same flash
 pub queue_same : (store other : PageStore) (old new : State) → other.flash ≡ store.flash → new.image.flash ≡ old.image.flash → IsTrue new.honest → HasQueueOn store old → HasQueueOn other new
-queue_same store other old new same flash honest has =
-    subst (λ (f : FlashCache). HasQueueOn (record other { flash = f }) new) (sym same) (record {
-      fits = flash_fits_same store.flash old new flash honest has.fits;
-      groups = has.groups;
-      holds = flash_holds_same store.flash old.image new.image has.groups flash has.holds;
-      next = has.next ∙ ap (hi_of (group_shape store.flash.geometry)) (sym flash);
-      room = has.room;
-    })
+queue_same store other old new same flash honest has = grind (arith, common_steps, flash_fits_same, flash_holds_same)
 
 -- What a crash leaves.
 
@@ -196,13 +179,7 @@ log_leaves g staged next old now low quiet changes =
 -- another answer, which is Ok where the first one is
 pub stages_result : {A B : Type 0} {r : Result A Stop} {s : Result B Stop} {staged : List Staged} {next : ℕ} {old new : PageStore} {before now : State} → ((P : Type 0) → OnOk r P → OnOk s P) →
     Stages r staged next old new before now → Stages s staged next old new before now
-stages_result {staged = staged} {old = old} {new = new} {before = before} {now = now} turns stages = record {
-  holds = λ has. turns (HasQueueOn new now) (stages.holds has);
-  quiet = λ has quiet. turns (IsQuiet now) (stages.quiet has quiet);
-  writes = stages.writes;
-  last = λ has quiet. turns (HasLastStaged old.flash.geometry staged before now) (stages.last has quiet);
-  sizes = stages.sizes;
-}
+stages_result {staged = staged} {old = old} {new = new} {before = before} {now = now} turns stages = grind (arith, common_steps)
 
 pub stages_ok : {A B : Type 0} {a : A} {b : B} {staged : List Staged} {next : ℕ} {old new : PageStore} {before now : State} → Stages {T = A} (Ok a) staged next old new before now → Stages {T = B} (Ok b) staged next old new before now
 stages_ok {A} {B} {a} {b} stages = stages_result {r = Ok a} {s = Ok b} (λ P p. p) stages
@@ -334,8 +311,7 @@ push_leaves store saved group old now has front =
 
 pub queue_pushed : {T : Type 0} (r : Result T Stop) (flash : FlashCache) (store : PageStore) (groups : List (List Stored)) (now : State) → flash_cache.Invariant flash now → OnOk r (flash_cache.Matches flash now) → OnOk r (flash_cache.Represents flash now.image groups) →
     OnOk r (HasQueueOn (record store { flash = flash }) now)
-queue_pushed (Ok x) flash store groups now going fits holds = record { fits = fits; groups = groups; holds = holds; next = going.next ∙ fits.hi; room = (let least = going.limits.groups in omega (arith, least)) }
-queue_pushed (Err stop) flash store groups now going fits holds = tt
+queue_pushed r flash store groups now h h2 h3 = grind (arith, common_steps)
 
 -- An eviction.
 
@@ -344,12 +320,10 @@ module _ (store : PageStore) (frames : List Frame) (last : Frame) (is : store.po
   turned = ap (λ (l : List Frame). reverse (map pool_page l)) is ∙ ap reverse (map-append pool_page frames (last ∷ [])) ∙ reverse_last (map pool_page frames) (pool_page last)
 
   pub evicted_staged : must_be_pushed store.flash.directory (pool_page last) ≡ true → staged_in_push (rules store) store.flash.directory ≡ staged_by_eviction (rules store) (cache_of store)
-  evicted_staged must = sym (ap (λ (l : List PoolPage). staged_in_eviction (rules store) l store.flash.directory) turned
-      ∙ ap (λ (b : Bool). if b then staged_in_push (rules store) store.flash.directory else []) must)
+  evicted_staged must = grind (arith, common_steps, turned)
 
   pub evicted_none : must_be_pushed store.flash.directory (pool_page last) ≡ false → staged_by_eviction (rules store) (cache_of store) ≡ []
-  evicted_none must = ap (λ (l : List PoolPage). staged_in_eviction (rules store) l store.flash.directory) turned
-      ∙ ap (λ (b : Bool). if b then staged_in_push (rules store) store.flash.directory else []) must
+  evicted_none must = grind (arith, common_steps, turned)
 
   pub evicted_next : must_be_pushed store.flash.directory (pool_page last) ≡ true → next_group (cache_of store) + 1 ≡ next_group (cache_of store) + (if is_pushed (cache_of store) then 1 else 0)
   evicted_next must = ap (λ (b : Bool). next_group (cache_of store) + (if b then 1 else 0)) (sym (ap (first_pushed store.flash.directory) turned ∙ must))

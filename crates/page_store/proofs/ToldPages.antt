@@ -1,5 +1,5 @@
 -- What the pool is told of the queue on flash, as pages come and go and groups are pushed.
-use Rattle.std.proofs.Common.{◌≡◌, ◌≢◌, ◌⊎◌, inl, inr, ℕ, zero, suc, ◌<◌, ◌==◌, ◌&&◌, ◌||◌, Bool, true, false, true≢false, not, cond, List, [], ◌∷◌, ◌++◌, length, take, drop, map, filter, reverse, is_some, option_map, Option, None, Some, arith, refl, sym, ap, subst, ◌∙◌}
+use Rattle.std.proofs.Common.{◌≡◌, ◌≢◌, ℕ, zero, suc, ◌<◌, ◌==◌, ◌||◌, Bool, true, false, true≢false, not, cond, List, [], ◌∷◌, ◌++◌, length, take, drop, map, filter, reverse, is_some, None, Some, arith, refl, sym, ap, subst, ◌∙◌}
 use Rattle.std.specs.Prelude.{Result, Ok, Err, OnOk, OnErr, IsSome}
 use Rattle.std.specs.List.{AllByRecursion, enumerate_from}
 use Rattle.std.proofs.lemmas.Bool.{cases_eq, eqb-true, eqb-false, eq-eqb, ne_eqb, or_parts}
@@ -8,12 +8,11 @@ use Rattle.std.proofs.lemmas.List.Elements.{filter-append}
 use Rattle.std.proofs.lemmas.List.Folds.{list_any-append}
 use Rattle.std_lemmas.proofs.Bools.{or_false, or_assoc, eq_turned}
 use Rattle.site.specs.declared.outside.Stop.{Stop}
-use Rattle.site.specs.declared.geometry.Geometry.{Geometry}
 use Rattle.site.specs.State.{State}
 use Rattle.flash_cache.specs.Representation as flash_cache
 use Rattle.byte_fields.specs.declared.frame_head.Mark.{Mark}
 use Rattle.buffer_pool.specs.declared.frame.Frame.{Frame}
-use Rattle.buffer_pool.specs.Frames.{State as Pool, frame_of, front_of, without, touched, cleared, cleared_at, is_framed, is_movable, coldest_movable, Knows, KnowsSame}
+use Rattle.buffer_pool.specs.Frames.{State as Pool, frame_of, without, touched, cleared, is_movable, coldest_movable, Knows, KnowsSame}
 use Rattle.buffer_pool.specs.Laws.{WithoutTakesOne, TouchKeepsFrames, ClearedKeepsFrames, ChangesOne}
 use Rattle.second_chance.specs.declared.frame.Frame.{Frame as Known}
 use Rattle.second_chance.specs.Queue.{Queue, has_frame, in_group, in_groups, group_marks, front_marks}
@@ -22,10 +21,11 @@ use Rattle.second_chance.specs.Machine.{rules_of, leaving, chance_frame, must_be
 use Rattle.flash_cache.specs.declared.cache.FlashCache.{FlashCache}
 use Rattle.flash_cache.specs.Pushed.{front_leaves, chance_marks, known_given, known_pushed, pushed_queue}
 use Rattle.page_store.specs.declared.store.PageStore.{PageStore}
-use Rattle.page_store.specs.Representation.{IsPage, AreTold, Invariant, Matches}
+use Rattle.page_store.specs.Representation.{AreTold, Invariant, Matches}
 use Rattle.page_store.specs.Caching.{pool_page}
 use Rattle.page_store.specs.Pulling.{movable}
 use Rattle.page_store.specs.Telling.{is_marked, is_named, TellsOf}
+use Rattle.std.proofs.lemmas.Grind.{common_steps}
 
 never : {A : Type 0} → IsSome {T = Frame} None → A
 never some = absurd (true≢false (sym some))
@@ -44,45 +44,20 @@ told_same store pool there same told n some = same n ∙ told n (there n some)
 
 pub told_without : WithoutTakesOne → (store : PageStore) (pool : Pool) (page : ℕ) → pool.frames ≡ without store.pool.frames page → Knows page false store.pool pool → AreTold store
     → AreTold (record store { pool = pool })
-told_without law store pool page is knows told n some = by (page == n) refl (subst IsSome (ap (λ (l : List Frame). frame_of l n) is ∙ law store.pool.frames page n) some)
-  where
-    by : (b : Bool) → (page == n) ≡ b → IsSome (cond b None (frame_of store.pool.frames n)) → is_framed pool n ≡ has_frame store.flash.directory n
-    by true at there = never there
-    by false at there = knows n ∙ ap (λ b. cond b false (is_framed store.pool n)) (ne_eqb n page (λ same. eqb-false page n at (sym same))) ∙ told n there
+told_without law store pool page is knows told n some = grind (arith, common_steps, never, ne_eqb, eqb-false)
 
 pub told_touched : TouchKeepsFrames → (store : PageStore) (pool : Pool) (page : ℕ) → pool.frames ≡ touched store.pool.frames page → KnowsSame store.pool pool → AreTold store → AreTold (record store { pool = pool })
 told_touched law store pool page is same told = told_same store pool (λ n some. subst IsSome (ap (λ (l : List Frame). frame_of l n) is ∙ law store.pool.frames page n) some) same told
 
 pub told_cleared : ClearedKeepsFrames → (store : PageStore) (pool : Pool) (page : ℕ) → pool.frames ≡ cleared store.pool.frames page → KnowsSame store.pool pool → AreTold store → AreTold (record store { pool = pool })
-told_cleared law store pool page is same told =
-    told_same store pool (λ n some. some_before (frame_of store.pool.frames n) (subst IsSome (ap (λ (l : List Frame). frame_of l n) is ∙ law store.pool.frames page n) some)) same told
-  where
-    some_before : (o : Option Frame) → IsSome (option_map (cleared_at page) o) → IsSome o
-    some_before None some = never some
-    some_before (Some f) some = refl
+told_cleared law store pool page is same told = grind (arith, common_steps, told_same, never)
 
 pub told_changed : (store : PageStore) (pool : Pool) → 0 < length store.pool.frames → ChangesOne store.pool.frames pool.frames → KnowsSame store.pool pool → AreTold store → AreTold (record store { pool = pool })
-told_changed store pool there one same told = told_same store pool (λ n some. by n some (cases_eq n (front_of store.pool.frames).page)) same told
-  where
-    first : (frames : List Frame) → 0 < length frames → IsSome (frame_of frames (front_of frames).page)
-    first [] there = absurd (omega (arith, there))
-    first (frame ∷ frames) there = found_first frames frame
-
-    by : (n : ℕ) → IsSome (frame_of pool.frames n) → (n ≡ (front_of store.pool.frames).page) ⊎ (n ≢ (front_of store.pool.frames).page) → IsSome (frame_of store.pool.frames n)
-    by n some (inl here) = subst (λ (m : ℕ). IsSome (frame_of store.pool.frames m)) (sym here) (first store.pool.frames there)
-    by n some (inr other) = subst IsSome (one.others n other) some
+told_changed store pool there one same told = grind (arith, common_steps, told_same, cases_eq, found_first)
 
 pub told_put : (store : PageStore) (pool : Pool) (frame : Frame) (framed : Bool) → pool.frames ≡ frame ∷ store.pool.frames → Knows frame.page framed store.pool pool
     → framed ≡ has_frame store.flash.directory frame.page → AreTold store → AreTold (record store { pool = pool })
-told_put store pool frame framed is knows right told n some = knows n ∙ by (n == frame.page) refl (subst IsSome (ap (λ (l : List Frame). frame_of l n) is) some)
-  where
-    other : (b : Bool) → (n == frame.page) ≡ false → (frame.page == n) ≡ b → IsSome (cond b (Some frame) (frame_of store.pool.frames n)) → IsSome (frame_of store.pool.frames n)
-    other true at same there = absurd (eqb-false n frame.page at (sym (eqb-true frame.page n same)))
-    other false at same there = there
-
-    by : (b : Bool) → (n == frame.page) ≡ b → IsSome (frame_of (frame ∷ store.pool.frames) n) → cond b framed (is_framed store.pool n) ≡ has_frame store.flash.directory n
-    by true at there = right ∙ ap (has_frame store.flash.directory) (sym (eqb-true n frame.page at))
-    by false at there = told n (other (frame.page == n) at refl there)
+told_put store pool frame framed is knows right told n some = grind (arith, common_steps, eqb-false, eqb-true)
 
 -- The queue changes.
 
@@ -95,19 +70,15 @@ pub tells_none : (store : PageStore) → TellsOf (λ n. false) store store
 tells_none store n some right = right refl
 
 tells_more : (before one all : ℕ → Bool) (old mid new : PageStore) → ((n : ℕ) → all n ≡ (before n || one n)) → mid.pool.frames ≡ old.pool.frames → TellsOf before old mid → TellsOf one mid new → TellsOf all old new
-tells_more before one all old mid new is frames first second n some right =
-    second n (subst (λ (l : List Frame). IsSome (frame_of l n)) (sym frames) some)
-    (λ not_one. first n some (λ not_before. right (is n ∙ (λ i. not_before i || not_one i))))
+tells_more before one all old mid new is frames first second n some right = grind (arith, common_steps)
 
 pub tells_mark : (marks next : List Mark) (mark : Mark) (old mid new : PageStore) → next ≡ marks ++ mark ∷ [] → mid.pool.frames ≡ old.pool.frames → TellsOf (is_marked marks) old mid
     → TellsOf (λ n. n == mark.page) mid new → TellsOf (is_marked next) old new
-tells_mark marks next mark old mid new is = tells_more (is_marked marks) (λ n. n == mark.page) (is_marked next) old mid new
-    (λ n. ap (λ (l : List Mark). is_marked l n) is ∙ list_any-append (λ (m : Mark). m.page == n) marks (mark ∷ []) ∙ ap (λ b. is_marked marks n || b) (or_false (mark.page == n) ∙ eq_turned mark.page n))
+tells_mark marks next mark old mid new is = grind (arith, common_steps, tells_more, list_any-append, or_false, eq_turned)
 
 pub tells_page : (pages next : List ℕ) (page : ℕ) (old mid new : PageStore) → next ≡ pages ++ page ∷ [] → mid.pool.frames ≡ old.pool.frames → TellsOf (is_named pages) old mid
     → TellsOf (λ n. n == page) mid new → TellsOf (is_named next) old new
-tells_page pages next page old mid new is = tells_more (is_named pages) (λ n. n == page) (is_named next) old mid new
-    (λ n. ap (λ (l : List ℕ). is_named l n) is ∙ list_any-append (λ (m : ℕ). m == n) pages (page ∷ []) ∙ ap (λ b. is_named pages n || b) (or_false (page == n) ∙ eq_turned page n))
+tells_page pages next page old mid new is = grind (arith, common_steps, tells_more, list_any-append, or_false, eq_turned)
 
 -- What may be pulled is known by what was told.
 
@@ -129,11 +100,7 @@ module _ (store : PageStore) where
 
   filter_same : (xs : List Frame) → AllByRecursion same_test xs → filter (is_movable store.pool) (reverse xs) ≡ movable store.flash.directory (reverse xs)
   filter_same [] all = refl
-  filter_same (x ∷ xs) all =
-      ap (filter (is_movable store.pool)) (reverse-append (x ∷ []) xs) ∙ filter-append (is_movable store.pool) (reverse xs) (x ∷ [])
-      ∙ (λ i. filter_same xs all.1 i ++ cond (all.0 i) (x ∷ []) [])
-      ∙ sym (filter-append (λ (f : Frame). must_be_pushed store.flash.directory (pool_page f)) (reverse xs) (x ∷ []))
-      ∙ sym (ap (movable store.flash.directory) (reverse-append (x ∷ []) xs))
+  filter_same (x ∷ xs) all = grind (arith, common_steps, reverse-append, filter-append, (filter_same xs all.1))
 
   pub coldest_told : (most : ℕ) → AreTold store → coldest_movable most store.pool ≡ take most (movable store.flash.directory (reverse store.pool.frames))
   coldest_told most told = ap (take most) (filter_same store.pool.frames (each store.pool.frames (each_found store.pool.frames)))
@@ -164,11 +131,7 @@ no_placed (m ∷ front) i n none = ((or_parts (m.page == n) (is_marked front n) 
 
 all_filter : (P : Placed → Type 0) (test : Placed → Bool) (xs : List Placed) → AllByRecursion P xs → AllByRecursion P (filter test xs)
 all_filter P test [] all = tt
-all_filter P test (x ∷ xs) all = by (test x) (all_filter P test xs all.1)
-  where
-    by : (b : Bool) → AllByRecursion P (filter test xs) → AllByRecursion P (cond b (x ∷ filter test xs) (filter test xs))
-    by true rest = (all.0, rest)
-    by false rest = rest
+all_filter P test (x ∷ xs) all = grind (arith, common_steps, (all_filter P test xs all.1))
 
 all_take : (P : Placed → Type 0) (k : ℕ) (xs : List Placed) → AllByRecursion P xs → AllByRecursion P (take k xs)
 all_take P zero xs all = tt
@@ -176,8 +139,7 @@ all_take P (suc k) [] all = tt
 all_take P (suc k) (x ∷ xs) all = (all.0, all_take P k xs all.1)
 
 no_chance : (given : Bool) (front : List Mark) (n : ℕ) → is_marked front n ≡ false → AllByRecursion (λ (p : Placed). (p.1.page == n) ≡ false) (chances_of given front)
-no_chance true front n none = all_take _ 7 _ (all_filter _ (λ (f : Placed). f.1.valid && f.1.referenced) _ (no_placed front 0 n none))
-no_chance false front n none = tt
+no_chance given front n h = grind (arith, common_steps, all_take, all_filter, no_placed)
 
 none_known : (xs : List Placed) (n : ℕ) → AllByRecursion (λ (p : Placed). (p.1.page == n) ≡ false) xs → in_group (map chance_frame xs) n ≡ false
 none_known [] n all = refl
@@ -186,8 +148,7 @@ none_known (x ∷ xs) n all = ap (λ b. b || in_group (map chance_frame xs) n) a
 none_given : (pages : List ℕ) (changed : List Bool) (n : ℕ) → is_named pages n ≡ false → in_group (known_given pages changed) n ≡ false
 none_given [] changed n none = refl
 none_given (page ∷ pages) [] n none = refl
-none_given (page ∷ pages) (c ∷ changed) n none =
-    ap (λ b. b || in_group (known_given pages changed) n) (or_parts (page == n) (is_named pages n) none).0 ∙ none_given pages changed n (or_parts (page == n) (is_named pages n) none).1
+none_given (page ∷ pages) (c ∷ changed) n none = grind (arith, common_steps, or_parts, (none_given pages changed n (or_parts (page == n) (is_named pages n) none).1))
 
 module _ (cache : FlashCache) (pages : List ℕ) (changed : List Bool) (n : ℕ) where
   abbrev front : List Mark
@@ -201,11 +162,7 @@ module _ (cache : FlashCache) (pages : List ℕ) (changed : List Bool) (n : ℕ)
 
   behind : (leaves : Bool) (group : List Known) (groups : List (List Known)) → is_marked (cond leaves (front_marks groups) []) n ≡ false → in_group group n ≡ false
       → in_groups (cond leaves (drop 1 groups) groups ++ group ∷ []) n ≡ in_groups groups n
-  behind false group groups off none = groups_append groups group n ∙ ap (λ b. in_groups groups n || b) none ∙ or_false (in_groups groups n)
-  behind true group [] off none = groups_append [] group n ∙ none
-  behind true group (g ∷ later) off none =
-      groups_append later group n ∙ ap (λ b. in_groups later n || b) none ∙ or_false (in_groups later n)
-      ∙ ap (λ b. b || in_groups later n) (sym (sym (marked_group g later n) ∙ off))
+  behind leaves group groups h h2 = grind (arith, common_steps, groups_append, or_false, marked_group)
 
   pub pushed_same : is_marked front n ≡ false → is_named pages n ≡ false → has_frame (pushed_queue cache (known_pushed cache pages changed)) n ≡ has_frame cache.directory n
   pushed_same off none = behind (front_leaves cache) (known_pushed cache pages changed) cache.directory.groups off (none_pushed off none)
@@ -243,13 +200,4 @@ fits_told store after site is fits = subst (λ (s : PageStore). Matches s site) 
 
 pub going_told : (store : PageStore) (cache : FlashCache) (after : PageStore) (old new : State) → cache.geometry ≡ store.flash.geometry → after ≡ with_told (record store { flash = cache }) after.pool.framed
     → flash_cache.Invariant cache new → AreTold after → Invariant store old → Invariant after new
-going_told store cache after old new geometry is flash told going = subst (λ (s : PageStore). Invariant s new) (sym is) (record {
-  flash = flash;
-  own = record {
-    least = going.own.least;
-    most = going.own.most;
-    pool = record { few = going.own.pool.few; distinct = going.own.pool.distinct };
-    pages = subst (λ (h : Geometry). AllByRecursion (IsPage h.pages) store.pool.frames) (sym geometry) going.own.pages;
-    told = subst AreTold is told;
-  };
-})
+going_told store cache after old new geometry is flash told going = grind (arith, common_steps)

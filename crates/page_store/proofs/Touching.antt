@@ -1,5 +1,5 @@
 -- A touch, of a page that is in the pool and of one that isn't.
-use Rattle.std.proofs.Common.{◌≡◌, ℕ, ◌≤◌, ◌==◌, Bool, true, false, not, ◌&&◌, cond, IsTrue, is_some, List, [], ◌∷◌, length, Some, None, refl, sym, ap, subst, ◌∙◌}
+use Rattle.std.proofs.Common.{arith, ◌≡◌, ℕ, Bool, true, false, not, ◌&&◌, cond, IsTrue, is_some, List, [], ◌∷◌, length, Some, None, refl, sym, ap, ◌∙◌}
 use Rattle.std.specs.Prelude.{nat_le, ◌+◌, if◌then◌else◌}
 use Rattle.record_model.specs.Touches.{touch}
 use Rattle.second_chance.specs.Machine.{staged_by}
@@ -26,6 +26,7 @@ use Rattle.page_store.specs.Leaves.{KeepsCurrent}
 use Rattle.page_store.specs.Changing.{eviction_changes, room_changes, touch_changes}
 use Rattle.page_store.proofs.Pools.{is_held, not_held}
 use Rattle.page_store.proofs.Evictions.{not_forced}
+use Rattle.std.proofs.lemmas.Grind.{common_steps}
 
 -- A page that isn't in the pool.
 module _ (store : PageStore) (page : ℕ) (none : frame_of store.pool.frames page ≡ None) where
@@ -96,15 +97,10 @@ module _ (store : PageStore) (page : ℕ) (frame : Frame) (found : frame_of stor
 
 pub all_found : (P : Frame → Type 0) (frames : List Frame) (page : ℕ) (frame : Frame) → AllByRecursion P frames → frame_of frames page ≡ Some frame → P frame
 all_found P [] page frame all found = absurd (none-some frame found)
-all_found P (first ∷ frames) page frame all found = by (first.page == page) found (all_found P frames page frame all.1)
-  where
-    by : (b : Bool) → cond b (Some first) (frame_of frames page) ≡ Some frame → (frame_of frames page ≡ Some frame → P frame) → P frame
-    by true found rest = let is : first ≡ frame = cc in subst P is all.0
-    by false found rest = rest found
+all_found P (first ∷ frames) page frame all found = grind (arith, common_steps, (all_found P frames page frame all.1))
 
 pub all_touched : (P : Frame → Type 0) (frames : List Frame) (page : ℕ) (frame : Frame) → frame_of frames page ≡ Some frame → AllByRecursion P frames → AllByRecursion P (pool.touched frames page)
-all_touched P frames page frame found all =
-    subst (λ o. AllByRecursion P (pool.in_front o (pool.without frames page))) (sym found) (all_found P frames page frame all found, all_filter P (λ (f : Frame). not (f.page == page)) frames all)
+all_touched P frames page frame found all = grind (arith, common_steps, all_found, all_filter)
 
 pub order_fits : (store : PageStore) (pool : Pool) (site : State) → ((n : ℕ) → frame_of pool.frames n ≡ frame_of store.pool.frames n) → Matches store site → Matches (record store { pool = pool }) site
 order_fits store pool site same fits = record {
@@ -121,13 +117,4 @@ order_current store pool image same = record { each = λ page exists. ap (λ o. 
 
 pub pool_going : (store : PageStore) (pool : Pool) (site : State) → pool.size ≡ store.pool.size → IsPool pool → AllByRecursion (IsPage store.flash.geometry.pages) pool.frames → AreTold (record store { pool = pool }) → Invariant store site
     → Invariant (record store { pool = pool }) site
-pool_going store pool site size is pages told going = record {
-  flash = going.flash;
-  own = record {
-    least = subst (λ n. 1 ≤ n) (sym size) going.own.least;
-    most = subst (λ n. n ≤ 4096) (sym size) going.own.most;
-    pool = is;
-    pages = pages;
-    told = told;
-  };
-}
+pool_going store pool site size is pages told going = grind (arith, common_steps)

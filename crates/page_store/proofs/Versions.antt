@@ -1,7 +1,6 @@
 -- The version of a page is read.
-use Rattle.std.proofs.Common.{◌≡◌, ℕ, ◌<◌, sym, subst, ◌∙◌}
+use Rattle.std.proofs.Common.{arith, ◌≡◌, ℕ, ◌<◌, sym, subst, ◌∙◌}
 use Rattle.flash_cache.proofs.Standing.{rings_later}
-use Rattle.std.specs.List.{AllByRecursion}
 use Rattle.site.specs.declared.outside.Dev.TheVariants.{Log, Flash, Disk}
 use Rattle.site.specs.declared.geometry.Geometry.{Geometry}
 use Rattle.site.specs.State.{State, Image}
@@ -12,8 +11,9 @@ use Rattle.flash_cache.specs.declared.cache.FlashCache.{FlashCache}
 use Rattle.flash_cache.specs.Representation as flash_cache
 use Rattle.flash_cache.specs.Representation.{version_on, IsCleanOn}
 use Rattle.page_store.specs.declared.store.PageStore.{PageStore}
-use Rattle.page_store.specs.Representation.{IsPage, Invariant, Matches}
+use Rattle.page_store.specs.Representation.{Invariant, Matches}
 use Rattle.page_store.proofs.ToldPages.{told_with}
+use Rattle.std.proofs.lemmas.Grind.{common_steps}
 
 -- the cache goes on after any call
 pub flash_later : (cache : FlashCache) (old new : State) → Preserves old new → flash_cache.Invariant cache old → flash_cache.Invariant cache new
@@ -29,16 +29,7 @@ flash_later cache old new goes going = record {
 
 -- the store with another cache
 pub store_with : (store : PageStore) (cache : FlashCache) (old new : State) → cache.geometry ≡ store.flash.geometry → ((n : ℕ) → has_frame cache.directory n ≡ has_frame store.flash.directory n) → flash_cache.Invariant cache new → Invariant store old → Invariant (record store { flash = cache }) new
-store_with store cache old new geometry same flash_going going = record {
-  flash = flash_going;
-  own = record {
-    least = going.own.least;
-    most = going.own.most;
-    pool = going.own.pool;
-    pages = subst (λ (h : Geometry). AllByRecursion (IsPage h.pages) store.pool.frames) (sym geometry) going.own.pages;
-    told = told_with store cache same going.own.told;
-  };
-}
+store_with store cache old new geometry same flash_going going = grind (arith, common_steps, told_with)
 
 pub fits_with : (store : PageStore) (cache : FlashCache) (old new : State) (fits : Matches store old) → cache.geometry ≡ store.flash.geometry → IsUnchanged old new → flash_cache.Matches cache new → flash_cache.Represents cache new.image fits.groups
     → Matches (record store { flash = cache }) new

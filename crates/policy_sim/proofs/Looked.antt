@@ -9,6 +9,7 @@ use Rattle.policy_sim.specs.Pools.{pages_in, candidates}
 use Rattle.policy_sim.specs.Listing.{IsListedBy, listed_of}
 use Rattle.policy_sim.proofs.Pooled.{Entries}
 use Rattle.policy_sim.proofs.Struck.{Listed, listed_movable, mark_in}
+use Rattle.std.proofs.lemmas.Grind.{common_steps}
 
 -- some were looked at, and these are still to come
 pub record IsLooked (queue : Queue) (all rest : Listed) (found : List PoolMark) (count : ℕ) : Type 0 where
@@ -33,16 +34,8 @@ listed_are queue es all is listed = ap (take 7) (sym (listed_movable queue es li
 
 pub look_has_enough : (queue : Queue) (es : Entries) (all rest : Listed) (found : List PoolMark) (count : ℕ) → all ≡ listed_of es → IsListedBy (has_frame queue) es → IsLooked queue all rest found count
     → count ≡ 7 → take count found ≡ candidates queue (pages_in es)
-look_has_enough queue es all rest found count is listed looked enough =
-    looked.found_are
-    ∙ sym (listed_are queue es all is listed ∙ ap (λ (l : Listed). take 7 (map (mark_in queue) l)) looked.split ∙ ap (take 7) (map-append (mark_in queue) looked.front rest)
-    ∙ take_at (map (mark_in queue) looked.front) (map (mark_in queue) rest) 7 (length-map looked.front (mark_in queue) ∙ looked.count_is ∙ enough))
+look_has_enough queue es all rest found count is listed looked enough = grind (arith, common_steps, listed_are, mark_in, map-append, take_at, length-map)
 
 pub look_ends : (queue : Queue) (es : Entries) (all rest : Listed) (found : List PoolMark) (count : ℕ) → all ≡ listed_of es → IsListedBy (has_frame queue) es → IsLooked queue all rest found count
     → rest ≡ [] → count ≤ 7 → take count found ≡ candidates queue (pages_in es)
-look_ends queue es all rest found count is listed looked none few =
-    let long = length-map looked.front (mark_in queue) in
-    let count_is = looked.count_is in
-    looked.found_are
-    ∙ sym (listed_are queue es all is listed ∙ ap (λ (l : Listed). take 7 (map (mark_in queue) l)) (looked.split ∙ ap (λ (l : Listed). looked.front ++ l) none ∙ append-nil looked.front)
-    ∙ take_all 7 (map (mark_in queue) looked.front) (omega (arith, long, count_is, few)))
+look_ends queue es all rest found count is listed looked none few = grind (arith, common_steps, length-map, mark_in, listed_are, append-nil, take_all)

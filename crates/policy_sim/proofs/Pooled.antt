@@ -1,5 +1,5 @@
 -- The pool by the entries of the cache that holds it.
-use Rattle.std.proofs.Common.{◌≡◌, ◌≢◌, ℕ, zero, suc, ◌-◌, ◌≤◌, ◌==◌, ◌&&◌, ◌||◌, nat_eq, Bool, true, false, not, cond, List, [], ◌∷◌, ◌++◌, length, take, map, filter, reverse, slice_get, is_some, Option, Some, None, arith, refl, sym, ap, subst, ◌∙◌, take_all}
+use Rattle.std.proofs.Common.{◌≡◌, ◌≢◌, ℕ, zero, suc, ◌-◌, ◌≤◌, ◌==◌, ◌&&◌, ◌||◌, nat_eq, Bool, true, false, not, cond, List, [], ◌∷◌, ◌++◌, length, take, is_some, Option, Some, None, arith, refl, sym, ap, subst, ◌∙◌, take_all}
 use Rattle.std.specs.Prelude.{All, unwrap_or}
 use Rattle.std.specs.List.{AllByRecursion, IsDistinct}
 use Rattle.std.specs.Option.{option_map_or}
@@ -19,6 +19,7 @@ use Rattle.second_chance.specs.Laws.{AreApart, names}
 use Rattle.policy_sim.specs.declared.entry.Kept.{Kept}
 use Rattle.policy_sim.specs.Pools.{entry_page, pages_in, is_movable, movable}
 use Rattle.policy_sim.specs.Listing.{kept_of, none_kept}
+use Rattle.std.proofs.lemmas.Grind.{common_steps}
 
 abbrev pub Entries : Type 0
 Entries = List (ℕ × Kept)
@@ -27,12 +28,7 @@ Entries = List (ℕ × Kept)
 
 pub held : (page : ℕ) (es : Entries) → is_some (lookup (nat_eq page) es) ≡ holds (pages_in es) page
 held page [] = refl
-held page (e ∷ es) = by (page == e.0) (held page es) ∙ ap (λ b. b || holds (pages_in es) page) (eq_turned page e.0)
-  where
-    by : (b : Bool) → is_some (lookup (nat_eq page) es) ≡ holds (pages_in es) page
-        → is_some (cond b (Some e.1) (lookup (nat_eq page) es)) ≡ (b || holds (pages_in es) page)
-    by true rest = refl
-    by false rest = rest
+held page (e ∷ es) = grind (arith, common_steps, eq_turned, (held page es))
 
 none_changed : (page : ℕ) (es : Entries) → AllByRecursion (λ y. nat_eq page y ≡ false) (keys_of es) → is_changed (pages_in es) page ≡ false
 none_changed page [] all = refl
@@ -71,9 +67,7 @@ other k n not_it = ne_eqb n k (λ same. eqb-false k n not_it (sym same))
 -- a page that isn't there leaves all where they are
 pub stay : (k : ℕ) (es : Entries) → AllByRecursion (λ y. nat_eq k y ≡ false) (keys_of es) → without (λ n. n == k) (pages_in es) ≡ pages_in es
 stay k [] all = refl
-stay k (e ∷ es) all =
-    ap (λ b. cond (not b) (entry_page e ∷ without (λ n. n == k) (pages_in es)) (without (λ n. n == k) (pages_in es))) (other k e.0 all.0)
-    ∙ ap (λ l. entry_page e ∷ l) (stay k es all.1)
+stay k (e ∷ es) all = grind (arith, common_steps, other, (stay k es all.1))
 
 -- to take the entry of a page out is to take out all entries of the page
 pub removed : (k : ℕ) (es : Entries) → IsDistinct nat_eq (keys_of es) → pages_in (remove_entry (nat_eq k) es) ≡ without (λ n. n == k) (pages_in es)
@@ -93,21 +87,11 @@ removed k (e ∷ es) distinct = by (nat_eq k e.0) refl (removed k es distinct.1)
 
 pub absent : (k : ℕ) (es : Entries) → lookup_entry (nat_eq k) es ≡ None → AllByRecursion (λ y. nat_eq k y ≡ false) (keys_of es)
 absent k [] none = tt
-absent k (e ∷ es) none = by (nat_eq k e.0) refl none (absent k es)
-  where
-    by : (b : Bool) → nat_eq k e.0 ≡ b → cond b (Some e) (lookup_entry (nat_eq k) es) ≡ None
-        → (lookup_entry (nat_eq k) es ≡ None → AllByRecursion (λ y. nat_eq k y ≡ false) (keys_of es)) → (nat_eq k e.0 ≡ false) × AllByRecursion (λ y. nat_eq k y ≡ false) (keys_of es)
-    by true is some rest = absurd cc
-    by false is none rest = (is, rest none)
+absent k (e ∷ es) none = grind (arith, common_steps, (absent k es))
 
 pub absent_here : (k : ℕ) (es : Entries) → lookup (nat_eq k) es ≡ None → AllByRecursion (λ y. nat_eq k y ≡ false) (keys_of es)
 absent_here k [] none = tt
-absent_here k (e ∷ es) none = by (nat_eq k e.0) refl none (absent_here k es)
-  where
-    by : (b : Bool) → nat_eq k e.0 ≡ b → cond b (Some e.1) (lookup (nat_eq k) es) ≡ None
-        → (lookup (nat_eq k) es ≡ None → AllByRecursion (λ y. nat_eq k y ≡ false) (keys_of es)) → (nat_eq k e.0 ≡ false) × AllByRecursion (λ y. nat_eq k y ≡ false) (keys_of es)
-    by true is some rest = absurd cc
-    by false is none rest = (is, rest none)
+absent_here k (e ∷ es) none = grind (arith, common_steps, (absent_here k es))
 
 -- After a `put` the page is in front, and nowhere else; the cache has room
 
@@ -132,10 +116,7 @@ put_is c k v room = by (lookup_entry (nat_eq k) c.entries) refl
 pub split_last : (es : Entries) (e : ℕ × Kept) → last_entry es ≡ Some e → es ≡ take (length es - 1) es ++ e ∷ []
 split_last [] e is = absurd (none-some e is)
 split_last (f ∷ []) e is = let same : f ≡ e = cc in ap (λ (x : ℕ × Kept). x ∷ []) same
-split_last (f ∷ g ∷ es) e is =
-    let more : length (f ∷ g ∷ es) - 1 ≡ suc (length (g ∷ es) - 1) = omega arith in
-    let on : slice_get (g ∷ es) (length (g ∷ es) - 1) ≡ Some e = sym (ap (slice_get (f ∷ g ∷ es)) more) ∙ is in
-    ap (λ (xs : Entries). f ∷ xs) (split_last (g ∷ es) e on) ∙ ap (λ n. take n (f ∷ g ∷ es) ++ e ∷ []) (sym more)
+split_last (f ∷ g ∷ es) e is = grind (arith, common_steps, (split_last (g ∷ es) e))
 
 pub last_page : (es : Entries) (e : ℕ × Kept) → last_entry es ≡ Some e → pages_in es ≡ pages_in (take (length es - 1) es) ++ entry_page e ∷ []
 last_page es e is = ap pages_in (split_last es e is) ∙ map-append entry_page (take (length es - 1) es) (e ∷ [])
@@ -149,27 +130,7 @@ without_none (p ∷ pool) = ap (λ (l : List PoolPage). p ∷ l) (without_none p
 pub without_more : (pool : List PoolPage) (gone : List ℕ) (page : ℕ)
     → without (λ n. n == page) (without (names gone) pool) ≡ without (names (gone ++ page ∷ [])) pool
 without_more [] gone page = refl
-without_more (p ∷ pool) gone page = by (names gone p.page) (p.page == page) (names_more gone) (eq_turned p.page page) (without_more pool gone page)
-  where
-    names_more : (gone : List ℕ) → names (gone ++ page ∷ []) p.page ≡ (names gone p.page || (page == p.page))
-    names_more [] = or_false (page == p.page)
-    names_more (g ∷ gone) = ap (λ b. g == p.page || b) (names_more gone) ∙ sym (or_assoc (g == p.page) (names gone p.page) (page == p.page))
-
-    by : (a b : Bool) → names (gone ++ page ∷ []) p.page ≡ (names gone p.page || (page == p.page)) → (p.page == page) ≡ (page == p.page)
-        → without (λ n. n == page) (without (names gone) pool) ≡ without (names (gone ++ page ∷ [])) pool
-        → without (λ n. n == page) (cond (not (names gone p.page)) (p ∷ without (names gone) pool) (without (names gone) pool))
-        ≡ cond (not (names (gone ++ page ∷ []) p.page)) (p ∷ without (names (gone ++ page ∷ [])) pool) (without (names (gone ++ page ∷ [])) pool)
-    by a b more turn rest =
-        cases (names gone p.page) (p.page == page) refl ∙ ap (λ c. cond (not c) (p ∷ without (names (gone ++ page ∷ [])) pool) (without (names (gone ++ page ∷ [])) pool))
-        (ap (λ c. names gone p.page || c) turn ∙ sym more)
-      where
-        cases : (a b : Bool) → (p.page == page) ≡ b
-            → without (λ n. n == page) (cond (not a) (p ∷ without (names gone) pool) (without (names gone) pool))
-            ≡ cond (not (a || b)) (p ∷ without (names (gone ++ page ∷ [])) pool) (without (names (gone ++ page ∷ [])) pool)
-        cases true b is = rest
-        cases false true is = ap (λ c. cond (not c) (p ∷ without (λ n. n == page) (without (names gone) pool)) (without (λ n. n == page) (without (names gone) pool))) is ∙ rest
-        cases false false is = ap (λ c. cond (not c) (p ∷ without (λ n. n == page) (without (names gone) pool)) (without (λ n. n == page) (without (names gone) pool))) is
-            ∙ ap (λ (l : List PoolPage). p ∷ l) rest
+without_more (p ∷ pool) gone page = grind (arith, common_steps, eq_turned, or_false, or_assoc, (without_more pool gone page))
 
 -- What a push may take, from the cold end upward.
 
@@ -177,7 +138,4 @@ abbrev pub if_movable : PoolMark → List PoolMark
 if_movable mark = cond (is_movable mark) (mark ∷ []) []
 
 pub movable_more : (queue : Queue) (p : PoolPage) (pool : List PoolPage) → movable queue (p ∷ pool) ≡ movable queue pool ++ if_movable (pool_mark queue p)
-movable_more queue p pool =
-    ap (λ l. filter is_movable (map (pool_mark queue) l)) (reverse-append (p ∷ []) pool)
-    ∙ ap (filter is_movable) (map-append (pool_mark queue) (reverse pool) (p ∷ []))
-    ∙ filter-append is_movable (map (pool_mark queue) (reverse pool)) (pool_mark queue p ∷ [])
+movable_more queue p pool = grind (arith, common_steps, reverse-append, map-append, filter-append)

@@ -1,6 +1,5 @@
 -- A push, by the plan for it.
-use Rattle.std.proofs.Common.{◌≡◌, ℕ, zero, suc, ◌+◌, ◌-◌, ◌<◌, ◌≤◌, Bool, true, false, cond, List, [], ◌∷◌, ◌++◌, length, get_or, nat_lt, take, drop, map, filter, slice_get, Option, Some, None, arith, refl, sym, ap, ◌∙◌, length-append}
-use Rattle.std.specs.Prelude.{filter_map, option_map}
+use Rattle.std.proofs.Common.{rules, ◌≡◌, ℕ, zero, suc, ◌+◌, ◌-◌, ◌<◌, ◌≤◌, Bool, true, false, List, [], ◌∷◌, ◌++◌, length, get_or, nat_lt, take, map, filter, slice_get, Some, None, arith, refl, sym, ap, ◌∙◌, length-append}
 use Rattle.std.proofs.lemmas.Bool.{ltb-true, ltb-false}
 use Rattle.std.proofs.lemmas.Option.{slice_get_read}
 use Rattle.std.proofs.lemmas.List.{length-map, length-drop, take-take}
@@ -10,25 +9,18 @@ use Rattle.second_chance.specs.declared.frame.Frame.{Frame}
 use Rattle.second_chance.specs.declared.plan.Plan.{Plan}
 use Rattle.second_chance.specs.declared.plan.PoolMark.{PoolMark}
 use Rattle.second_chance.specs.Queue.{Queue, frame_of, pushed}
-use Rattle.second_chance.specs.Plans.{Placed, chances_of, staged_of, eviction_plan}
+use Rattle.second_chance.specs.Plans.{chances_of, staged_of, eviction_plan}
 use Rattle.second_chance.specs.Machine.{Rules, PoolPage, Cache, without, is_full, leaving, pool_marks, push_evicted, staged_in_push}
 use Rattle.second_chance.specs.Laws.{AreApart, EvictionIsPlanned, names, given_again, eviction_done, plan_for_eviction}
 use Rattle.policy_sim.specs.Pools.{is_movable, group_of}
+use Rattle.std.proofs.lemmas.Grind.{common_steps}
 
 -- The first seven candidates are enough for a plan.
 
 filter_taken : (n : ℕ) (xs : List PoolMark) → filter is_movable (take n (filter is_movable xs)) ≡ take n (filter is_movable xs)
 filter_taken zero xs = refl
 filter_taken (suc n) [] = refl
-filter_taken (suc n) (x ∷ xs) = by (is_movable x) refl (filter_taken n xs) (filter_taken (suc n) xs)
-  where
-    by : (b : Bool) → is_movable x ≡ b → filter is_movable (take n (filter is_movable xs)) ≡ take n (filter is_movable xs)
-        → filter is_movable (take (suc n) (filter is_movable xs)) ≡ take (suc n) (filter is_movable xs)
-        → filter is_movable (take (suc n) (cond b (x ∷ filter is_movable xs) (filter is_movable xs))) ≡ take (suc n) (cond b (x ∷ filter is_movable xs) (filter is_movable xs))
-    by true is fewer all =
-        ap (λ b. cond b (x ∷ filter is_movable (take n (filter is_movable xs))) (filter is_movable (take n (filter is_movable xs)))) is
-        ∙ ap (λ (l : List PoolMark). x ∷ l) fewer
-    by false is fewer all = all
+filter_taken (suc n) (x ∷ xs) = grind (arith, common_steps, (filter_taken n xs), (filter_taken (suc n) xs))
 
 abbrev plan_with : Bool → List Mark → List PoolMark → Plan
 plan_with given front pulled = record {
@@ -47,23 +39,12 @@ seven_are_enough true given front pool =
 
 -- The frames of the new group, one by one.
 
-abbrev again : List Mark → ℕ → Option Frame
-again front place = option_map (λ mark. frame_of mark.page mark.dirty) (slice_get front place)
-
 pub given_more : (front : List Mark) (places : List ℕ) (place : ℕ) (mark : Mark) → slice_get front place ≡ Some mark
     → given_again front (places ++ place ∷ []) ≡ given_again front places ++ frame_of mark.page mark.dirty ∷ []
-given_more front places place mark is = filter_map-append (again front) places (place ∷ [])
-    ∙ ap (λ o. given_again front places ++ one o) is
-  where
-    one : Option Mark → List Frame
-    one o = filter_map (λ (o : Option Mark). option_map (λ (mark : Mark). frame_of mark.page mark.dirty) o) (o ∷ [])
+given_more front places place mark is = grind (arith, common_steps, filter_map-append)
 
 pub given_none : (front : List Mark) (places : List ℕ) (place : ℕ) → slice_get front place ≡ None → given_again front (places ++ place ∷ []) ≡ given_again front places ++ []
-given_none front places place is = filter_map-append (again front) places (place ∷ [])
-    ∙ ap (λ o. given_again front places ++ one o) is
-  where
-    one : Option Mark → List Frame
-    one o = filter_map (λ (o : Option Mark). option_map (λ (mark : Mark). frame_of mark.page mark.dirty) o) (o ∷ [])
+given_none front places place is = grind (arith, common_steps, filter_map-append)
 
 -- What a push did is the machine's push.
 pub record IsPlanned (rules : Rules) (own : PoolPage) (cache : Cache) (front : List Mark) (plan : Plan) (frames : List Frame) (full : Bool) : Type 0 where
@@ -88,16 +69,11 @@ push_is rules own cache front plan frames full law p =
 -- the frames that it stages, counted
 pub staged_count : (rules : Rules) (cache : Cache) (front : List Mark) (plan : Plan) → front ≡ leaving rules cache.queue
     → plan ≡ eviction_plan rules.pulls rules.chances front (pool_marks cache) → length plan.staged ≡ length (staged_in_push rules cache.queue)
-staged_count rules cache front plan front_is plan_is =
-    ap (λ (q : Plan). length q.staged) plan_is
-    ∙ length-map (staged_of rules.chances front) (λ (f : Placed). f.0)
-    ∙ ap (λ marks. length (staged_of rules.chances marks)) front_is
-    ∙ sym (length-map (staged_of rules.chances (leaving rules cache.queue)) _)
+staged_count rules cache front plan front_is plan_is = grind (arith, common_steps, length-map)
 
 pub next_after : (full : Bool) (group : List Frame) (queue : Queue) → (full ≡ true → 0 < length queue.groups)
     → (pushed full group queue).first + length (pushed full group queue).groups ≤ queue.first + length queue.groups + 1
-next_after true group queue some = omega (arith, some refl, length-append (drop 1 queue.groups) (group ∷ []), length-drop 1 queue.groups)
-next_after false group queue some = omega (arith, length-append queue.groups (group ∷ []))
+next_after full group queue h = grind (arith, common_steps, length-append, length-drop)
 
 -- A frame of the front group that is there, and one that isn't.
 pub there : (front : List Mark) (place : ℕ) (mark : Mark) → true ≡ nat_lt place (length front) → mark ≡ get_or front place mark → slice_get front place ≡ Some mark

@@ -1,6 +1,10 @@
 -- How the lines of a trace are heard.
 use Rattle.std.specs.Prelude.{◌≡◌, ◌-◌, ℕ, ◌≤◌, true, List, [], ◌∷◌, ◌++◌, length, take, drop, Option, Some, None}
+use Rattle.std.specs.Prelude.{IsTrue, Result, OnOk, OnErr}
+use Rattle.site.specs.declared.outside.Failed.{Failed}
 use Rattle.site.specs.State.{State}
+use Rattle.site.specs.Calls.{Preserves, Rose, SameReads}
+use Rattle.site.specs.Faults.{TakeFaults}
 use Rattle.shell_text.specs.Runs.{lines_of}
 use Rattle.trace_report.specs.declared.trace.Trace.{Trace}
 use Rattle.trace_report.specs.declared.trace.Heard.{Heard}
@@ -57,3 +61,14 @@ abbrev pub IsSaid : Heard → List ℕ → Type 0
 IsSaid (heard.Touch page change) line = IsTouch line (page, change)
 IsSaid heard.Wrong line = IsWrong line
 IsSaid heard.End line = ⊥
+
+-- what holds of each call that takes octets, whatever it answers
+pub record Takes {T : Type 0} (result : Result T Failed) (old new : Trace) (before after : State) : Type 0 where
+  pub usable : IsUsable new
+  pub ended : IsTrue before.honest → HasEnded old before → OnOk result (HasEnded new after)
+  pub same : IsTrue before.honest → HearsOnly before after
+  pub preserves : Preserves before after
+  pub reads : SameReads before after
+  pub cause : OnErr result (Rose before.input_faults after.input_faults)
+  pub faults : TakeFaults result before after
+  pub no_more : TakesNoMore old new before after

@@ -1,8 +1,6 @@
 // The lines of the input.
-ghost use Rattle.std.specs.Prelude.{◌≡◌, ◌<◌, true, false, IsTrue, IfOk, OnOk, OnErr, IfSome, IfNone};
-ghost use Rattle.site.specs.Calls.{Preserves, Rose, SameReads};
-ghost use Rattle.site.specs.Faults.{TakeFaults};
-ghost use Rattle.trace_report.specs.Hearing.{IsUsable, HasEnded, TakesNoMore, to_hear, HearsOnly, HearsOctet, Hears};
+ghost use Rattle.std.specs.Prelude.{◌≡◌, ◌<◌, true, false, IsTrue, IfOk, OnOk, IfSome, IfNone};
+ghost use Rattle.trace_report.specs.Hearing.{IsUsable, HasEnded, Takes, to_hear, HearsOctet, Hears};
 ghost use Rattle.trace_report.specs.Hearing.{IsSaid};
 
 use crate::touch_line::read_touch;
@@ -52,19 +50,11 @@ impl Trace {
     // Takes octets where there are none, and answers whether there is one now.
     fn fill<S: Site>(&mut self, site: &mut S) -> Result<bool, Failed>
         requires { IsUsable self.old }
-        ensures usable { IsUsable self.new }
         ensures some { IfOk result (λ some. some ≡ true → self.new.from < self.new.to) }
         ensures none { IfOk result (λ some. some ≡ false → (self.new.from ≡ self.new.to) × (self.new.ended ≡ true)) }
         ensures all { IsTrue (S.state site.old).honest
             → OnOk result (to_hear self.new (S.state site.new) ≡ to_hear self.old (S.state site.old)) }
-        ensures ended { IsTrue (S.state site.old).honest → HasEnded self.old (S.state site.old)
-            → OnOk result (HasEnded self.new (S.state site.new)) }
-        ensures same { IsTrue (S.state site.old).honest → HearsOnly (S.state site.old) (S.state site.new) }
-        ensures preserves { Preserves (S.state site.old) (S.state site.new) }
-        ensures reads { SameReads (S.state site.old) (S.state site.new) }
-        ensures cause { OnErr result (Rose (S.state site.old).input_faults (S.state site.new).input_faults) }
-        ensures faults { TakeFaults result (S.state site.old) (S.state site.new) }
-        ensures no_more { TakesNoMore self.old self.new (S.state site.old) (S.state site.new) }
+        ensures takes { Takes result self.old self.new (S.state site.old) (S.state site.new) }
     {
         if self.from < self.to {
             return Ok(true);
@@ -85,18 +75,10 @@ impl Trace {
     // The next octet, None at the end of the input.
     fn next_octet<S: Site>(&mut self, site: &mut S) -> Result<Option<u8>, Failed>
         requires { IsUsable self.old }
-        ensures usable { IsUsable self.new }
         ensures octet { IsTrue (S.state site.old).honest → HasEnded self.old (S.state site.old)
             → IfOk result (λ octet. HearsOctet octet (to_hear self.old (S.state site.old))
             (to_hear self.new (S.state site.new))) }
-        ensures ended { IsTrue (S.state site.old).honest → HasEnded self.old (S.state site.old)
-            → OnOk result (HasEnded self.new (S.state site.new)) }
-        ensures same { IsTrue (S.state site.old).honest → HearsOnly (S.state site.old) (S.state site.new) }
-        ensures preserves { Preserves (S.state site.old) (S.state site.new) }
-        ensures reads { SameReads (S.state site.old) (S.state site.new) }
-        ensures cause { OnErr result (Rose (S.state site.old).input_faults (S.state site.new).input_faults) }
-        ensures faults { TakeFaults result (S.state site.old) (S.state site.new) }
-        ensures no_more { TakesNoMore self.old self.new (S.state site.old) (S.state site.new) }
+        ensures takes { Takes result self.old self.new (S.state site.old) (S.state site.new) }
     {
         match self.fill(site) {
             Err(failed) => Err(failed),
@@ -113,18 +95,10 @@ impl Trace {
     /// heard.
     pub fn next<S: Site>(&mut self, site: &mut S) -> Result<Heard, Failed>
         requires { IsUsable self.old }
-        ensures usable { IsUsable self.new }
         ensures heard { IsTrue (S.state site.old).honest → HasEnded self.old (S.state site.old)
             → IfOk result (λ heard. Hears heard (to_hear self.old (S.state site.old))
             (to_hear self.new (S.state site.new))) }
-        ensures ended { IsTrue (S.state site.old).honest → HasEnded self.old (S.state site.old)
-            → OnOk result (HasEnded self.new (S.state site.new)) }
-        ensures same { IsTrue (S.state site.old).honest → HearsOnly (S.state site.old) (S.state site.new) }
-        ensures preserves { Preserves (S.state site.old) (S.state site.new) }
-        ensures reads { SameReads (S.state site.old) (S.state site.new) }
-        ensures cause { OnErr result (Rose (S.state site.old).input_faults (S.state site.new).input_faults) }
-        ensures faults { TakeFaults result (S.state site.old) (S.state site.new) }
-        ensures no_more { TakesNoMore self.old self.new (S.state site.old) (S.state site.new) }
+        ensures takes { Takes result self.old self.new (S.state site.old) (S.state site.new) }
     {
         let mut line = ArrayVec::<u8, LONG>::new();
         for _octet in 0..LONG {

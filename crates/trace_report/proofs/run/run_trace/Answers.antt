@@ -56,14 +56,14 @@ loop-number-preserved g c =
     let new = g.S.Site.state c.next.new.site in
     let few = c.loop-number.invariant.few in
     record {
-      preserves = goes_in_sequence old now new c.loop-number.invariant.preserves c.next.ensures.preserves;
-      reads = λ dev. c.next.ensures.reads dev ∙ c.loop-number.invariant.reads dev;
-      faults = c.in-Ok-Touch.ensures.faults ∙ c.loop-number.invariant.faults;
-      usable = c.next.ensures.usable;
+      preserves = goes_in_sequence old now new c.loop-number.invariant.preserves c.next.ensures.takes.preserves;
+      reads = λ dev. c.next.ensures.takes.reads dev ∙ c.loop-number.invariant.reads dev;
+      faults = c.in-Ok-Touch.ensures.takes.faults ∙ c.loop-number.invariant.faults;
+      usable = c.next.ensures.takes.usable;
       made = c.in-Ok-touch.ensures.made c.loop-number.number c.loop-number.invariant.made;
       few = omega (arith, few, c.if-number-eq-LINES.false);
-      same = λ honest. hears_then old now new (c.loop-number.invariant.same honest) (c.next.ensures.same (stays_honest old now c.loop-number.invariant.preserves honest));
-      ended = λ honest. c.in-Ok-Touch.ensures.ended (stays_honest old now c.loop-number.invariant.preserves honest) (c.loop-number.invariant.ended honest);
+      same = λ honest. hears_then old now new (c.loop-number.invariant.same honest) (c.next.ensures.takes.same (stays_honest old now c.loop-number.invariant.preserves honest));
+      ended = λ honest. c.in-Ok-Touch.ensures.takes.ended (stays_honest old now c.loop-number.invariant.preserves honest) (c.loop-number.invariant.ended honest);
       served = λ honest.
           let s = c.loop-number.invariant.served honest in
           let hears = hears_as c.in-Ok-Touch.field-0 (heard.Touch c.in-Ok-Touch.page c.in-Ok-Touch.change) _ _ (c.in-Ok-Touch.ensures.heard (stays_honest old now c.loop-number.invariant.preserves honest) (c.loop-number.invariant.ended honest)) c.in-Ok-Touch.field-0-is in
@@ -76,28 +76,28 @@ returns-in-Err-clause-same g c honest =
     let old = g.S.Site.state c.args.site.now in
     let now = g.S.Site.state c.loop-number.site in
     let new = g.S.Site.state c.next.new.site in
-    hears_then old now new (c.loop-number.invariant.same honest) (c.next.ensures.same (stays_honest old now c.loop-number.invariant.preserves honest))
+    hears_then old now new (c.loop-number.invariant.same honest) (c.next.ensures.takes.same (stays_honest old now c.loop-number.invariant.preserves honest))
 
 pub returns-in-Err-clause-preserves : goal.returns-in-Err-clause-preserves
 returns-in-Err-clause-preserves g c =
-    goes_in_sequence (g.S.Site.state c.args.site.now) (g.S.Site.state c.loop-number.site) (g.S.Site.state c.next.new.site) c.loop-number.invariant.preserves c.next.ensures.preserves
+    goes_in_sequence (g.S.Site.state c.args.site.now) (g.S.Site.state c.loop-number.site) (g.S.Site.state c.next.new.site) c.loop-number.invariant.preserves c.next.ensures.takes.preserves
 
 pub returns-in_default-report_of-clause-preserves : goal.returns-in_default-report_of-clause-preserves
 returns-in_default-report_of-clause-preserves g c =
-    goes_in_sequence (g.S.Site.state c.args.site.now) (g.S.Site.state c.loop-number.site) (g.S.Site.state c.next.new.site) c.loop-number.invariant.preserves c.next.ensures.preserves
+    goes_in_sequence (g.S.Site.state c.args.site.now) (g.S.Site.state c.loop-number.site) (g.S.Site.state c.next.new.site) c.loop-number.invariant.preserves c.next.ensures.takes.preserves
 
 pub returns-in-Ok-End-clause-preserves : goal.returns-in-Ok-End-clause-preserves
 returns-in-Ok-End-clause-preserves g c =
-    goes_in_sequence (g.S.Site.state c.args.site.now) (g.S.Site.state c.loop-number.site) (g.S.Site.state c.next.new.site) c.loop-number.invariant.preserves c.next.ensures.preserves
+    goes_in_sequence (g.S.Site.state c.args.site.now) (g.S.Site.state c.loop-number.site) (g.S.Site.state c.next.new.site) c.loop-number.invariant.preserves c.next.ensures.takes.preserves
 
 pub returns-in-Ok-Wrong-clause-preserves : goal.returns-in-Ok-Wrong-clause-preserves
 returns-in-Ok-Wrong-clause-preserves g c =
-    goes_in_sequence (g.S.Site.state c.args.site.now) (g.S.Site.state c.loop-number.site) (g.S.Site.state c.next.new.site) c.loop-number.invariant.preserves c.next.ensures.preserves
+    goes_in_sequence (g.S.Site.state c.args.site.now) (g.S.Site.state c.loop-number.site) (g.S.Site.state c.next.new.site) c.loop-number.invariant.preserves c.next.ensures.takes.preserves
 
 pub returns-then-number-eq-LINES-clause-preserves : goal.returns-then-number-eq-LINES-clause-preserves
 returns-then-number-eq-LINES-clause-preserves g c =
-    goes_in_sequence (g.S.Site.state c.args.site.now) (g.S.Site.state c.loop-number.site) (g.S.Site.state c.next.new.site) c.loop-number.invariant.preserves c.next.ensures.preserves
+    goes_in_sequence (g.S.Site.state c.args.site.now) (g.S.Site.state c.loop-number.site) (g.S.Site.state c.next.new.site) c.loop-number.invariant.preserves c.next.ensures.takes.preserves
 
 pub returns-in_default-touch-clause-preserves : goal.returns-in_default-touch-clause-preserves
 returns-in_default-touch-clause-preserves g c =
-    goes_in_sequence (g.S.Site.state c.args.site.now) (g.S.Site.state c.loop-number.site) (g.S.Site.state c.next.new.site) c.loop-number.invariant.preserves c.next.ensures.preserves
+    goes_in_sequence (g.S.Site.state c.args.site.now) (g.S.Site.state c.loop-number.site) (g.S.Site.state c.next.new.site) c.loop-number.invariant.preserves c.next.ensures.takes.preserves
