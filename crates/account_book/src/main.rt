@@ -7,8 +7,8 @@ mod book;
 use anyhow::{Context, Result, bail};
 use book::{balance, open, pay};
 use database::Database;
-use file_site::{Absence, FileSite, Folder, file_name};
-use site::{Dev, Geometry, Site};
+use file_site::FileSite;
+use site::{Geometry, Site};
 use std::env;
 
 const SIZES: Geometry = Geometry {
@@ -16,21 +16,6 @@ const SIZES: Geometry = Geometry {
     groups: 8,
     blocks: 64,
 };
-
-// The files of a book in this folder, which are made where they are missing.
-fn files<'a>(rt: &'a HostRuntime, path: &str) -> Result<FileSite<&'a HostRuntime>> {
-    let folder = Folder::new(rt.alloc(), path)?;
-    let (log, flash, disk) = SIZES.lengths();
-    let files = FileSite::fresh_in(rt, rt.alloc(), &folder, log, flash, disk)?;
-    for dev in [Dev::Log, Dev::Flash, Dev::Disk] {
-        match files.absence(dev) {
-            None => {}
-            Some(Absence::Busy(_)) => bail!("another program works in {path}"),
-            Some(_) => bail!("{} of {path} can't be opened or made", file_name(dev)),
-        }
-    }
-    Ok(files)
-}
 
 // Carries out a line, and answers the balance of its account.
 fn carry_out<S: Site + Drop>(book: &mut Database<S>, line: &str) -> Result<u64> {
@@ -52,7 +37,8 @@ fn main(rt: HostRuntime) -> Result<()> {
     let (Some(path), None) = (words.next(), words.next()) else {
         bail!("its word is the folder of the book");
     };
-    let mut book = match Database::open(rt.alloc(), files(&rt, path.as_str())?, 64) {
+    let files = FileSite::open_or_make(&rt, rt.alloc(), path.as_str(), &SIZES)?;
+    let mut book = match Database::open(rt.alloc(), files, 64) {
         Ok(book) => book,
         Err(left) => bail!("the files of {path} hold no book: {}", left.stop),
     };
