@@ -75,7 +75,14 @@ keeps_by g pages [] a b only reaches = record {
   beside = record { size = reaches.sizes Disk; beside = λ place out. ap (λ (d : List ℕ). get_or d place 0) reaches.disk };
   units = reaches.rings Groups;
 }
-keeps_by g pages (change ∷ changes) a b only reaches = grind (arith, common_steps, one_keeps, (keeps_by g pages changes))
+keeps_by g pages (change ∷ changes) a b only reaches =
+    let mid : Image = reaches.0 in
+    let first = one_keeps g pages change a mid only.0 reaches.1 in
+    let rest = keeps_by g pages changes mid b only.1 reaches.2 in
+    record {
+      beside = record { size = rest.beside.size ∙ first.beside.size; beside = λ place out. rest.beside.beside place out ∙ first.beside.beside place out };
+      units = record { units = rest.units.units ∙ first.units.units; form = λ form. rest.units.form (first.units.form form) };
+    }
 
 -- and once the group is appended, it stands behind the others
 pub record Grown (g : Geometry) (content : List ℕ) (old new : Image) : Type 0 where
