@@ -1,16 +1,15 @@
 -- Pages are marked as unchanged.
-use Rattle.std.proofs.Common.{arith, ◌≡◌, ℕ, ◌==◌, Bool, true, false, not, ◌&&◌, ◌||◌, List, [], ◌∷◌, ◌++◌, map, Option, Some, None, option_map, refl, sym, ap, subst, ◌∙◌}
+use Rattle.std.proofs.Common.{◌≡◌, ℕ, ◌==◌, Bool, true, false, not, ◌&&◌, ◌||◌, cond, List, [], ◌∷◌, ◌++◌, map, Option, Some, None, option_map, refl, sym, ap, subst, ◌∙◌}
 use Rattle.buffer_pool.proofs.Order.{page-cleared_at}
 use Rattle.std.specs.Prelude.{IsSome}
 use Rattle.std.specs.List.{AllByRecursion, list_any}
 use Rattle.std.proofs.lemmas.Bool.{eqb-true, eqb-false, eq-eqb, ne_eqb}
 use Rattle.buffer_pool.specs.declared.frame.Frame.{Frame}
-use Rattle.buffer_pool.specs.Frames.{frame_of, cleared_at, cleared}
+use Rattle.buffer_pool.specs.Frames.{frame_of, clear, cleared_at, cleared}
 use Rattle.buffer_pool.specs.Laws.{ClearedKeepsFrames}
 use Rattle.second_chance.specs.Machine.{saved, saved_page}
 use Rattle.page_store.specs.Caching.{pool_page}
 use Rattle.page_store.specs.Flushing.{cleared_all}
-use Rattle.std.proofs.lemmas.Grind.{common_steps}
 
 -- one page more is cleared
 pub cleared_push : (pages : List ℕ) (page : ℕ) (frames : List Frame) → cleared_all (pages ++ page ∷ []) frames ≡ cleared (cleared_all pages frames) page
@@ -33,18 +32,41 @@ option_same (Some x) = refl
 
 pub frames_cleared : ClearedKeepsFrames → (pages : List ℕ) (frames : List Frame) (n : ℕ) → frame_of (cleared_all pages frames) n ≡ option_map (cleared_by pages) (frame_of frames n)
 frames_cleared law [] frames n = option_same (frame_of frames n)
-frames_cleared law (page ∷ pages) frames n = grind (arith, common_steps, option_twice, (frames_cleared law pages (cleared frames page) n))
+frames_cleared law (page ∷ pages) frames n =
+    frames_cleared law pages (cleared frames page) n
+    ∙ ap (option_map (cleared_by pages)) (law frames page n)
+    ∙ option_twice (cleared_by pages) (cleared_at page) (frame_of frames n)
 
 pub still_there : ClearedKeepsFrames → (pages : List ℕ) (frames : List Frame) (n : ℕ) → IsSome (frame_of frames n) → IsSome (frame_of (cleared_all pages frames) n)
-still_there law pages frames n there = grind (arith, common_steps, frames_cleared)
+still_there law pages frames n there = subst IsSome (sym (frames_cleared law pages frames n)) (by (frame_of frames n) there)
+  where
+    by : (o : Option Frame) → IsSome o → IsSome (option_map (cleared_by pages) o)
+    by None there = there
+    by (Some x) there = refl
 
 -- what clearing leaves of a frame
 
 at_content : (page : ℕ) (frame : Frame) → (cleared_at page frame).content ≡ frame.content
-at_content page frame = grind (arith, common_steps)
+at_content page frame = by (frame.page == page)
+  where
+    by : (b : Bool) → (cond b (clear frame) frame).content ≡ frame.content
+    by true = refl
+    by false = refl
 
 at_mark : (page : ℕ) (frame : Frame) → (cleared_at page frame).changed ≡ (frame.changed && not (page == frame.page))
-at_mark page frame = grind (arith, common_steps, eq-eqb, eqb-true, ne_eqb, eqb-false)
+at_mark page frame = by (frame.page == page) refl
+  where
+    kept : (b : Bool) → b ≡ (b && true)
+    kept true = refl
+    kept false = refl
+
+    gone : (b : Bool) → false ≡ (b && false)
+    gone true = refl
+    gone false = refl
+
+    by : (b : Bool) → (frame.page == page) ≡ b → (cond b (clear frame) frame).changed ≡ (frame.changed && not (page == frame.page))
+    by true is = gone frame.changed ∙ sym (ap (λ b. frame.changed && not b) (eq-eqb page frame.page (sym (eqb-true _ _ is))))
+    by false is = kept frame.changed ∙ sym (ap (λ b. frame.changed && not b) (ne_eqb page frame.page (λ same. eqb-false _ _ is (sym same))))
 
 pub by_content : (pages : List ℕ) (frame : Frame) → (cleared_by pages frame).content ≡ frame.content
 by_content [] frame = refl
@@ -59,7 +81,9 @@ abbrev pub is_among : List ℕ → ℕ → Bool
 is_among pages n = list_any (λ page. page == n) pages
 
 and_both : (c p q : Bool) → ((c && not p) && not q) ≡ (c && not (p || q))
-and_both c p q = grind (arith, common_steps)
+and_both true true q = refl
+and_both true false q = refl
+and_both false p q = refl
 
 and_true : (c : Bool) → c ≡ (c && true)
 and_true true = refl
@@ -67,7 +91,10 @@ and_true false = refl
 
 pub by_mark : (pages : List ℕ) (frame : Frame) → (cleared_by pages frame).changed ≡ (frame.changed && not (is_among pages frame.page))
 by_mark [] frame = and_true frame.changed
-by_mark (page ∷ pages) frame = grind (arith, common_steps, at_mark, page-cleared_at, and_both, (by_mark pages (cleared_at page frame)))
+by_mark (page ∷ pages) frame =
+    by_mark pages (cleared_at page frame)
+    ∙ (λ i. at_mark page frame i && not (is_among pages (page-cleared_at page frame i)))
+    ∙ and_both frame.changed (page == frame.page) (is_among pages frame.page)
 
 pub all_cleared : (pages : List ℕ) (frames : List Frame) → cleared_all pages frames ≡ map (cleared_by pages) frames
 all_cleared [] frames = same frames
@@ -75,7 +102,11 @@ all_cleared [] frames = same frames
     same : (l : List Frame) → l ≡ map (λ (f : Frame). f) l
     same [] = refl
     same (f ∷ fs) = ap (λ (l : List Frame). f ∷ l) (same fs)
-all_cleared (page ∷ pages) frames = grind (arith, common_steps, (all_cleared pages (cleared frames page)))
+all_cleared (page ∷ pages) frames = all_cleared pages (cleared frames page) ∙ twice frames
+  where
+    twice : (l : List Frame) → map (cleared_by pages) (map (cleared_at page) l) ≡ map (cleared_by (page ∷ pages)) l
+    twice [] = refl
+    twice (f ∷ fs) = ap (λ (l : List Frame). cleared_by (page ∷ pages) f ∷ l) (twice fs)
 
 -- the machine's pages are saved
 pub pages_saved : (pages : List ℕ) (frames : List Frame) → map pool_page (cleared_all pages frames) ≡ saved (is_among pages) (map pool_page frames)

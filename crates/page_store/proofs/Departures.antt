@@ -16,7 +16,7 @@ use Rattle.buffer_pool.specs.Laws.{IsLast, WithoutTakesOne}
 use Rattle.second_chance.specs.declared.frame.Frame.{Frame as Known}
 use Rattle.second_chance.specs.Queue.{Queue, has_frame, frame_of as known_of}
 use Rattle.second_chance.specs.Plans.{Placed, group_size, chances_of, pulled_at_eviction}
-use Rattle.second_chance.specs.Machine.{Rules, Cache, chance_frame, leaving, pool_marks, pool_frame, must_be_pushed, evict_coldest, after_eviction, push_evicted, without, is_pulled}
+use Rattle.second_chance.specs.Machine.{Rules, PoolPage, Cache, chance_frame, leaving, pool_marks, pool_frame, must_be_pushed, evict_first, evict_coldest, after_eviction, push_evicted, without, is_pulled}
 use Rattle.log_store.specs.declared.store.LogStore.{LogStore}
 use Rattle.log_store.specs.LogList.{LogList}
 use Rattle.write_ahead.specs.Forcing.{IsLogged, forces, end_forced}
@@ -48,13 +48,17 @@ use Rattle.page_store.specs.Taking.{Has}
 use Rattle.page_store.proofs.Changing.{given_are, eviction_is}
 use Rattle.page_store.proofs.Flushes.{marks_turned, not_among}
 use Rattle.page_store.proofs.Calling.{AreItsOwn}
-use Rattle.std.proofs.lemmas.Grind.{common_steps}
 
 -- The machine.
 
 evicts_last : (r : Rules) (frames : List Frame) (last : Frame) (queue : Queue) → evict_coldest r (record { pool = map pool_page (frames ++ last ∷ []); queue = queue })
     ≡ after_eviction r (pool_page last) (record { pool = map pool_page frames; queue = queue })
-evicts_last r frames last queue = grind (arith, common_steps, map-append, reverse_last, reverse-reverse)
+evicts_last r frames last queue =
+    let pool : List PoolPage = map pool_page frames in
+    let turned : reverse (map pool_page (frames ++ last ∷ [])) ≡ pool_page last ∷ reverse pool = ap reverse (map-append pool_page frames (last ∷ [])) ∙ reverse_last pool (pool_page last) in
+    let cache : Cache = record { pool = map pool_page (frames ++ last ∷ []); queue = queue } in
+    ap (λ (l : List PoolPage). evict_first r l cache) turned
+    ∙ ap (λ (l : List PoolPage). after_eviction r (pool_page last) (record { pool = l; queue = queue })) (reverse-reverse pool)
 
 -- the machine behind the push of the coldest page and those that are pulled with it
 pub evicts_pushed : (store : PageStore) (rest : Pool) (last : Frame) (queue : Queue) → store.pool.frames ≡ rest.frames ++ last ∷ [] → must_be_pushed store.flash.directory (pool_page last) ≡ true
@@ -89,7 +93,10 @@ pub record IsWithout (old new gone : List Frame) : Type 0 where
 
 all_gone : (P : ℕ → Type 0) (xs : List Frame) → ((n : ℕ) → is_among (map page_of xs) n ≡ true → P n) → AllByRecursion (λ (f : Frame). P f.page) xs
 all_gone P [] all = tt
-all_gone P (x ∷ xs) all = grind (arith, common_steps, is_among, page_of, eq-eqb, or_right, (all_gone P xs))
+all_gone P (x ∷ xs) all = (
+  all x.page (ap (λ (b : Bool). b || is_among (map page_of xs) x.page) (eq-eqb x.page x.page refl)),
+  all_gone P xs (λ n is. all n (or_right (x.page == n) (is_among (map page_of xs) n) is)),
+)
 
 -- The store.
 
@@ -137,7 +144,19 @@ module _ (store : PageStore) (rest : Pool) (last : Frame) (h : HasLeft store res
   must_be told framed is = sym (ap (λ b. last.changed || not b) (is ∙ told last.page (subst IsSome (sym own) refl)))
 
   pub rest_going : (site : State) → Invariant store site → Invariant smaller site
-  rest_going site going = grind (arith, common_steps, own, length-append, distinct_front, all_front, rest_told, cases_eq)
+  rest_going site going = record {
+    flash = going.flash;
+    own = record {
+      least = subst (λ n. 1 ≤ n) (sym h.size) going.own.least;
+      most = subst (λ n. n ≤ 4096) (sym h.size) going.own.most;
+      pool = record {
+        few = let few = going.own.pool.few in let longer = ap length h.is in omega (arith, few, longer, h.size, length-append rest.frames (last ∷ []));
+        distinct = distinct_front rest.frames last (subst AreDistinct h.is going.own.pool.distinct);
+      };
+      pages = all_front (IsPage store.flash.geometry.pages) rest.frames last (subst (AllByRecursion (IsPage store.flash.geometry.pages)) h.is going.own.pages);
+      told = λ n some. rest_told going.own.told n some (cases_eq n last.page);
+    };
+  }
 
   rest_unchanged : (site : State) (n : ℕ) (frame : Frame) → Matches store site → frame_of rest.frames n ≡ Some frame → frame.changed ≡ false → (n ≡ last.page) ⊎ (n ≢ last.page)
       → frame.content ≡ version_on store.flash.geometry site.image n
@@ -178,7 +197,11 @@ module _ (store : PageStore) (rest : Pool) (last : Frame) (h : HasLeft store res
   rest_logged end all = all_front (λ (frame : Frame). IsLogged end frame.content) rest.frames last (subst (AllByRecursion (λ (frame : Frame). IsLogged end frame.content)) h.is all)
 
   pub absent_rest : (page : ℕ) → frame_of store.pool.frames page ≡ None → frame_of rest.frames page ≡ None
-  absent_rest page none = grind (arith, common_steps, cases_eq, others)
+  absent_rest page none = by (cases_eq page last.page)
+    where
+      by : (page ≡ last.page) ⊎ (page ≢ last.page) → frame_of rest.frames page ≡ None
+      by (inl same) = ap (frame_of rest.frames) same ∙ h.one.gone
+      by (inr other) = others page other ∙ none
 
   -- The pages that are pushed are the pool's own, each once.
 
@@ -194,7 +217,11 @@ module _ (store : PageStore) (rest : Pool) (last : Frame) (h : HasLeft store res
     pulled_others = all_pulled (λ (f : Frame). f.page ≢ last.page) (rules smaller) store.flash.directory (reverse rest.frames) (all_reverse (λ (f : Frame). f.page ≢ last.page) rest.frames not_last)
 
     pub gone_found : AllByRecursion (λ (f : Frame). frame_of store.pool.frames f.page ≡ Some f) gone
-    gone_found = grind (arith, common_steps, own, all_both, others, pulled_found, pulled_others)
+    gone_found = (
+      own,
+      all_both (λ (f : Frame). frame_of rest.frames f.page ≡ Some f) (λ (f : Frame). f.page ≢ last.page) (λ (f : Frame). frame_of store.pool.frames f.page ≡ Some f)
+          (λ f found other. sym (others f.page other) ∙ found) (pulled smaller) pulled_found pulled_others,
+    )
 
     pub gone_apart : AreDistinct gone
     gone_apart = (
@@ -319,7 +346,8 @@ known_own (x ∷ xs) = ap (λ (l : List Known). known_of x.page x.changed ∷ l)
 
 -- Three lists that are equal to others, in a statement with all three.
 pub with_parts : (P : List ℕ → List Bool → List (List ℕ) → Type 0) {a a' : List ℕ} {b b' : List Bool} {c c' : List (List ℕ)} → a ≡ a' → b ≡ b' → c ≡ c' → P a b c → P a' b' c'
-with_parts P {a = a} {a' = a'} {b = b} {b' = b'} {c = c} first second third p = grind (arith, common_steps)
+with_parts P {a = a} {a' = a'} {b = b} {b' = b'} {c = c} first second third p =
+    subst (P a' b') third (subst (λ (l : List Bool). P a' l c) second (subst (λ (l : List ℕ). P l b c) first p))
 
 -- All that a push of the coldest page and of those that are pulled with it asks, and what it makes.
 
@@ -339,7 +367,15 @@ pub record Departs (store : PageStore) (pool : Pool) (pages : List ℕ) (changed
 
 module _ (store : PageStore) (rest : Pool) (last : Frame) (h : HasLeft store rest last) (pool : Pool) (part : LeavesOut rest.frames pool.frames) where
   pub going_left : (log : LogStore) (site : State) → IsStore (record store { pool = pool }) → MayWork log store site → MayWork log (record store { pool = pool }) site
-  going_left log site own going = grind (arith, common_steps)
+  going_left log site own going = record {
+    pages_going = record {
+      flash = going.pages_going.flash;
+      own = own;
+    };
+    log_going = going.log_going;
+    sizes = going.sizes;
+    room = going.room;
+  }
 
   pub few_left : length pool.frames < length store.pool.frames
   few_left = let before = ap length h.is in omega (arith, before, length-append rest.frames (last ∷ []), few_part rest.frames pool.frames part)

@@ -1,5 +1,5 @@
 -- Behind a push of changed pages.
-use Rattle.std.proofs.Common.{◌≡◌, inl, inr, ℕ, suc, ◌<◌, ◌≤◌, ◌==◌, Bool, true, false, not, ◌&&◌, ◌||◌, List, [], ◌∷◌, ◌++◌, length, get_or, take, map, filter, reverse, replicate, Option, Some, None, option_map, arith, refl, sym, ap, ◌∙◌}
+use Rattle.std.proofs.Common.{◌≡◌, inl, inr, ℕ, suc, ◌<◌, ◌≤◌, ◌==◌, Bool, true, false, true≢false, not, ◌&&◌, ◌||◌, cond, List, [], ◌∷◌, ◌++◌, length, get_or, take, map, filter, reverse, replicate, Option, Some, None, option_map, is_some, arith, refl, sym, ap, subst, ◌∙◌}
 use Rattle.buffer_pool.proofs.Order.{frame_page}
 use Rattle.std.specs.Prelude.{IsSome, Contains, Ok}
 use Rattle.std.specs.List.{All, AllByRecursion}
@@ -7,6 +7,7 @@ use Rattle.std.proofs.lemmas.Option.{none-some}
 use Rattle.std.proofs.lemmas.Bool.{eqb-true}
 use Rattle.std.proofs.lemmas.List.{get_or_default, reverse-append, map-append, length-map, length-take-le, take-map}
 use Rattle.std_lemmas.proofs.AllOf.{all_weaker}
+use Rattle.site.specs.declared.geometry.Geometry.{Geometry}
 use Rattle.site.specs.State.{State, Image}
 use Rattle.flash_cache.specs.Representation.{version_on}
 use Rattle.flash_cache.specs.Pushed.{chance_marks, known_given}
@@ -18,7 +19,7 @@ use Rattle.second_chance.specs.Queue.{Queue, pushed, frame_of as known_of}
 use Rattle.second_chance.specs.Machine.{Cache, chance_frame, pool_mark, pool_frame, is_pulled, saved, push_changed, is_full}
 use Rattle.write_ahead.specs.Forcing.{IsLogged, end_forced}
 use Rattle.page_store.specs.declared.store.PageStore.{PageStore}
-use Rattle.page_store.specs.Representation.{IsPage, IsStore, Matches, content_by}
+use Rattle.page_store.specs.Representation.{IsPage, IsStore, Matches, content_by, current}
 use Rattle.page_store.specs.Caching.{pool_page, cache_of, rules}
 use Rattle.page_store.specs.Leaves.{Gives, KeepsCurrent}
 use Rattle.log_store.specs.declared.store.LogStore.{LogStore}
@@ -27,7 +28,7 @@ use Rattle.image_changes.specs.Changes.{Change}
 use Rattle.second_chance.specs.Laws.{changed_count}
 use Rattle.page_store.specs.Calls.{Keeps, Stands}
 use Rattle.page_store.specs.Changing.{standing, push_changes, given_changes}
-use Rattle.page_store.specs.Flushing.{saved_next, content_in, cleared_all}
+use Rattle.page_store.specs.Flushing.{changed_frames, saved_next, content_in, cleared_all}
 use Rattle.page_store.specs.Pulling.{mark_for, room_for_pages}
 use Rattle.page_store.proofs.PushLaws.{or_listed}
 use Rattle.page_store.proofs.Choosing.{first_changed, few_chosen, chosen_changed}
@@ -36,7 +37,6 @@ use Rattle.page_store.proofs.Changing.{given_is, known_pages, HasMade}
 use Rattle.page_store.proofs.Clearing.{frames_cleared, cleared_by, by_content, by_mark, is_among, pages_saved, all_pages}
 use Rattle.page_store.proofs.Saving.{all_true, known_changed, HasChosen, has_chosen, chosen_contents}
 use Rattle.slotted_page.specs.Layout.{IsSound}
-use Rattle.std.proofs.lemmas.Grind.{common_steps}
 
 -- Which pages are listed.
 
@@ -49,7 +49,11 @@ among_listed (p ∷ pages) n is = by (p == n) refl is (among_listed pages n)
     by false other is rest = let there = rest is in (suc there.0, let less = there.1 in omega (arith, less), there.2)
 
 pub not_among : (pages : List ℕ) (n : ℕ) → (Contains pages n → ⊥) → is_among pages n ≡ false
-not_among pages n none = grind (arith, common_steps, is_among, among_listed)
+not_among pages n none = by (is_among pages n) refl
+  where
+    by : (b : Bool) → is_among pages n ≡ b → is_among pages n ≡ false
+    by true is = absurd (none (among_listed pages n is))
+    by false is = is
 
 -- The store.
 
@@ -99,21 +103,53 @@ module _ (law : ClearedKeepsFrames) (store after : PageStore) (pages : List ℕ)
       by n frame (Some f) own found unchanged = let is : frame ≡ cleared_by pages f = cc in saved_frame n frame f fits is own unchanged
 
   pub saved_current : (framed : List ℕ) → All (λ (page : ℕ). IsSome (frame_of store.pool.frames page)) pages → KeepsCurrent store old.image (record after { pool = record after.pool { frames = cleared_all pages frames; framed = framed } }) new.image
-  saved_current framed there = grind (arith, common_steps, frames_cleared, get_or_default, cleared_by, same_frame, by_content)
+  saved_current framed there = record { each = λ n exists. ap (λ o. content_by o (version_on after.flash.geometry new.image n)) (frames_cleared law pages frames n) ∙ by n (frame_of store.pool.frames n) refl }
+    where
+      not_listed : (n : ℕ) → frame_of store.pool.frames n ≡ None → Contains pages n → ⊥
+      not_listed n none listed =
+          let is : get_or pages listed.0 0 ≡ n = get_or_default pages listed.0 0 n listed.1 ∙ listed.2 in
+          let some : is_some (frame_of store.pool.frames n) ≡ true = subst (λ p. IsSome (frame_of store.pool.frames p)) is (there listed.0 0 listed.1) in
+          true≢false (sym some ∙ ap is_some none)
+
+      by : (n : ℕ) (o : Option Frame) → frame_of store.pool.frames n ≡ o
+          → content_by (option_map (cleared_by pages) (frame_of frames n)) (version_on after.flash.geometry new.image n) ≡ current store old.image n
+      by n None own =
+          ap (λ p. content_by (option_map (cleared_by pages) p) (version_on after.flash.geometry new.image n)) (same_frame n ∙ own)
+          ∙ ap (λ (g : Geometry). version_on g new.image n) geometry
+          ∙ gives.others n (not_listed n own)
+          ∙ sym (ap (λ p. content_by p (version_on store.flash.geometry old.image n)) own)
+      by n (Some f) own =
+          ap (λ p. content_by (option_map (cleared_by pages) p) (version_on after.flash.geometry new.image n)) (same_frame n ∙ own)
+          ∙ by_content pages f
+          ∙ sym (ap (λ p. content_by p (version_on store.flash.geometry old.image n)) own)
 
 -- The machine.
 
 filter_marked : (queue : Queue) (xs : List Frame) → filter (λ (m : PoolMark). m.changed) (map (mark_for queue) xs) ≡ map (mark_for queue) (filter (λ (f : Frame). f.changed) xs)
 filter_marked queue [] = refl
-filter_marked queue (x ∷ xs) = grind (arith, common_steps, (filter_marked queue xs))
+filter_marked queue (x ∷ xs) = by x.changed (filter_marked queue xs)
+  where
+    by : (b : Bool) → filter (λ (m : PoolMark). m.changed) (map (mark_for queue) xs) ≡ map (mark_for queue) (filter (λ (f : Frame). f.changed) xs)
+        → cond b (mark_for queue x ∷ filter (λ (m : PoolMark). m.changed) (map (mark_for queue) xs)) (filter (λ (m : PoolMark). m.changed) (map (mark_for queue) xs))
+        ≡ map (mark_for queue) (cond b (x ∷ filter (λ (f : Frame). f.changed) xs) (filter (λ (f : Frame). f.changed) xs))
+    by true rest = ap (λ (l : List PoolMark). mark_for queue x ∷ l) rest
+    by false rest = rest
 
 pub marks_turned : (queue : Queue) (xs : List Frame) → map (pool_mark queue) (reverse (map pool_page xs)) ≡ map (mark_for queue) (reverse xs)
 marks_turned queue [] = refl
-marks_turned queue (x ∷ xs) = grind (arith, common_steps, reverse-append, map-append, (marks_turned queue xs))
+marks_turned queue (x ∷ xs) =
+    ap (map (pool_mark queue)) (reverse-append (pool_page x ∷ []) (map pool_page xs))
+    ∙ map-append (pool_mark queue) (reverse (map pool_page xs)) (pool_page x ∷ [])
+    ∙ ap (λ (l : List PoolMark). l ++ mark_for queue x ∷ []) (marks_turned queue xs)
+    ∙ sym (map-append (mark_for queue) (reverse xs) (x ∷ []))
+    ∙ sym (ap (map (mark_for queue)) (reverse-append (x ∷ []) xs))
 
 pulled_marks : (room : ℕ) (queue : Queue) (frames : List Frame)
     → take room (filter (λ (m : PoolMark). m.changed) (map (pool_mark queue) (reverse (map pool_page frames)))) ≡ map (mark_for queue) (first_changed room frames)
-pulled_marks room queue frames = grind (arith, common_steps, marks_turned, filter_marked, take-map)
+pulled_marks room queue frames =
+    ap (λ (l : List PoolMark). take room (filter (λ (m : PoolMark). m.changed) l)) (marks_turned queue frames)
+    ∙ ap (take room) (filter_marked queue (reverse frames))
+    ∙ take-map (mark_for queue) room (changed_frames frames)
 
 pulled_pages : (queue : Queue) (xs : List Frame) (n : ℕ) → is_pulled (map (mark_for queue) xs) n ≡ is_among (map (λ (f : Frame). f.page) xs) n
 pulled_pages queue [] n = refl

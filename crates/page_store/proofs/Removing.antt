@@ -12,18 +12,18 @@ use Rattle.buffer_pool.specs.declared.frame.Frame.{Frame}
 use Rattle.buffer_pool.specs.Frames as pool
 use Rattle.buffer_pool.specs.Frames.{State as Pool, AreDistinct, Knows, frame_of}
 use Rattle.buffer_pool.specs.Laws.{WithoutTakesOne}
+use Rattle.second_chance.specs.declared.plan.PoolMark.{PoolMark}
 use Rattle.second_chance.specs.Queue.{Queue}
 use Rattle.second_chance.specs.Plans.{chances_of}
 use Rattle.second_chance.specs.Machine.{Rules, leaving, PoolPage, must_be_pushed, without, is_pulled}
 use Rattle.page_store.specs.declared.store.PageStore.{PageStore}
 use Rattle.page_store.specs.Representation.{IsPage, IsStore, AreTold}
 use Rattle.page_store.specs.Caching.{pool_page, rules}
-use Rattle.page_store.specs.Pulling.{mark_for, without_all, LeavesOut, pulled_frames, pulled}
+use Rattle.page_store.specs.Pulling.{mark_for, movable, without_all, LeavesOut, pulled_frames, pulled}
 use Rattle.page_store.proofs.Pools.{pages_without}
 use Rattle.page_store.proofs.Clearing.{is_among}
 use Rattle.page_store.proofs.Saving.{distinct_filter, distinct_take, distinct_reverse, found_all}
 use Rattle.page_store.proofs.ToldPages.{told_without}
-use Rattle.std.proofs.lemmas.Grind.{common_steps}
 
 abbrev pub page_of : Frame → ℕ
 page_of f = f.page
@@ -36,7 +36,13 @@ without_push (p ∷ pages) page frames = without_push pages page (pool.without f
 -- Where a page's frame is then.
 pub frames_without : WithoutTakesOne → (pages : List ℕ) (frames : List Frame) (n : ℕ) → frame_of (without_all pages frames) n ≡ cond (is_among pages n) None (frame_of frames n)
 frames_without law [] frames n = refl
-frames_without law (page ∷ pages) frames n = grind (arith, common_steps, is_among, (frames_without law pages))
+frames_without law (page ∷ pages) frames n =
+    frames_without law pages (pool.without frames page) n ∙ ap (λ (o : Option Frame). cond (is_among pages n) None o) (law frames page n) ∙ by (page == n) (is_among pages n)
+  where
+    by : (a b : Bool) → cond b None (cond a None (frame_of frames n)) ≡ cond (a || b) None (frame_of frames n)
+    by true true = refl
+    by true false = refl
+    by false b = refl
 
 -- What holds of all frames holds of those that are left, each page stands there once, and there are no more.
 
@@ -68,16 +74,32 @@ store_without law store pool' page is knows own =
 -- The pages that are pulled.
 
 pub all_pulled : (P : Frame → Type 0) (r : Rules) (queue : Queue) (xs : List Frame) → AllByRecursion P xs → AllByRecursion P (pulled_frames r queue xs)
-all_pulled P r queue xs all = grind (arith, common_steps, all_take, all_filter)
+all_pulled P r queue xs all = by r.pulls _
+  where
+    by : (b : Bool) (n : ℕ) → AllByRecursion P (cond b (take n (movable queue xs)) [])
+    by true n = all_take P n (movable queue xs) (all_filter P (λ (f : Frame). must_be_pushed queue (pool_page f)) xs all)
+    by false n = tt
 
 pub pulled_move : (r : Rules) (queue : Queue) (xs : List Frame) → AllByRecursion (λ (f : Frame). must_be_pushed queue (pool_page f) ≡ true) (pulled_frames r queue xs)
-pulled_move r queue xs = grind (arith, common_steps, all_take, all_passed)
+pulled_move r queue xs = by r.pulls _
+  where
+    by : (b : Bool) (n : ℕ) → AllByRecursion (λ (f : Frame). must_be_pushed queue (pool_page f) ≡ true) (cond b (take n (movable queue xs)) [])
+    by true n = all_take (λ (f : Frame). must_be_pushed queue (pool_page f) ≡ true) n (movable queue xs) (all_passed (λ (f : Frame). must_be_pushed queue (pool_page f)) xs)
+    by false n = tt
 
 pub pulled_apart : (r : Rules) (queue : Queue) (xs : List Frame) → AreDistinct xs → AreDistinct (pulled_frames r queue xs)
-pulled_apart r queue xs apart = grind (arith, common_steps, distinct_take, distinct_filter)
+pulled_apart r queue xs apart = by r.pulls _
+  where
+    by : (b : Bool) (n : ℕ) → AreDistinct (cond b (take n (movable queue xs)) [])
+    by true n = distinct_take n (movable queue xs) (distinct_filter (λ (f : Frame). must_be_pushed queue (pool_page f)) xs apart)
+    by false n = tt
 
 pub pulled_few : (r : Rules) (queue : Queue) (xs : List Frame) → length (pulled_frames r queue xs) ≤ 8 - 1 - length (chances_of r.chances (leaving r queue))
-pulled_few r queue xs = grind (arith, common_steps, length-take)
+pulled_few r queue xs = by r.pulls (8 - 1 - length (chances_of r.chances (leaving r queue)))
+  where
+    by : (b : Bool) (n : ℕ) → length (cond b (take n (movable queue xs)) []) ≤ n
+    by true n = omega (arith, length-take n (movable queue xs))
+    by false n = omega arith
 
 -- The next one is there still.
 
@@ -93,7 +115,10 @@ module _ (law : WithoutTakesOne) (frames xs : List Frame) (found : AllByRecursio
           ∙ at ys all.1 j (omega (arith, within))
 
   pub next_there : (k : ℕ) (d : Frame) → k < length xs → frame_of (without_all (take k (map page_of xs)) frames) (get_or xs k d).page ≡ Some (get_or xs k d)
-  next_there k d less = grind (arith, common_steps, frames_without, not_before, all_at)
+  next_there k d less =
+      frames_without law (take k (map page_of xs)) frames (get_or xs k d).page
+      ∙ ap (λ b. cond b None (frame_of frames (get_or xs k d).page)) (not_before k d less)
+      ∙ all_at (λ (f : Frame). frame_of frames f.page ≡ Some f) xs k d found less
 
 -- The machine's pool.
 
@@ -103,7 +128,25 @@ pool_left queue [] frames = all (map pool_page frames)
     all : (l : List PoolPage) → l ≡ without (is_pulled []) l
     all [] = refl
     all (p ∷ l) = ap (λ (k : List PoolPage). p ∷ k) (all l)
-pool_left queue (x ∷ xs) frames = grind (arith, common_steps, pages_without, eq_turned, (pool_left queue xs))
+pool_left queue (x ∷ xs) frames =
+    pool_left queue xs (pool.without frames x.page)
+    ∙ ap (without (is_pulled (map (mark_for queue) xs))) (pages_without frames x.page)
+    ∙ twice (map pool_page frames)
+  where
+    ms : List PoolMark
+    ms = map (mark_for queue) xs
+
+    twice : (l : List PoolPage) → without (is_pulled ms) (without (λ other. other == x.page) l) ≡ without (is_pulled (mark_for queue x ∷ ms)) l
+    twice [] = refl
+    twice (q ∷ l) =
+        ap (λ b. without (is_pulled ms) (cond (not b) (q ∷ without (λ other. other == x.page) l) (without (λ other. other == x.page) l))) (eq_turned q.page x.page)
+        ∙ by (x.page == q.page) (twice l)
+      where
+        by : (b : Bool) → without (is_pulled ms) (without (λ other. other == x.page) l) ≡ without (is_pulled (mark_for queue x ∷ ms)) l
+            → without (is_pulled ms) (cond (not b) (q ∷ without (λ other. other == x.page) l) (without (λ other. other == x.page) l))
+            ≡ cond (not (b || is_pulled ms q.page)) (q ∷ without (is_pulled (mark_for queue x ∷ ms)) l) (without (is_pulled (mark_for queue x ∷ ms)) l)
+        by true rest = rest
+        by false rest = ap (λ (k : List PoolPage). cond (not (is_pulled ms q.page)) (q ∷ k) k) rest
 
 -- The pages that are pulled from a store, one after the other.
 
@@ -139,7 +182,8 @@ none_either false = refl
 
 -- a page that isn't there isn't there then
 pub absent_part : WithoutTakesOne → (old new : List Frame) → LeavesOut old new → (page : ℕ) → frame_of old page ≡ None → frame_of new page ≡ None
-absent_part law old new part page none = grind (arith, common_steps, frames_without, is_among, none_either)
+absent_part law old new part page none =
+    ap (λ (l : List Frame). frame_of l page) part.left ∙ frames_without law part.pages old page ∙ ap (λ (o : Option Frame). cond (is_among part.pages page) None o) none ∙ none_either (is_among part.pages page)
 
 pub few_part : (old new : List Frame) → LeavesOut old new → length new ≤ length old
 few_part old new part = let count = ap length part.left in omega (arith, count, few_left part.pages old)
