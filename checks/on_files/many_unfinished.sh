@@ -51,6 +51,14 @@ costs() {
     cost=$((10#${out/./}))
 }
 
+# answers WORDS REPLY WHAT judges whether the program tells this over the log, in a time that is bounded by a sound one's
+answers() {
+    # shellcheck disable=SC2086
+    costs $1
+    [ "$(cat replies)" = "$2" ] && [ "$cost" -lt "$most" ]
+    verdict "$3 in $cost of $most ms" $?
+}
+
 cd "$folder" || exit 1
 log sound 400
 costs check
@@ -58,21 +66,11 @@ costs check
 verdict 'a check of a sound log' $?
 most=$((20 * cost + 500))
 log begins 400
-costs check
-[ "$(cat replies)" = 'unsound S9' ] && [ "$cost" -lt "$most" ]
-verdict "a check of 200,400 unfinished transactions in $cost of $most ms" $?
-costs run 4
-[ "$(cat replies)" = 'fault foreign' ] && [ "$cost" -lt "$most" ]
-verdict "a run over them in $cost of $most ms" $?
+answers check 'unsound S9' 'a check of 200,400 unfinished transactions'
+answers 'run 4' 'fault foreign' 'a run over them'
 log ended 5600
-costs check
-[ "$(cat replies)" = 'sound records 0 commits 0' ] && [ "$cost" -lt "$most" ]
-verdict "a check of 50,100 transactions that end one after the other in $cost of $most ms" $?
+answers check 'sound records 0 commits 0' 'a check of 50,100 transactions that end one after the other'
 log updates 100
-costs check
-[ "$(cat replies)" = 'sound records 0 commits 0' ] && [ "$cost" -lt "$most" ]
-verdict "a check of 50,100 transactions with an Update each in $cost of $most ms" $?
-costs run 4
-[ "$(head -1 replies)" = 'open 0' ] && [ "$cost" -lt "$most" ]
-verdict "a run that undoes 50,100 transactions with an Update each in $cost of $most ms" $?
+answers check 'sound records 0 commits 0' 'a check of 50,100 transactions with an Update each'
+answers 'run 4' 'open 0' 'a run that undoes them'
 finish
