@@ -4,6 +4,7 @@ pub mod Changes
 pub mod Calling
 pub mod Performing
 pub mod Undoing
+pub mod Updated
 pub mod RestartedRings
 pub mod Checkpoints
 pub mod Commits
