@@ -13,6 +13,7 @@ pub mod Locks
 pub mod Meanings
 pub mod Moments
 pub mod Namings
+pub mod NeverFull
 pub mod Openings
 pub mod Queues
 pub mod Recovers
