@@ -38,6 +38,7 @@ use Rattle.engine.proofs.RingCounts.{counts, count_failed, count_answered, count
 use Rattle.engine.proofs.Replies.{none_made, made_as_asked, step_behind, touches_behind, touched, way}
 use Rattle.site.proofs.Working.{calls_nothing, calls_then, calls_failed, calls_answered, calls_refused}
 use Rattle.site.specs.Work.{Calls}
+use Rattle.redo_undo.specs.declared.store.TransactionStore.{TransactionStore}
 use Rattle.redo_undo.specs.StoreCalls.{KeepsInvariant, Keeps}
 use Rattle.redo_laws.proofs.Endings.{ends_behind, ends_failed, ends_leaving, ends_no_memory, ends_ok, leaves_late}
 use Rattle.redo_undo.proofs.NextUnits.{next_then, next_failed, next_answered, next_nothing, next_refused}
@@ -62,7 +63,9 @@ calls_behind {r = r} {before = before} {between = between} {now = now} goes same
 
 -- Log and pages, on every site.
 
--- Log and pages, on an honest site.
+-- a call that stops is a call of any number of records
+pub works_sooner : {T : Type 0} {stop : Stop} {old new : TransactionStore} {before now : Site} {n : ℕ} (k : ℕ) → KeepsInvariant {T = T} (Err stop) old new before now n → KeepsInvariant {T = T} (Err stop) old new before now k
+works_sooner k first = record { calls = first.calls; going = tt; made = tt; blocks = tt; rises = tt; kept = first.kept; sizes = first.sizes; stops = first.stops; next = first.next }
 
 -- How a call ends on an honest site.
 
