@@ -181,7 +181,8 @@ impl TransactionStore {
         requires front { IsInFront self.now number }
         requires short { IsShort after.now }
 
-        // Of an honest site whose log and pages hold these records: where an Update may follow, it has room.
+        // Of an honest site whose log and pages hold these records: where an Update may follow, there or behind the
+        // Begin of its transaction, it has room.
         ensures grows { (site : State) (newest : Option Master) (records : List Entry) (table : List Content)
             (commits txn prev lsn : ℕ)
             → Represents self.now site newest records table commits
@@ -189,6 +190,17 @@ impl TransactionStore {
             (record {
               lsn = lsn;
               rec = update_by txn prev number (shown_in self.now site records number) after.now;
+            })
+            → IsTrue result }
+        ensures begins { (site : State) (newest : Option Master) (records : List Entry) (table : List Content)
+            (commits txn lsn : ℕ)
+            → Represents self.now site newest records table commits
+            → MayGrow self.now site newest (records ++ record { lsn = txn; rec = LogRecord.Begin } ∷ [])
+            (record {
+              lsn = lsn;
+              rec = update_by txn txn number
+                  (shown_in self.now site (records ++ record { lsn = txn; rec = LogRecord.Begin } ∷ []) number)
+                  after.now;
             })
             → IsTrue result }
 

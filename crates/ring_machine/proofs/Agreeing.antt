@@ -17,7 +17,7 @@ use Rattle.log_records.specs.Sound.{from_block}
 use Rattle.second_chance.specs.Machine.{Rules, is_changed, with_room, touched, after_works}
 use Rattle.second_chance.specs.Machine as cache
 use Rattle.ring_machine.specs.Machine.{Machine, RingOp, cached, logged, changed, apply_op, after_all}
-use Rattle.ring_machine.specs.Commands.{reads, begins, writes, commits, takes_back, ends, saves, undoes, stood_before, record_work}
+use Rattle.ring_machine.specs.Commands.{reads, begins, commits, takes_back, ends, saves, undoes, stood_before, record_work}
 use Rattle.ring_machine.specs.Octets.{update_octets, clr_octets}
 use Rattle.ring_machine.specs.Restart.{clr_on, undoing_work, only_ends, redo_work, undo_work}
 use Rattle.ring_machine.specs.Laws.{CommandsAgree, RestartsAgree}
@@ -87,9 +87,7 @@ record_agrees rules s (Scan n number count) = read_all rules (range_with_len num
 record_agrees rules s (Commit n) = nothing rules commits (λ m. refl)
 record_agrees rules s (Abort n) = undone rules s.table (writes_of (session_at s n))
 record_agrees rules s (Get number) = read rules number
-record_agrees rules s (Set number value) =
-    in_turn rules begins (writes number (content_at s.table number) (Some value) ++ commits) [] (write_touch number ∷ []) (nothing rules begins (λ m. refl))
-    (in_turn rules (writes number (content_at s.table number) (Some value)) commits (write_touch number ∷ []) [] (change rules number (update_octets (content_at s.table number) (Some value))) (nothing rules commits (λ m. refl)))
+record_agrees rules s (Set number value) = change rules number (update_octets (content_at s.table number) (Some value))
 record_agrees rules s Checkpoint = nothing rules [] (λ m. refl)
 record_agrees rules s Cache = nothing rules [] (λ m. refl)
 record_agrees rules s Stat = nothing rules [] (λ m. refl)

@@ -14,12 +14,16 @@ use Rattle.ring_machine.specs.Octets.{update_octets, clr_octets}
 abbrev pub reads : ℕ → List RingOp
 reads number = cached (read_touch number) ∷ []
 
--- a transaction begins, writes a record, is committed, takes a write back, and is ended
+-- a transaction begins, changes a record whose page is in front, writes one, is committed, takes a write back, and is
+-- ended
 abbrev pub begins : List RingOp
 begins = logged 1 ∷ []
 
+abbrev pub changes : ℕ → Content → Content → List RingOp
+changes number before after = changed (update_octets before after) (page_of number) ∷ []
+
 abbrev pub writes : ℕ → Content → Content → List RingOp
-writes number before after = cached (read_touch number) ∷ changed (update_octets before after) (page_of number) ∷ []
+writes number before after = reads number ++ changes number before after
 
 abbrev pub commits : List RingOp
 commits = logged 17 ∷ force ∷ []
@@ -60,7 +64,7 @@ record_work s (command.Commit n) = commits
 record_work s (command.Abort n) = undoes s.table (writes_of (session_at s n))
 record_work s (command.Get number) = reads number
 record_work s (command.Set number value) =
-    begins ++ writes number (content_at s.table number) (Some value) ++ commits
+    reads number ++ begins ++ changes number (content_at s.table number) (Some value) ++ commits
 record_work s command.Checkpoint = []
 record_work s command.Cache = []
 record_work s command.Stat = []

@@ -9,7 +9,7 @@ use Rattle.record_model.specs.declared.words.Reply.{Reply}
 use Rattle.record_model.specs.declared.words.Command.TheVariants.{Set}
 use Rattle.lock_table.specs.declared.lock.Lock.{Lock}
 use Rattle.lock_table.specs.Locks.{busy_write}
-use Rattle.ring_machine.specs.Commands.{begins, writes, commits}
+use Rattle.ring_machine.specs.Commands.{reads, begins, changes, commits}
 use Rattle.ring_machine.proofs.Performing.{performs_as}
 use Rattle.engine.specs.declared.engine.Engine.{Engine}
 use Rattle.engine.specs.Invariant.{sizes_of}
@@ -91,7 +91,7 @@ returns-in-Ok-carry_out_set g c =
           (written c.args.number c.value_of-after.ensures (c.in-Ok-carry_out_set.ensures.does _ behind)) (c.in-Ok-carry_out_set.ensures.reply _ behind) c.in-Ok-carry_out_set.ensures.asks;
       performs = λ s fits.
           performs_first s (Set c.args.number c.args.value.now) (c.is_due-due.ensures s old fits) (c.in_default.ensures.passes s old fits) false (has_room 4 (c.in-Ok.ensures.does s fits).after_fits c.in-Ok.ensures.serves.going.table c.in_default-full.ensures.room) c.in-Ok.ensures.asks.rules_are (c.in-Ok.ensures.performs s fits)
-          (performs_as (ap (λ (x : Content). (begins ++ writes c.args.number (content_at s.table c.args.number) x) ++ commits) (sym c.value_of-after.ensures)) (c.in-Ok-carry_out_set.ensures.performs _ (c.in-Ok.ensures.does s fits).after_fits));
+          (performs_as (ap (λ (x : Content). reads c.args.number ++ begins ++ changes c.args.number (content_at s.table c.args.number) x ++ commits) (sym c.value_of-after.ensures)) (c.in-Ok-carry_out_set.ensures.performs _ (c.in-Ok.ensures.does s fits).after_fits));
       serves = serves_then c.in-Ok.ensures.serves c.in-Ok-carry_out_set.ensures.serves;
       ended = search rules;
     }
@@ -107,7 +107,7 @@ returns-in-Err-carry_out_set g c =
           (does_failed (omega arith) (written c.args.number c.value_of-after.ensures (c.in-Err-carry_out_set.ensures.does _ behind))) tt c.in-Err-carry_out_set.ensures.asks;
       performs = λ s fits.
           performs_first s (Set c.args.number c.args.value.now) (c.is_due-due.ensures s old fits) (c.in_default.ensures.passes s old fits) false (has_room 4 (c.in-Ok.ensures.does s fits).after_fits c.in-Ok.ensures.serves.going.table c.in_default-full.ensures.room) c.in-Ok.ensures.asks.rules_are (c.in-Ok.ensures.performs s fits)
-          (performs_as (ap (λ (x : Content). (begins ++ writes c.args.number (content_at s.table c.args.number) x) ++ commits) (sym c.value_of-after.ensures)) (c.in-Err-carry_out_set.ensures.performs _ (c.in-Ok.ensures.does s fits).after_fits));
+          (performs_as (ap (λ (x : Content). reads c.args.number ++ begins ++ changes c.args.number (content_at s.table c.args.number) x ++ commits) (sym c.value_of-after.ensures)) (c.in-Err-carry_out_set.ensures.performs _ (c.in-Ok.ensures.does s fits).after_fits));
       serves = serves_then c.in-Ok.ensures.serves (serves_ended c.in-Err-carry_out_set.ensures.serves);
       ended = search rules;
     }
