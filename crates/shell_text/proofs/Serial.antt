@@ -31,6 +31,7 @@ refused_is_said (reply.Value value) = refl
 refused_is_said reply.Nothing = refl
 refused_is_said (reply.Committed count) = refl
 refused_is_said reply.Aborted = refl
+refused_is_said (reply.Back count) = refl
 refused_is_said reply.Checked = refl
 refused_is_said (reply.Items []) = refl
 refused_is_said (reply.Items (item ∷ items)) = refl
@@ -41,6 +42,7 @@ refused_is_said (reply.Stat stat) = refl
 refused_is_said reply.Bye = refl
 refused_is_said (reply.Busy session) = refl
 refused_is_said (reply.Full used owed cap) = refl
+refused_is_said (reply.PageFull page need) = refl
 refused_is_said (reply.Refused why) = refl
 
 commit_is_said : (r : Reply) → says_committed (reply_text r) ≡ is_committed r
@@ -49,6 +51,7 @@ commit_is_said (reply.Value value) = refl
 commit_is_said reply.Nothing = refl
 commit_is_said (reply.Committed count) = refl
 commit_is_said reply.Aborted = refl
+commit_is_said (reply.Back count) = refl
 commit_is_said reply.Checked = refl
 commit_is_said (reply.Items []) = refl
 commit_is_said (reply.Items (item ∷ items)) = refl
@@ -59,6 +62,7 @@ commit_is_said (reply.Stat stat) = refl
 commit_is_said reply.Bye = refl
 commit_is_said (reply.Busy session) = refl
 commit_is_said (reply.Full used owed cap) = refl
+commit_is_said (reply.PageFull page need) = refl
 commit_is_said (reply.Refused why) = refl
 
 -- Turns of the model.
