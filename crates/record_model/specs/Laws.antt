@@ -30,6 +30,7 @@ is_refused (reply.Value value) = false
 is_refused reply.Nothing = false
 is_refused (reply.Committed count) = false
 is_refused reply.Aborted = false
+is_refused (reply.Back count) = false
 is_refused reply.Checked = false
 is_refused (reply.Items items) = false
 is_refused (reply.Listing lines) = false
@@ -37,6 +38,7 @@ is_refused (reply.Stat counts) = false
 is_refused reply.Bye = false
 is_refused (reply.Busy session) = true
 is_refused (reply.Full used owed cap) = true
+is_refused (reply.PageFull page need) = true
 is_refused (reply.Refused why) = true
 
 -- whether a command was accepted is told by its reply

@@ -10,7 +10,7 @@ use Rattle.record_model.specs.declared.words.Why.TheVariants.{BadLine, BadSessio
 use Rattle.record_model.specs.declared.words.Item.{Item}
 use Rattle.record_model.specs.State.{Content, State, opened}
 use Rattle.record_model.specs.Run.{Line, Turn, turns, replies, acknowledged, asked_for, after_commits}
-use Rattle.record_model.specs.Serial.{lines_of, since_begin}
+use Rattle.record_model.specs.Serial.{lines_of, since_begin, opened_alone}
 use Rattle.record_model.specs.Touches.{touch, flush, run_touches}
 
 -- 512 records, none of which has a value
@@ -196,7 +196,7 @@ abbrev pub AnsweredAmongOthers : Type 0
 AnsweredAmongOthers = replies second_transaction ≡ second_answers
 
 abbrev pub AnsweredAlone : Type 0
-AnsweredAlone = replies (turns (opened (after_commits blank two_readers_run 1) 1 0 16)
+AnsweredAlone = replies (turns (opened_alone (after_commits blank two_readers_run 1) 1 16)
     (lines_of second_transaction) []) ≡ second_answers
 
 -- Three sessions, over a log of 16 blocks. One scans what the two others read and write, one is refused in between, and
@@ -241,7 +241,7 @@ reading = since_begin 0 (reverse (take 20 three_sessions_run))
 abbrev pub alone_after : ℕ → List Turn → List Reply
 alone_after count own =
     let table = after_commits blank three_sessions_run count in
-    replies (turns (opened table count 0 (4 * length own)) (lines_of own) [])
+    replies (turns (opened_alone table count (4 * length own)) (lines_of own) [])
 
 abbrev pub ScanningAlone : Type 0
 ScanningAlone =
