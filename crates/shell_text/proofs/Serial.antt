@@ -14,7 +14,7 @@ use Rattle.record_model.specs.declared.words.Reply.TheVariants as reply
 use Rattle.record_model.specs.State.{State, opened}
 use Rattle.record_model.specs.Step.{is_accepted}
 use Rattle.record_model.specs.Run.{Line, Turn, turn, replies, is_committed, commit_marks, commits_among, after_commits, turns}
-use Rattle.record_model.specs.Serial.{lines_of, is_session, is_begin_line, is_accepted_of, since_begin, committed_by, line_session, transaction, commits_before, table_before}
+use Rattle.record_model.specs.Serial.{lines_of, is_session, is_begin_line, is_accepted_of, since_begin, committed_by, line_session, transaction, commits_before, table_before, opened_alone}
 use Rattle.record_model.specs.Laws.{is_refused}
 use Rattle.record_model.proofs.RefusalLaws.{refusals_are_told}
 use Rattle.record_model.proofs.RunLaws.{IsRun, turns_are_run}
@@ -169,14 +169,14 @@ serial_is_told table commits made cap lines listings earlier later t e =
           ∙ ap (λ (l : List (List ℕ)). open_text commits ∷ l) (texts_of_are (earlier ++ t ∷ later) ∙ map-append (λ (u : Turn). reply_text u.reply) earlier (t ∷ later));
       commits = commit_is_said t.reply;
       alone = λ committed cap room.
-          let alone = opened (table_before table earlier later t) (commits + commits_before earlier later t) 0 cap in
+          let alone = opened_alone (table_before table earlier later t) (commits + commits_before earlier later t) cap in
           let room' : 4 * length own ≤ cap = subst (λ (n : ℕ). 4 * n ≤ cap) (ap length (sym said) ∙ length_is own) room in
           told_again alone own _ said (serial.alone (sym (commit_is_said t.reply) ∙ committed) cap room');
       so_far = λ n active cap room.
           let since = since_begin n (t ∷ reverse earlier) in
           let said = since_is_said n (t ∷ reverse earlier) (turns_are.0, turns_reverse earlier turns_are.1) in
           let count = commits_among (length earlier + 1) (commit_marks (earlier ++ t ∷ later)) in
-          let alone = opened (after_commits table (earlier ++ t ∷ later) count) (commits + count) 0 cap in
+          let alone = opened_alone (after_commits table (earlier ++ t ∷ later) count) (commits + count) cap in
           let room' : 4 * length since ≤ cap = subst (λ (n : ℕ). 4 * n ≤ cap) (ap length (sym said) ∙ length_is since) room in
           told_again alone since _ said (serial.so_far n active cap room');
       get = λ number line carried.
