@@ -1,5 +1,6 @@
 pub mod StepLaws
 pub mod RefusalLaws
+pub mod SessionLaws
 pub mod RunLaws
 pub mod SerialGets
 pub mod SerialLists

@@ -1,11 +1,12 @@
 -- What follows from the model, for those who build on it.
-use Rattle.std.specs.Prelude.{◌≡◌, ℕ, ◌+◌, ◌<◌, Bool, true, false, not, List, length, take, slice_get, Some, IsTrue}
+use Rattle.std.specs.Prelude.{◌≡◌, ℕ, ◌+◌, ◌<◌, ◌≤◌, ◌==◌, Bool, true, false, not, List, length, take, slice_get, slice_index_or}
+use Rattle.std.specs.Prelude.{Option, Some, None, IsTrue}
 use Rattle.std.specs.List.{list_any}
 use Rattle.record_model.specs.declared.words.Command.{Command}
 use Rattle.record_model.specs.declared.words.CacheLine.{CacheLine}
 use Rattle.record_model.specs.declared.words.Reply.{Reply}
 use Rattle.record_model.specs.declared.words.Reply.TheVariants as reply
-use Rattle.record_model.specs.State.{State}
+use Rattle.record_model.specs.State.{Session, State}
 use Rattle.record_model.specs.Step.{Outcome, step, is_accepted}
 use Rattle.record_model.specs.Run.{Line, Turn, turn as turn_of, line_step, turns, state_at, next_listing}
 use Rattle.record_model.specs.Run.{listings_after, is_quit, is_committed, commit_marks, commits_among, after_commits}
@@ -48,6 +49,21 @@ RefusalsAreTold = (s : State) (command : Command) (listing : List CacheLine) →
 
 abbrev pub SizesStay : Type 0
 SizesStay = (s : State) (line : Line) (listing : List CacheLine) → KeepsSizes s (line_step s line listing).after
+
+-- Of an active session: what stands it has written, no more writes stand than it has made, and its mark is among them.
+pub record IsSoundSession (session : Session) : Type 0 where
+  pub written : (number : ℕ) → list_any (λ write. write.0 == number) session.writes ≡ true →
+      list_any (λ wrote. wrote == number) session.wrote ≡ true
+  pub few : length session.writes ≤ length session.wrote
+  pub marked : session.mark ≤ length session.writes
+
+-- That holds where a run begins, since no session is active there, and each line keeps it.
+abbrev pub AreSound : List (Option Session) → Type 0
+AreSound sessions = (n : ℕ) (session : Session) → slice_index_or sessions n None ≡ Some session → IsSoundSession session
+
+abbrev pub SessionsStaySound : Type 0
+SessionsStaySound = (s : State) (line : Line) (listing : List CacheLine) →
+    AreSound s.sessions → AreSound (line_step s line listing).after.sessions
 
 -- where no line quits, each line has its turn
 abbrev pub EachLineHasATurn : Type 0
