@@ -2,7 +2,7 @@ use Rattle.site.specs.declared.outside.Dev.TheVariants.{Log}
 use Rattle.site.specs.declared.outside.Stop.TheVariants.{Foreign}
 use Rattle.redo_laws.specs.MachineSteps.{one_change, one_touch}
 use Rattle.engine.proofs.Asking.{has_group, store_has_group, change_ok}
-use Rattle.std.proofs.Common.{◌≡◌, ◌<◌, ◌≤◌, ◌+◌, ◌*◌, ◌++◌, ◌∷◌, [], ◌∙◌, true≢false, sym, arith, ◌/◌, ℕ, rules, ap, refl, subst}
+use Rattle.std.proofs.Common.{List, length, ◌%◌, ◌≡◌, ◌<◌, ◌≤◌, ◌+◌, ◌*◌, ◌++◌, ◌∷◌, [], ◌∙◌, true≢false, sym, arith, ◌/◌, ℕ, rules, ap, refl, subst}
 use Rattle.site.specs.declared.geometry.Geometry.{Geometry}
 use Rattle.site.specs.State.{State as Site}
 use Rattle.site.proofs.Laws.{stays_honest}
@@ -10,24 +10,29 @@ use Rattle.record_model.specs.State.{content_at, Content, State}
 use Rattle.log_records.specs.Log.{Entry}
 use Rattle.log_store.specs.Representation.{end_of}
 use Rattle.redo_laws.specs.Holding.{blocks_to}
+use Rattle.buffer_pool.specs.Frames.{front_of}
+use Rattle.page_store.specs.declared.store.PageStore.{PageStore}
 use Rattle.redo_undo.specs.declared.store.TransactionStore.{TransactionStore}
-use Rattle.redo_undo.specs.Stores.{MayGrow, Represents, shown_in, sizes_of, IsInFront}
+use Rattle.redo_undo.specs.Stores.{MayGrow, Represents, shown_in, sizes_of}
 use Rattle.redo_undo.specs.Fitting.{FitsFront}
+use Rattle.redo_undo.specs.StoreCalls.{Keeps}
 use Rattle.redo_undo.proofs.StoreCalling.{works_then, works_answered, keeps_both, keeps_before, keeps_answered}
 use Rattle.engine.specs.declared.engine.Engine.{Engine}
+use Rattle.engine.specs.Leaves.{LeavesTable}
 use Rattle.engine.specs.Representation.{Matches}
 use Rattle.engine.proofs.Settings.{begin_at, update_at, may_begin, may_update, one_write}
+use Rattle.engine.proofs.Calling.{works_sooner}
 use Rattle.engine.proofs.Writes.{touched_fits}
 use Rattle.redo_laws.proofs.Asking.{asks_fails, asks_then, asks_stopped}
-use Rattle.std.specs.Prelude.{Err}
+use Rattle.std.specs.Prelude.{Ok, Err}
 use Rattle.redo_laws.proofs.AskingUndo.{change_stopped, change_made}
 use Rattle.page_store.proofs.StagingLaws.{stages_err, stages_ok}
 use Rattle.engine.proofs.engine.Engine.log_set.Goals.{In-Ok, In-Ok-begin}
 use Rattle.engine.proofs.engine.Engine.log_set.Given.{Over}
 use Rattle.engine.proofs.engine.Engine.log_set.Goals as goal
-use Rattle.ring_machine.specs.Commands.{begins, changes}
+use Rattle.ring_machine.specs.Commands.{begins, changes, reads}
 use Rattle.ring_machine.proofs.Performing.{performs_as, performs_answered, performs_refused, performs_stopped}
-use Rattle.redo_undo.specs.Mirroring.{updates}
+use Rattle.redo_undo.specs.Mirroring.{PerformsStore, updates}
 use Rattle.engine.proofs.Performing.{store_then, set_there}
 
 -- The page is in front.
@@ -69,7 +74,7 @@ module _ (g : Over) (c : In-Ok g) where
 -- And the transaction has begun.
 module _ (g : Over) (c : In-Ok-begin g) (s : State) (fits : Matches c.args.self.now (g.S.Site.state c.args.site.now) s) where
   abbrev touch : In-Ok g
-  touch = c.In-Ok
+  touch = c.before.before.before.before.before.before.before
 
   abbrev log : List Entry
   log = fits.records ++ begin_at c.in-Ok-begin.txn ∷ []
@@ -77,7 +82,7 @@ module _ (g : Over) (c : In-Ok-begin g) (s : State) (fits : Matches c.args.self.
   holds : Represents c.begin.new.self (g.S.Site.state c.begin.new.site) fits.newest log s.table s.commits
   holds = c.in-Ok-begin.ensures.holds fits.newest fits.records s.table s.commits (held g touch s fits) (begin_may g touch s fits c.in-Ok-begin.txn c.in-Ok-begin.ensures.rises.0)
 
-  two : Site
+  abbrev two : Site
   two = g.S.Site.state c.begin.new.site
 
   may : (lsn : ℕ) → MayGrow c.begin.new.self two fits.newest log (update_at c.in-Ok-begin.txn lsn c.args.number (shown_in c.begin.new.self two log c.args.number) c.args.after.now)
@@ -86,16 +91,22 @@ module _ (g : Over) (c : In-Ok-begin g) (s : State) (fits : Matches c.args.self.
   there_before : content_at s.table c.args.number ≡ shown_in c.begin.new.self two log c.args.number
   there_before = set_there (mid g touch) (touched g touch) s c.args.number (fits_mid g touch s fits) c.requires.going.table (there g touch) c.requires.may.free c.in-Ok-begin.txn c.in-Ok-begin.ensures.rises.0 c.begin.new.self two c.begin.ensures.works.sizes holds
 
-  kept_begun : _
+  kept_begun : Keeps (Ok c.in-Ok-begin.txn) c.args.self.now.store c.begin.new.self (before g touch) two (LeavesTable (sizes_of c.args.self.now.store) s.table s.commits (before g touch).told) 1 0
   kept_begun = keeps_both fits.honest c.in-Ok.ensures.works (c.in-Ok.ensures.keeps fits.newest fits.records s.table s.commits fits.holds) (c.in-Ok-begin.ensures.keeps fits.newest fits.records s.table s.commits (held g touch s fits))
 
-  performs_begun : _
+  performs_begun : PerformsStore (Ok c.in-Ok-begin.txn) (reads c.args.number ++ begins) c.args.self.now.store c.begin.new.self (before g touch) two
   performs_begun = store_then c.in-Ok.ensures.asks.rules_are (c.in-Ok.ensures.performs fits.newest fits.records s.table s.commits fits.holds) (c.in-Ok-begin.ensures.performs fits.newest fits.records s.table s.commits (held g touch s fits))
 
 -- Its Update may be logged.
 
 pub update-requires-clause-front : goal.update-requires-clause-front
-update-requires-clause-front g c = subst (λ (p : PageStore). IsInFront (record c.touch.new.self { pages = p }) c.args.number) (sym c.begin.ensures.pages) c.in-Ok.ensures.front
+update-requires-clause-front g c =
+    let same = sym c.begin.ensures.pages in
+    let front = c.in-Ok.ensures.front in
+    record {
+      there = subst (λ (p : PageStore). 0 < length p.pool.frames) same front.there;
+      page = subst (λ (p : PageStore). (front_of p.pool.frames).page ≡ c.args.number / 32) same front.page;
+    }
 
 pub update-requires-clause-room : goal.update-requires-clause-room
 update-requires-clause-room g c = subst (λ (p : PageStore). FitsFront p (c.args.number % 32) c.args.after.now) (sym c.begin.ensures.pages) (c.fits.ensures.room.0 c.if-not-fits.false)
@@ -107,7 +118,7 @@ returns-in-Ok-update g c =
     record {
       logged = λ s fits.
           let m = may g at s fits c.in-Ok-update.field-0 in
-          one_write (mid g c.In-Ok) (touched g c.In-Ok) s c.args.number (fits_mid g c.In-Ok s fits) c.requires.going.table (there g c.In-Ok) (let made = c.touch.ensures.made in omega (arith, made, c.requires.may.room)) c.in-Ok.ensures.works.going.blocks (cap g c.In-Ok) c.requires.may.free txn c.in-Ok-begin.ensures.rises.0
+          one_write (mid g (touch g at s fits)) (touched g (touch g at s fits)) s c.args.number (fits_mid g (touch g at s fits) s fits) c.requires.going.table (there g (touch g at s fits)) (let made = c.touch.ensures.made in omega (arith, made, c.requires.may.room)) c.in-Ok.ensures.works.going.blocks (cap g (touch g at s fits)) c.requires.may.free txn c.in-Ok-begin.ensures.rises.0
           c.update.new.self (g.S.Site.state c.update.new.site) c.in-Ok-update.field-0 (shown_in c.begin.new.self (two g at s fits) (log g at s fits) c.args.number) c.args.after.now
           (c.in-Ok-update.ensures.holds fits.newest (log g at s fits) s.table s.commits (holds g at s fits) m);
       keeps = λ s fits.
@@ -161,7 +172,7 @@ returns-then-not-fits-clause-asks g c =
 -- at its Begin,
 
 pub returns-in-Err-begin-clause-works : goal.returns-in-Err-begin-clause-works
-returns-in-Err-begin-clause-works g c = works_then c.in-Ok.ensures.works c.in-Err-begin.ensures.works
+returns-in-Err-begin-clause-works g c = works_sooner 2 (works_then c.in-Ok.ensures.works c.in-Err-begin.ensures.works)
 
 pub returns-in-Err-begin-clause-keeps : goal.returns-in-Err-begin-clause-keeps
 returns-in-Err-begin-clause-keeps g c s fits =
