@@ -1,15 +1,17 @@
 -- A session's mark, and its way back.
 use Rattle.checkpoint.specs.declared.master.Master.{Master}
-use Rattle.std.proofs.Common.{◌≡◌, ◌≢◌, ℕ, ◌+◌, ◌-◌, ◌<◌, ◌≤◌, List, length, take, Option, None, Some, ⊎_elim, refl, sym, ap, subst, ◌∙◌, arith, get_or-set_same, get_or-set_other, length-set, IsTrue}
-use Rattle.std.specs.Prelude.{filter_map, min, option_map, slice_index_or, slice_set}
+use Rattle.std.proofs.Common.{◌≡◌, ◌≢◌, ℕ, ◌+◌, ◌-◌, ◌<◌, ◌≤◌, List, length, drop, take, Option, None, Some, ⊎_elim, refl, sym, ap, subst, ◌∙◌, arith, get_or-set_same, get_or-set_other, length-set, IsTrue}
+use Rattle.std.specs.Prelude.{filter_map, min, option_map, slice_index_or, slice_set, unwrap_or}
 use Rattle.std.proofs.lemmas.List.{length-drop, length-take-le}
 use Rattle.std.proofs.lemmas.Option.{same_Some}
 use Rattle.std.proofs.lemmas.Bool.{cases_eq}
 use Rattle.site.specs.State.{State as Site}
 use Rattle.site.specs.declared.geometry.Geometry.{Geometry}
-use Rattle.record_model.specs.State.{Session, State, session_at, wrote_of, reads_of}
-use Rattle.record_model.specs.Step.{dropped, effect, going_back, having_marked, with_session}
+use Rattle.record_model.specs.State.{Session, State, session_at, writes_of, wrote_of, reads_of}
+use Rattle.record_model.specs.Step.{dropped, effect, going_back, having_marked, making, with_session}
 use Rattle.record_model.specs.declared.words.Command.TheVariants as command
+use Rattle.record_model.specs.Touches.{record_touches, takes_back_touches}
+use Rattle.ring_machine.specs.Commands.{goes_back, record_work}
 use Rattle.log_records.specs.Log.{Entry, number_of}
 use Rattle.log_records.specs.Unfinished.{owed}
 use Rattle.log_laws.specs.Follow.{IsActive}
@@ -24,6 +26,7 @@ use Rattle.redo_undo.specs.Stores.{MayWork}
 use Rattle.redo_undo.specs.StoreRollback.{ConcernsOnly, GoesBack}
 use Rattle.engine.specs.declared.engine.Engine.{Engine}
 use Rattle.engine.specs.Invariant.{Invariant, sizes_of}
+use Rattle.engine.specs.LogReads.{back_reads}
 use Rattle.engine.specs.Representation.{IsUnderWay, LocksAre, Matches, SessionIs, SessionsAre, updated, with_mark}
 use Rattle.txn_table.proofs.Owing.{entry_is}
 use Rattle.engine.proofs.Aborts.{others_go_on}
@@ -155,3 +158,32 @@ still_going {old = old} {new = new} n count entry entry' going at changes table 
         (entry, ap (entry_of old.active) same ∙ at, (sym begin ∙ ap (λ (x : Active). x.begin) is, sym born ∙ ap (λ (x : Active). x.born) is)))
         (λ differ. (a, sym (changes.others i differ) ∙ there, (refl, refl)))
         (cases_eq i n)
+
+-- A way back to the mark is one to as many writes.
+module _ (s : State) (n m : ℕ) (standing : Option ℕ) (session : Session) (k : ℕ) (own : n ≡ m) (is : session_at s n ≡ Some session) (same : unwrap_or standing session.mark ≡ k) where
+  there : session_at s m ≡ Some session
+  there = ap (session_at s) (sym own) ∙ is
+
+  dropped_as : dropped standing (session_at s n) ≡ dropped (Some k) (session_at s m)
+  dropped_as = ap (dropped standing) is ∙ ap (λ (j : ℕ). drop j session.writes) same ∙ sym (ap (dropped (Some k)) there)
+
+  going_as : option_map (going_back standing) (session_at s n) ≡ option_map (going_back (Some k)) (session_at s m)
+  going_as =
+      ap (option_map (going_back standing)) is
+      ∙ ap (λ (j : ℕ). Some (record session { writes = take j session.writes; mark = min session.mark j })) same
+      ∙ sym (ap (option_map (going_back (Some k))) there)
+
+  pub effect_as : effect s (command.Back n standing) ≡ effect s (command.Back m (Some k))
+  effect_as = λ i. making (length (dropped_as i)) (with_session s (own i) (going_as i))
+
+  pub touches_as : record_touches s (command.Back n standing) ≡ record_touches s (command.Back m (Some k))
+  touches_as = ap takes_back_touches dropped_as
+
+  pub work_as : record_work s (command.Back n standing) ≡ record_work s (command.Back m (Some k))
+  work_as = λ i. goes_back s.table (writes_of (going_as i)) (dropped_as i)
+
+  pub reads_as : back_reads (Some k) (session_at s m) ≡ back_reads standing (session_at s n)
+  reads_as = ap (back_reads (Some k)) there ∙ ap (λ (j : ℕ). length (drop j session.writes) + (length session.wrote - length session.writes)) (sym same) ∙ sym (ap (back_reads standing) is)
+
+  pub count_as : length (dropped standing (session_at s n)) ≡ length session.writes - k
+  count_as = ap length (dropped_as ∙ ap (dropped (Some k)) there) ∙ length-drop k session.writes

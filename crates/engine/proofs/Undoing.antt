@@ -2,9 +2,8 @@
 use Rattle.std.proofs.Common.{◌≡◌, ◌+◌, ◌-◌, ℕ, find, List, [], ◌∷◌, ◌++◌, flat_map, filter_map, reverse, length, take, drop, Option, Some, None, option_map, unwrap_or, refl, sym, ap, subst, ◌∙◌, arith, append_assoc, append-nil, eq-eqb}
 use Rattle.std.specs.Prelude.{⊤}
 use Rattle.std.specs.List.{AllByRecursion, cons_option}
-use Rattle.std.proofs.lemmas.List.{length-take-le, reverse-append, take-append-drop}
+use Rattle.std.proofs.lemmas.List.{reverse-append, take-append-drop}
 use Rattle.std.proofs.lemmas.List.Elements.{filter_map-append}
-use Rattle.std.proofs.Math.Seq.{drop-append_seam}
 use Rattle.site.specs.State.{State as Site}
 use Rattle.record_model.specs.State.{Content, State, Write, content_at, session_at, writes_of}
 use Rattle.log_records.specs.Log.{Entry, Version, is_number, is_on, number_of, before_of, after_of, table_of, value_of}
@@ -13,7 +12,7 @@ use Rattle.log_records.specs.Sound.{IsInTable}
 use Rattle.log_laws.specs.Follow.{write_of}
 use Rattle.log_laws.proofs.Chains.{RunsFrom}
 use Rattle.log_laws.proofs.Losers.{left_keep}
-use Rattle.log_laws.proofs.Standing.{last_standing, left_are_updates, standing_count, writes_dropped, writes_more}
+use Rattle.log_laws.proofs.Standing.{last_standing, left_are_updates, standing_count, standing_taken, writes_dropped, writes_more}
 use Rattle.log_laws.proofs.Standing as standing
 use Rattle.log_laws.proofs.StandingTables.{left_begin_there}
 use Rattle.log_laws.proofs.Tables.{content_of_table}
@@ -124,10 +123,7 @@ module _ (engine : Engine) (site : Site) (s : State) (entry : Active) (fits : Ma
           let less : stays ≡ length left - count = omega (arith, all, many) in
           ap (λ (n : ℕ). take n writes) less ∙ ap (take (length left - count)) same ∙ sym (writes_dropped count left (left_are_updates fits.records entry.begin))
 
-      joined : writes ≡ standing.writes_of (drop count left) ++ standing.writes_of (take count left)
-      joined = same ∙ ap standing.writes_of (sym (take-append-drop count left)) ∙ writes_join (take count left) (drop count left)
-
       last : drop stays writes ≡ standing.writes_of (take count left)
       last =
-          let length_is : stays ≡ length (standing.writes_of (drop count left)) = sym (length-take-le stays writes (omega (arith, all))) ∙ ap length first in
-          ap (drop stays) joined ∙ ap (λ (n : ℕ). drop n (standing.writes_of (drop count left) ++ standing.writes_of (take count left))) length_is ∙ drop-append_seam (standing.writes_of (drop count left)) (standing.writes_of (take count left))
+          let less : stays ≡ length writes - count = omega (arith, all) in
+          ap (λ (n : ℕ). drop n writes) less ∙ sym (standing_taken fits.records entry.begin count writes same (omega (arith, all)))
