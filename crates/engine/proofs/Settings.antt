@@ -134,7 +134,7 @@ module _ (engine : Engine) (old : Site) (s : State) (number : ℕ) (fits : Match
       record {
         log = log ++ e ∷ [];
         fresh = fresh;
-        concerns = concerns_more fits.newest txn fits.records log e refl (concerns_more fits.newest txn fits.records fits.records (begin_at txn) refl (record { under_way = λ t last writes differ active. active; losers = λ t differ. refl; left = λ t differ. refl }));
+        concerns = concerns_more fits.newest txn fits.records log e refl (concerns_more fits.newest txn fits.records fits.records (begin_at txn) refl (record { under_way = λ t last writes differ active. active; losers = λ t differ. refl; left = λ t differ. refl; entries = λ t differ. refl }));
         holds = holds;
         last = lsn;
         active = subst (λ (n : ℕ). IsActive (master_of fits.newest) (log ++ e ∷ []) txn lsn ((n, after) ∷ [])) place (active_writes (master_of fits.newest) log lsn txn txn (number / 32) (number % 32) [] before after begun
