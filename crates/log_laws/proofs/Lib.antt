@@ -9,6 +9,7 @@ pub mod Seals
 pub mod Commits
 pub mod Appends
 pub mod Owing
+pub mod Rooms
 pub mod PendingCounts
 pub mod Shown
 pub mod Orderly
