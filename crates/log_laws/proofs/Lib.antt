@@ -15,6 +15,7 @@ pub mod Shown
 pub mod Orderly
 pub mod Tails
 pub mod Losers
+pub mod Lengths
 pub mod Rows
 pub mod Versions
 pub mod Masters

@@ -119,12 +119,13 @@ lives log t loser = by (is_closed log t) ((and_parts (list_any (is_of t) log) (n
 
 pub within_is_room : (log : List Entry) (pages : List Version) (number k : ℕ) → IsWithin log pages number k → open_length log pages number ≤ k
 within_is_room log pages number k within =
-    longest_within k (shown log pages number ∷ put_back log number)
-    (within.shows,
-    all_map (λ c. length_of c ≤ k) (λ (u : Entry). before_of u.rec) (filter (is_on number) (flat_map (left_open log) (losers log)))
-    (all_kept (λ u. length_of (before_of u.rec) ≤ k) (is_on number) (flat_map (left_open log) (losers log))
-    (all_flat (IsNoLonger number k) (left_open log) (losers log)
-    (all_weaker (λ t. IsTrue (is_loser log t)) (λ t. AllByRecursion (IsNoLonger number k) (left_open log t)) (λ t loser. within.left t (lives log t loser)) (losers log) (are_losers log)))))
+    longest_within k (shown log pages number ∷ put_back log number) (
+      within.shows,
+      all_map (λ c. length_of c ≤ k) (λ (u : Entry). before_of u.rec) (filter (is_on number) (flat_map (left_open log) (losers log)))
+          (all_kept (λ u. length_of (before_of u.rec) ≤ k) (is_on number) (flat_map (left_open log) (losers log))
+          (all_flat (IsNoLonger number k) (left_open log) (losers log)
+          (all_weaker (λ t. IsTrue (is_loser log t)) (λ t. AllByRecursion (IsNoLonger number k) (left_open log t)) (λ t loser. within.left t (lives log t loser)) (losers log) (are_losers log)))),
+    )
 
 none_of : (log : List Entry) (t : ℕ) → list_any (is_of t) log ≡ false → entries_of t log ≡ []
 none_of [] t none = refl
