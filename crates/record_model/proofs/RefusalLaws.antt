@@ -1,16 +1,16 @@
 -- A reply tells whether the command was carried out.
-use Rattle.std.proofs.Common.{arith, ◌≡◌, ℕ, ◌+◌, ◌-◌, Bool, true, false, List, [], ◌∷◌, Option, Some, None, refl, ap, sym}
-use Rattle.std.specs.Prelude.{not, ◌&&◌, is_none, option_map, map}
+use Rattle.std.proofs.Common.{◌≡◌, ℕ, ◌+◌, ◌-◌, Bool, true, false, List, [], ◌∷◌, Option, Some, None, refl, ap, sym}
+use Rattle.std.specs.Prelude.{not, ◌&&◌, is_none, option_map, map, if◌then◌else◌}
 use Rattle.std.specs.List.{AllByRecursion, range_with_len}
 use Rattle.record_model.specs.declared.words.Command.{Command}
-use Rattle.record_model.specs.declared.words.Command.TheVariants.{Begin, Read, Write, Erase, Scan, Commit, Abort, Get, Set}
+use Rattle.record_model.specs.declared.words.Command.TheVariants.{Begin, Read, Write, Erase, Scan, Commit, Abort, Get, Set, Mark, Back}
 use Rattle.record_model.specs.declared.words.CacheLine.{CacheLine}
 use Rattle.record_model.specs.declared.words.Why.{Why}
-use Rattle.record_model.specs.declared.words.Why.TheVariants.{BadSession, NoRecord, TooLong}
+use Rattle.record_model.specs.declared.words.Why.TheVariants.{BadSession, NoRecord, TooLong, BadMark}
 use Rattle.record_model.specs.declared.words.Reply.{Reply}
 use Rattle.record_model.specs.declared.words.Reply.TheVariants as reply
 use Rattle.record_model.specs.State.{Content, State, seen, content_at, busy_read, busy_write}
-use Rattle.record_model.specs.Step.{outcome, lacks_room, refusal, first_refusal, refuse_if, wants_active, wants_record, wants_short, may_read, may_write, ready, answer, found}
+use Rattle.record_model.specs.Step.{outcome, carried_through, full, fills_page, lacks_room, refusal, first_refusal, refuse_if, wants_active, wants_record, wants_short, wants_standing, may_read, may_write, ready, answer, found}
 use Rattle.record_model.specs.Laws.{is_refused, RefusalsAreTold}
 
 -- a test's reply is a refusal
@@ -49,6 +49,9 @@ refusals s (Scan n number count) = first_of (wants_active s n ∷ wants_record s
     (refused_if _ BadSession, (refused_if _ NoRecord, all_busy s (Some n) (range_with_len number count)))
 refusals s (Commit n) = refused_if _ BadSession
 refusals s (Abort n) = refused_if _ BadSession
+refusals s (Mark n) = refused_if _ BadSession
+refusals s (Back n None) = first_of (wants_active s n ∷ wants_standing s n None ∷ []) (refused_if _ BadSession, (tt, tt))
+refusals s (Back n (Some standing)) = first_of (wants_active s n ∷ wants_standing s n (Some standing) ∷ []) (refused_if _ BadSession, (refused_if _ BadMark, tt))
 refusals s (Get number) = first_of (wants_record s number ∷ may_read s None number ∷ []) (refused_if _ NoRecord, (busy_with (busy_read s None number), tt))
 refusals s (Set number value) = first_of (wants_record s number ∷ wants_short value ∷ may_write s None number ∷ []) (refused_if _ NoRecord, (refused_if _ TooLong, (busy_with (busy_write s None number), tt)))
 refusals s _ = tt
@@ -63,11 +66,30 @@ answers s (Read n number) listing = found_is_none (seen s n number)
 answers s (Get number) listing = found_is_none (content_at s.table number)
 answers s _ listing = refl
 
+page_is_full : (test : Bool) (page need : ℕ) → IsRefusal (refuse_if test (reply.PageFull page need))
+unfolding IsRefusal
+page_is_full true page need = refl
+page_is_full false page need = tt
+
+page_refusals : (s : State) (command : Command) → IsRefusal (fills_page s command)
+unfolding IsRefusal
+page_refusals s (Write n number value) = page_is_full _ _ _
+page_refusals s (Set number value) = page_is_full _ _ _
+page_refusals s _ = tt
+
+let_through : (s : State) (command : Command) (listing : List CacheLine) (lacks : Bool) (page : Option Reply) → IsRefusal page →
+    (not lacks && is_none page) ≡ not (is_refused (if lacks then record { after = s; reply = full s } else carried_through s command listing page).reply)
+unfolding IsRefusal
+let_through s command listing true page h = refl
+let_through s command listing false (Some refused) h = ap not (sym h)
+let_through s command listing false None h = ap not (sym (answers s command listing))
+
 of_tests : (s : State) (command : Command) (listing : List CacheLine) (r : Option Reply) → IsRefusal r →
-    (is_none r && not (lacks_room (ready s command) command)) ≡ not (is_refused (outcome s command listing r).reply)
+    ((is_none r && not (lacks_room (ready s command) command)) && is_none (fills_page (ready s command) command)) ≡ not (is_refused (outcome s command listing r).reply)
 unfolding IsRefusal
 of_tests s command listing (Some refused) h = ap not (sym h)
-of_tests s command listing None h = grind (arith, answers)
+of_tests s command listing None h =
+    let_through (ready s command) command listing (lacks_room (ready s command) command) (fills_page (ready s command) command) (page_refusals (ready s command) command)
 
 pub refusals_are_told : RefusalsAreTold
 refusals_are_told s command listing = of_tests s command listing (refusal s command) (refusals s command)

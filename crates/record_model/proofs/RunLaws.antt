@@ -1,6 +1,6 @@
 -- What follows for a whole run.
 use Rattle.std.proofs.lemmas.Grind.{common_steps}
-use Rattle.std.proofs.Common.{◌≡◌, ℕ, zero, suc, ◌+◌, ◌<◌, Bool, true, false, cond, List, [], ◌∷◌, ◌++◌, length, map, take, Some, refl, ap, sym, ◌∙◌, arith, add-one}
+use Rattle.std.proofs.Common.{◌≡◌, ℕ, zero, suc, ◌+◌, ◌<◌, Bool, true, false, cond, List, [], ◌∷◌, ◌++◌, length, map, take, Some, refl, ap, sym, subst, ◌∙◌, arith, add-one}
 use Rattle.std.specs.Prelude.{count_by, filter, slice_index_or, slice_get}
 use Rattle.std.specs.List.{list_any}
 use Rattle.std.proofs.lemmas.List.Recursion.{is_count_by}
@@ -103,7 +103,7 @@ tables_cons false table default t run n = refl
 -- what a turn of a run does to the count and to the table
 turn_counts : (s : State) (t : Turn) (listing : List CacheLine) → t ≡ turn s t.line listing →
     IsCountedIn s (record { after = t.after; reply = t.reply })
-turn_counts s t listing is = grind (arith, commits_once)
+turn_counts s t listing is = subst (λ (u : Turn). IsCountedIn s (record { after = u.after; reply = u.reply })) (sym is) (commits_once s t.line listing)
 
 tables_at : (s : State) (run : List Turn) (i : ℕ) (table default : List Content) → IsRun s run → table ≡ s.table →
     slice_index_or (table ∷ committed_tables run) (commits_among i (commit_marks run)) default ≡ (state_at run s i).table

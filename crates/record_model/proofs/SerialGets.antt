@@ -19,7 +19,8 @@ turn_of_run s (u ∷ earlier) later t is = turn_of_run u.after earlier later t i
 
 get_answers : (s : State) (number : ℕ) (listing : List CacheLine) → IsTrue (is_accepted s (Get number)) →
     (step s (Get number) listing).reply ≡ found (content_at s.table number)
-get_answers s number listing h = ap (λ r. (outcome s (Get number) listing r).reply) (none_if_is_none (refusal s (Get number)) (and_parts _ _ h).0)
+get_answers s number listing h =
+    ap (λ r. (outcome s (Get number) listing r).reply) (none_if_is_none (refusal s (Get number)) (and_parts _ _ (and_parts _ _ h).0).0)
 
 pub gets_are_serial : GetsAreSerial
 gets_are_serial table commits made cap lines listings earlier later t e number line accepted =

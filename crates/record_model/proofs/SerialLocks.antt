@@ -6,12 +6,12 @@ use Rattle.std.specs.List.{list_any, range_with_len, AllByRecursion}
 use Rattle.std.proofs.lemmas.Bool.{or_left, cases_lt, or_cases, eqb-true, ne_eqb}
 use Rattle.std_lemmas.proofs.AllOf.{all_member}
 use Rattle.record_model.specs.declared.words.Command.{Command}
-use Rattle.record_model.specs.declared.words.Command.TheVariants.{Begin, Read, Write, Erase, Scan, Commit, Abort}
+use Rattle.record_model.specs.declared.words.Command.TheVariants.{Begin, Read, Write, Erase, Scan, Commit, Abort, Mark, Back}
 use Rattle.record_model.specs.declared.words.Reply.{Reply}
 use Rattle.record_model.specs.declared.words.Reply.TheVariants as reply
-use Rattle.record_model.specs.State.{Session, State, writes_of, reads_of, is_other, busy_read, busy_write}
+use Rattle.record_model.specs.State.{Session, State, wrote_of, reads_of, is_other, busy_read, busy_write}
 use Rattle.record_model.specs.State as state
-use Rattle.record_model.specs.Step.{refusal, first_refusal, wants_active, wants_record, wants_short, may_read, may_write, ready, effect, having_read, having_written}
+use Rattle.record_model.specs.Step.{refusal, first_refusal, wants_active, wants_record, wants_short, may_read, may_write, ready, effect, having_read, having_written, having_marked, going_back}
 use Rattle.record_model.proofs.SerialLists.{not_both, get_set_same, get_set_other, none_passes, each_of_map}
 
 abbrev pub place : List (Option Session) → ℕ → Option Session
@@ -19,7 +19,7 @@ place sessions n = slice_index_or sessions n None
 
 -- whether a session has written a record, and whether it has written or read it
 abbrev pub wrote : Option Session → ℕ → Bool
-wrote o r = list_any (λ write. write.0 == r) (writes_of o)
+wrote o r = list_any (λ number. number == r) (wrote_of o)
 
 abbrev pub touched : Option Session → ℕ → Bool
 touched o r = wrote o r || list_any (λ read. read == r) (reads_of o)
@@ -72,6 +72,18 @@ pub writes_touched : (write : state.Write) (o : Option Session) (r : ℕ) → to
     (touched o r ≡ true) ⊎ (write.0 ≡ r)
 writes_touched write None r h = absurd cc
 writes_touched write (Some session) r h = grind (arith, common_steps)
+
+-- What a session has that is renewed, and has touched what it had.
+same_wrote : (f : Session → Session) → ((session : Session) → (f session).wrote ≡ session.wrote) → (o : Option Session) (r : ℕ) → wrote (option_map f o) r ≡ wrote o r
+same_wrote f keeps None r = refl
+same_wrote f keeps (Some session) r = ap (list_any (λ number. number == r)) (keeps session)
+
+same_touched : (f : Session → Session) → ((session : Session) → (f session).wrote ≡ session.wrote) → ((session : Session) → (f session).reads ≡ session.reads) →
+    (o : Option Session) (r : ℕ) → touched (option_map f o) r ≡ touched o r
+same_touched f keeps reads None r = refl
+same_touched f keeps reads (Some session) r =
+    ap (λ (b : Bool). b || list_any (λ read. read == r) (f session).reads) (same_wrote f keeps (Some session) r)
+    ∙ ap (λ (l : List ℕ). wrote (Some session) r || list_any (λ read. read == r) l) (reads session)
 
 -- What the tests say.
 
@@ -130,6 +142,11 @@ writing s n write long apart free = apart_set s.sessions n _ apart
       | inr new ↦ inr (subst (λ (q : ℕ). (m : ℕ) → (m ≡ n → ⊥) → wrote (place s.sessions m) q ≡ true → ⊥) new (λ m d w. unwritten s n write.0 long free m d (wrote_touched (place s.sessions m) write.0 w)))
     ])
 
+renewing : (s : State) (n : ℕ) (f : Session → Session) → ((session : Session) → (f session).wrote ≡ session.wrote) → ((session : Session) → (f session).reads ≡ session.reads) →
+    Apart s.sessions → Apart (slice_set s.sessions n (option_map f (place s.sessions n)))
+renewing s n f keeps reads apart = apart_set s.sessions n _ apart
+    (λ r h. inl (sym (same_wrote f keeps (place s.sessions n) r) ∙ h)) (λ r h. inl (sym (same_touched f keeps reads (place s.sessions n) r) ∙ h))
+
 with_none : (s : State) (n : ℕ) (o : Option Session) → ((r : ℕ) → wrote o r ≡ false) → ((r : ℕ) → touched o r ≡ false) → Apart s.sessions → Apart (slice_set s.sessions n o)
 with_none s n o writes touches apart = apart_set s.sessions n o apart (λ r h. not_both _ h (writes r)) (λ r h. not_both _ h (touches r))
 
@@ -148,4 +165,6 @@ locks_kept s (Scan n number count) long h apart = let tests = all_pass (wants_ac
     reading s n (range_with_len number count) long apart (λ r e. all_member (λ q. may_read s (Some n) q ≡ None) (range_with_len number count) r (each_of_map (may_read s (Some n)) (λ a. a ≡ None) (range_with_len number count) tests.1.1) e)
 locks_kept s (Commit n) long h apart = with_none s n None (λ r. refl) (λ r. refl) apart
 locks_kept s (Abort n) long h apart = with_none s n None (λ r. refl) (λ r. refl) apart
+locks_kept s (Mark n) long h apart = renewing s n having_marked (λ session. refl) (λ session. refl) apart
+locks_kept s (Back n standing) long h apart = renewing s n (going_back standing) (λ session. refl) (λ session. refl) apart
 locks_kept s _ long h apart = apart

@@ -5,26 +5,28 @@ use Rattle.std.specs.Prelude.{◌==◌, ◌&&◌, ◌||◌, slice_set, map, reve
 use Rattle.std.specs.List.{list_any, range_with_len}
 use mathlib.Core.List.{reverse_aux}
 use Rattle.record_model.specs.declared.words.Command.{Command}
-use Rattle.record_model.specs.declared.words.Command.TheVariants.{Begin, Read, Write, Erase, Scan, Commit, Abort, Get, Set}
+use Rattle.record_model.specs.declared.words.Command.TheVariants.{Begin, Read, Write, Erase, Scan, Commit, Abort, Get, Set, Mark, Back}
 use Rattle.record_model.specs.declared.words.CacheLine.{CacheLine}
 use Rattle.record_model.specs.declared.words.Reply.{Reply}
 use Rattle.record_model.specs.declared.words.Reply.TheVariants as reply
 use Rattle.record_model.specs.State.{Content, Session, State, opened, content_at, table_with, writes_of, seen}
 use Rattle.record_model.specs.State as state
-use Rattle.record_model.specs.Step.{Outcome, step, outcome, refusal, refuse_if, wants_active, wants_record, wants_short, may_read, may_write, ready, lacks_room, is_accepted, effect, answer, having_read, having_written}
+use Rattle.record_model.specs.Step.{Outcome, step, outcome, refusal, refuse_if, wants_active, wants_record, wants_short, wants_standing, may_read, may_write, ready, lacks_room, full, fills_page, carried_through, is_accepted, effect, answer, having_read, having_written, having_marked, going_back}
 use Rattle.record_model.specs.Run.{Line, Turn, line_step, turn, turns, replies, left_by, state_at, is_committed, commit_marks, commits_among, after_commits}
-use Rattle.record_model.specs.Serial.{lines_of, session_of, is_session, is_begin, is_begin_line, is_accepted_of, since_begin, committed_by, line_session, transaction, IsOfSession, IsTransaction, commits_before, table_before, Serial}
-use Rattle.record_model.proofs.StepLaws.{length_table_with, found_is, IsNoCommit, refusals, refused_changes_nothing}
+use Rattle.record_model.specs.Serial.{lines_of, session_of, is_session, is_begin, is_begin_line, is_accepted_of, since_begin, committed_by, line_session, transaction, IsOfSession, IsTransaction, commits_before, table_before, opened_alone, Serial}
+use Rattle.record_model.specs.Laws.{IsSoundSession, AreSound}
+use Rattle.record_model.proofs.StepLaws.{each_outcome, length_table_with, found_is, IsNoCommit, refusals, page_refusals, of_none, refused_changes_nothing}
+use Rattle.record_model.proofs.SessionLaws.{sessions_stay_sound}
 use Rattle.record_model.proofs.RunLaws.{IsRun, turns_are_run, state_after, one_commit_more, commits_make_the_table}
 use Rattle.record_model.proofs.SerialGets.{turn_of_run, gets_are_serial}
 use Rattle.record_model.proofs.SerialLists.{not_both, same_is, get_set_other, get_none}
-use Rattle.record_model.proofs.SerialLocks.{place, touched, Apart, set_here, set_there, all_pass, untouched, locks_kept}
+use Rattle.record_model.proofs.SerialLocks.{place, wrote, touched, Apart, set_here, set_there, all_pass, untouched, locks_kept}
 use Rattle.record_model.proofs.SerialWhole.{since_is}
 use Rattle.std.proofs.lemmas.List.{reverse-reverse}
 use Rattle.std.proofs.lemmas.Bool.{cases_Bool, or_parts, and_parts, not-true, eqb-true, eqb-false}
 use Rattle.std_lemmas.proofs.Options.{none_if_is_none}
 use Rattle.record_model.proofs.SerialAlone.{alone, unrefused, step_through, commit_alone, set_alone}
-use Rattle.record_model.proofs.SerialSteps.{Standing, reply_more, state_more, one_turn, read_more, scan_more, write_more, erase_more, begin_first}
+use Rattle.record_model.proofs.SerialSteps.{Standing, reply_more, state_more, one_turn, read_more, scan_more, write_more, erase_more, mark_more, back_more, begin_first}
 
 -- A command of the session itself.
 
@@ -85,6 +87,19 @@ mine s (Commit n) listing t k long h line answer e = let same : n ≡ k = cc in
 mine s (Abort n) listing t k long h line answer e = let same : n ≡ k = cc in
     subst (StepsOn s (Abort n) t) same λ own before.
     subst (Standing n (own ++ t ∷ []) s.table) (sym (gone s.sessions n)) tt
+mine s (Mark n) listing t k long h line answer e = let same : n ≡ k = cc in
+    subst (StepsOn s (Mark n) t) same λ own before.
+    let active = is_active (place s.sessions n) _ h in
+    let replays = subst (Standing n own s.table) active.1 before in
+    subst (Standing n (own ++ t ∷ []) s.table) (sym (placed s n having_marked active.0 active.1 (let k = replays.known in omega (arith, k, long))))
+    (mark_more s n own active.0 t active.1 replays line answer)
+mine s (Back n standing) listing t k long h line answer e = let same : n ≡ k = cc in
+    subst (StepsOn s (Back n standing) t) same λ own before.
+    let tests = all_pass (wants_active s n ∷ wants_standing s n standing ∷ []) h in
+    let active = is_active (place s.sessions n) _ tests.0 in
+    let replays = subst (Standing n own s.table) active.1 before in
+    subst (Standing n (own ++ t ∷ []) s.table) (sym (placed s n (going_back standing) active.0 active.1 (let k = replays.known in omega (arith, k, long))))
+    (back_more s n own active.0 t active.1 replays standing line answer tests.1.0)
 mine s _ listing t k long h line answer e = absurd cc
 
 -- A command of another session, or of none.
@@ -108,6 +123,11 @@ unwritten_stay table (write ∷ writes) r h =
     first true b e = refl
     first false b e = absurd cc
 
+-- what stands of a session it has written
+stood_wrote : (o : Option Session) → ((session : Session) → o ≡ Some session → IsSoundSession session) → (r : ℕ) → list_any (λ write. write.0 == r) (writes_of o) ≡ true → wrote o r ≡ true
+stood_wrote None sound r h = absurd cc
+stood_wrote (Some session) sound r h = (sound session refl).written r h
+
 abbrev StaysFor : State → Command → ℕ → Type 0
 StaysFor s command k = (own : List Turn) → Standing k own s.table (place s.sessions k) →
     Standing k own (effect (ready s command) command).table (place (effect (ready s command) command).sessions k)
@@ -116,25 +136,32 @@ elsewhere : (s : State) (n k : ℕ) (o : Option Session) (own : List Turn) → (
     Standing k own s.table (place s.sessions k) → Standing k own s.table (place (slice_set s.sessions n o) k)
 elsewhere s n k o own d before = subst (Standing k own s.table) (sym (set_there s.sessions n o k (λ e. eqb-false n k d (sym e)))) before
 
-theirs : (s : State) (command : Command) (k : ℕ) → length s.sessions ≡ 8 → Apart s.sessions → refusal s command ≡ None →
+theirs : (s : State) (command : Command) (k : ℕ) → length s.sessions ≡ 8 → Apart s.sessions → AreSound s.sessions → refusal s command ≡ None →
     is_session k (session_of command) ≡ false → StaysFor s command k
-theirs s (Begin n) k long apart h d own before = elsewhere s n k _ own d before
-theirs s (Read n number) k long apart h d own before = elsewhere s n k _ own d before
-theirs s (Write n number value) k long apart h d own before = elsewhere s n k _ own d before
-theirs s (Erase n number) k long apart h d own before = elsewhere s n k _ own d before
-theirs s (Scan n number count) k long apart h d own before = elsewhere s n k _ own d before
-theirs s (Commit n) k long apart h d own before = grind (arith, set_there, eqb-false, same_standing, length_table_with, unwritten_stay)
-theirs s (Abort n) k long apart h d own before = elsewhere s n k _ own d before
-theirs s (Set number value) k long apart h d own before = let tests = all_pass (wants_record s number ∷ wants_short value ∷ may_write s None number ∷ []) h in
+theirs s (Begin n) k long apart sound h d own before = elsewhere s n k _ own d before
+theirs s (Read n number) k long apart sound h d own before = elsewhere s n k _ own d before
+theirs s (Write n number value) k long apart sound h d own before = elsewhere s n k _ own d before
+theirs s (Erase n number) k long apart sound h d own before = elsewhere s n k _ own d before
+theirs s (Scan n number count) k long apart sound h d own before = elsewhere s n k _ own d before
+theirs s (Commit n) k long apart sound h d own before =
+    let writes = writes_of (place s.sessions n) in
+    elsewhere (record s { table = table_with s.table writes }) n k None own d
+    (same_standing k own s.table (table_with s.table writes) (place s.sessions k) (length_table_with s.table writes)
+    (λ r t. unwritten_stay s.table writes r (λ e. apart n k r (eqb-false n k d) (stood_wrote (place s.sessions n) (sound n) r e) t)) before)
+theirs s (Mark n) k long apart sound h d own before = elsewhere s n k _ own d before
+theirs s (Back n standing) k long apart sound h d own before = elsewhere s n k _ own d before
+theirs s (Abort n) k long apart sound h d own before = elsewhere s n k _ own d before
+theirs s (Set number value) k long apart sound h d own before = let tests = all_pass (wants_record s number ∷ wants_short value ∷ may_write s None number ∷ []) h in
     same_standing k own s.table (slice_set s.table number (Some value)) (place s.sessions k) (length_table_with s.table ((number, Some value) ∷ []))
     (λ r t. get_set_other s.table number r (Some value) None (λ e. untouched s number long tests.1.1.0 k (subst (λ (q : ℕ). touched (place s.sessions k) q ≡ true) (sym e) t))) before
-theirs s _ k long apart h d own before = before
+theirs s _ k long apart sound h d own before = before
 
 -- What holds at each moment of a run. Of the turns before it the last one comes first.
 
 record Represents (s : State) (earlier : List Turn) : Type 0 where
   long : length s.sessions ≡ 8
   apart : Apart s.sessions
+  sound : AreSound s.sessions
   standing : (k : ℕ) → Standing k (since_begin k earlier) s.table (place s.sessions k)
 
 abbrev grown : ℕ → State → Line → Turn → List Turn → List Turn
@@ -146,7 +173,14 @@ GoesOn s line t after = (length after.sessions ≡ 8) × Apart after.sessions
 
 refused_goes_on : (s : State) (command : Command) (listing : List CacheLine) (t : Turn) → length s.sessions ≡ 8 → Apart s.sessions →
     is_accepted s command ≡ false → GoesOn s (Some command) t (step s command listing).after
-refused_goes_on s command listing t long apart h = grind (arith, refused_changes_nothing)
+refused_goes_on s command listing t long apart h =
+    subst (GoesOn s (Some command) t) (sym (refused_changes_nothing s command listing h))
+    (long, apart, λ k own before. subst (λ own. Standing k own s.table (place s.sessions k)) (sym (unaccepted (is_session k (session_of command)) (is_accepted s command) ((if is_begin command then [] else own) ++ t ∷ []) own h)) before)
+  where
+    unaccepted : (b c : Bool) (more own : List Turn) → c ≡ false → (if b && c then more else own) ≡ own
+    unaccepted true true more own h = absurd cc
+    unaccepted true false more own h = refl
+    unaccepted false c more own h = refl
 
 pub sessions_stay : (s : State) (command : Command) → length (effect s command).sessions ≡ length s.sessions
 sessions_stay s (Begin n) = length-set s.sessions n _
@@ -156,18 +190,21 @@ sessions_stay s (Erase n number) = length-set s.sessions n _
 sessions_stay s (Scan n number count) = length-set s.sessions n _
 sessions_stay s (Commit n) = length-set s.sessions n _
 sessions_stay s (Abort n) = length-set s.sessions n _
+sessions_stay s (Mark n) = length-set s.sessions n _
+sessions_stay s (Back n standing) = length-set s.sessions n _
 sessions_stay s _ = refl
 
 of_session : (k : ℕ) (o : Option ℕ) → is_session k o ≡ true → o ≡ Some k
 of_session k None h = absurd cc
 of_session k (Some m) h = ap Some (eqb-true m k h)
 
-accepted_goes_on : (s : State) (command : Command) (listing : List CacheLine) (t : Turn) → length s.sessions ≡ 8 → Apart s.sessions →
+accepted_goes_on : (s : State) (command : Command) (listing : List CacheLine) (t : Turn) → length s.sessions ≡ 8 → Apart s.sessions → AreSound s.sessions →
     t.line ≡ Some command → t.reply ≡ (step s command listing).reply →
     is_accepted s command ≡ true → GoesOn s (Some command) t (step s command listing).after
-accepted_goes_on s command listing t long apart line answers h =
-    let tests = none_if_is_none (refusal s command) (and_parts _ _ h).0 in
-    let done = step_through s command listing tests (not-true _ (and_parts _ _ h).1) in
+accepted_goes_on s command listing t long apart sound line answers h =
+    let comes = and_parts _ _ (and_parts _ _ h).0 in
+    let tests = none_if_is_none (refusal s command) comes.0 in
+    let done = step_through s command listing tests (not-true _ comes.1) (none_if_is_none (fills_page (ready s command) command) (and_parts _ _ h).1) in
     subst (GoesOn s (Some command) t) (sym (ap (λ (o : Outcome). o.after) done)) (
       sessions_stay (ready s command) command ∙ long,
       locks_kept s command long tests apart,
@@ -177,7 +214,7 @@ accepted_goes_on s command listing t long apart line answers h =
             (mine s command listing t k long tests line (answers ∙ ap (λ (o : Outcome). o.reply) done) (of_session k (session_of command) e) own before)
         | inr e ↦ subst (λ own. Standing k own (effect (ready s command) command).table (place (effect (ready s command) command).sessions k))
             (sym (left k own (is_session k (session_of command)) (is_accepted s command) e))
-            (theirs s command k long apart tests e own before)
+            (theirs s command k long apart sound tests e own before)
       ],
     )
   where
@@ -189,11 +226,11 @@ accepted_goes_on s command listing t long apart line answers h =
     left k own true c p = absurd cc
     left k own false c p = refl
 
-goes_on : (s : State) (line : Line) (listing : List CacheLine) (t : Turn) → length s.sessions ≡ 8 → Apart s.sessions →
+goes_on : (s : State) (line : Line) (listing : List CacheLine) (t : Turn) → length s.sessions ≡ 8 → Apart s.sessions → AreSound s.sessions →
     t.line ≡ line → t.reply ≡ (line_step s line listing).reply → GoesOn s line t (line_step s line listing).after
-goes_on s None listing t long apart line answers = (long, apart, λ k own before. before)
-goes_on s (Some command) listing t long apart line answers = elim (cases_Bool (is_accepted s command)) [
-  | inl h ↦ accepted_goes_on s command listing t long apart line answers h
+goes_on s None listing t long apart sound line answers = (long, apart, λ k own before. before)
+goes_on s (Some command) listing t long apart sound line answers = elim (cases_Bool (is_accepted s command)) [
+  | inl h ↦ accepted_goes_on s command listing t long apart sound line answers h
   | inr h ↦ refused_goes_on s command listing t long apart h
 ]
 
@@ -206,10 +243,11 @@ holds_at table commits made cap [] s is = grind (arith, not_both, get_none)
 holds_at table commits made cap (t ∷ earlier) s is =
     let before = holds_at table commits made cap earlier t.before is.3 in
     let after = subst (GoesOn t.before t.line t) (sym (ap (λ (u : Turn). u.after) is.1))
-    (goes_on t.before t.line is.0 t before.long before.apart refl (ap (λ (u : Turn). u.reply) is.1)) in
+    (goes_on t.before t.line is.0 t before.long before.apart before.sound refl (ap (λ (u : Turn). u.reply) is.1)) in
     subst (λ (s : State). Represents s (t ∷ earlier)) (sym is.2) (record {
       long = after.0;
       apart = after.1;
+      sound = subst (λ (u : Turn). AreSound u.after.sessions) (sym is.1) (sessions_stay_sound t.before t.line is.0 before.sound);
       standing = λ k. after.2 k (since_begin k earlier) (before.standing k);
     })
 
@@ -231,15 +269,13 @@ answers_no_commit s (Read n number) listing h = found_is (seen s n number)
 answers_no_commit s (Get number) listing h = found_is (content_at s.table number)
 answers_no_commit s _ listing h = grind arith
 
-chosen_reply : (b : Bool) (o p : Outcome) → is_committed o.reply ≡ false → is_committed p.reply ≡ false → is_committed (if b then o else p).reply ≡ false
-chosen_reply true o p h k = h
-chosen_reply false o p h k = k
-
 outcome_no_commit : (s : State) (command : Command) (listing : List CacheLine) (r : Option Reply) → IsNoCommit r → may_commit command ≡ false →
     is_committed (outcome s command listing r).reply ≡ false
 unfolding IsNoCommit
 outcome_no_commit s command listing (Some refused) harmless h = harmless
-outcome_no_commit s command listing None harmless h = grind (arith, chosen_reply, answers_no_commit)
+outcome_no_commit s command listing None harmless h =
+    each_outcome (λ o. is_committed o.reply ≡ false) (ready s command) command listing (lacks_room (ready s command) command) (fills_page (ready s command) command)
+    refl (λ refused is. of_none _ refused is (page_refusals (ready s command) command)) (answers_no_commit (ready s command) command listing h)
 
 no_commit : (s : State) (command : Command) (listing : List CacheLine) → may_commit command ≡ false → is_committed (step s command listing).reply ≡ false
 no_commit s command listing h = outcome_no_commit s command listing (refusal s command) (refusals s command) h
@@ -250,14 +286,25 @@ unfolding IsNoCommit
 let_through s command listing None harmless h = refl
 let_through s command listing (Some refused) harmless h = not_both _ h harmless
 
-roomy : (s : State) (command : Command) (listing : List CacheLine) → refusal s command ≡ None → is_committed (step s command listing).reply ≡ true → lacks_room (ready s command) command ≡ false
-roomy s command listing tests h = grind (arith, not_both)
+-- and had room
+both_room : (s : State) (command : Command) (listing : List CacheLine) (lacks : Bool) (page : Option Reply) → IsNoCommit page →
+    is_committed (if lacks then record { after = s; reply = full s } else carried_through s command listing page).reply ≡ true → (lacks ≡ false) × (page ≡ None)
+unfolding IsNoCommit
+both_room s command listing true page harmless h = absurd cc
+both_room s command listing false None harmless h = (refl, refl)
+both_room s command listing false (Some refused) harmless h = not_both _ h harmless
+
+roomy : (s : State) (command : Command) (listing : List CacheLine) → refusal s command ≡ None → is_committed (step s command listing).reply ≡ true →
+    (lacks_room (ready s command) command ≡ false) × (fills_page (ready s command) command ≡ None)
+roomy s command listing tests h =
+    both_room (ready s command) command listing (lacks_room (ready s command) command) (fills_page (ready s command) command) (page_refusals (ready s command) command)
+    (ap (λ (r : Option Reply). is_committed (outcome s command listing r).reply) (sym tests) ∙ h)
 
 -- these turns have their replies again alone, and leave this table
 abbrev RunsAgain : State → List Turn → List Content → ℕ → Type 0
 RunsAgain s own table cap =
-    (replies (turns (opened s.table s.commits 0 cap) (lines_of own) []) ≡ replies own)
-    × ((left_by (opened s.table s.commits 0 cap) (turns (opened s.table s.commits 0 cap) (lines_of own) [])).table ≡ table)
+    (replies (turns (opened_alone s.table s.commits cap) (lines_of own) []) ≡ replies own)
+    × ((left_by (opened_alone s.table s.commits cap) (turns (opened_alone s.table s.commits cap) (lines_of own) [])).table ≡ table)
 
 AnswersAgain : State → Line → Turn → List Turn → Type 0
 AnswersAgain s line t earlier = (cap : ℕ) → 4 * length (committed_by (line_session line) t earlier) ≤ cap →
@@ -281,19 +328,19 @@ session_commit n listing t earlier line answers leaves commits holds cap room =
     let same : since_begin n (t ∷ earlier) ≡ own ++ t ∷ [] = ap (λ (l : Line). grown n s l t own) line ∙ commit_taken n t own (same_is n) (ap is_none tests) in
     let small : 4 * length own ≤ cap = smaller own (subst (λ (l : List Turn). 4 * length l ≤ cap) same room) in
     let before = replays.again s.table s.commits cap refl (λ r e. refl) small in
-    let ended = commit_alone s.table s.commits cap n active.0.writes active.0.reads replays.known in
-    let last = ap (λ (l : Line). (line_step (alone s.table s.commits cap n active.0.writes active.0.reads) l []).reply) line
+    let ended = commit_alone s.table s.commits cap n replays.made active.0 replays.known in
+    let last = ap (λ (l : Line). (line_step (alone s.table s.commits cap n replays.made active.0) l []).reply) line
     ∙ ended.0
-    ∙ sym (ap (λ (o : Outcome). o.reply) (step_through s (Commit n) listing tests refl))
+    ∙ sym (ap (λ (o : Outcome). o.reply) (step_through s (Commit n) listing tests refl refl))
     ∙ sym answers in
-    let left = ap (λ (after : State). after.table) (state_more (opened s.table s.commits 0 cap) (alone s.table s.commits cap n active.0.writes active.0.reads) own t replays.quits before.1)
-    ∙ ap (λ (l : Line). (line_step (alone s.table s.commits cap n active.0.writes active.0.reads) l []).after.table) line
+    let left = ap (λ (after : State). after.table) (state_more (opened_alone s.table s.commits cap) (alone s.table s.commits cap n replays.made active.0) own t replays.quits before.1)
+    ∙ ap (λ (l : Line). (line_step (alone s.table s.commits cap n replays.made active.0) l []).after.table) line
     ∙ ended.1
     ∙ ap (λ (o : Option Session). table_with s.table (writes_of o)) (sym active.1)
-    ∙ sym (ap (λ (o : Outcome). o.after.table) (step_through s (Commit n) listing tests refl))
+    ∙ sym (ap (λ (o : Outcome). o.after.table) (step_through s (Commit n) listing tests refl refl))
     ∙ ap (λ (after : State). after.table) (sym leaves) in
     subst (λ (l : List Turn). RunsAgain s l t.after.table cap) (sym same)
-    (reply_more (opened s.table s.commits 0 cap) (alone s.table s.commits cap n active.0.writes active.0.reads) own t replays.quits before.0 before.1 last, left)
+    (reply_more (opened_alone s.table s.commits cap) (alone s.table s.commits cap n replays.made active.0) own t replays.quits before.0 before.1 last, left)
   where
     smaller : (own : List Turn) → 4 * length (own ++ t ∷ []) ≤ cap → 4 * length own ≤ cap
     smaller own h = omega (arith, h, length-append own (t ∷ []))
@@ -308,8 +355,9 @@ set_commit number value listing t earlier line answers leaves commits cap room =
     let committed : is_committed (step s command listing).reply ≡ true = ap is_committed (sym answers) ∙ commits in
     let passed = let_through s command listing (refusal s command) (refusals s command) committed in
     let tests = all_pass (wants_record s number ∷ wants_short value ∷ may_write s None number ∷ []) passed in
-    let start = opened s.table s.commits 0 cap in
-    let through = step_through s command listing passed (roomy s command listing passed committed) in
+    let start = opened_alone s.table s.commits cap in
+    let room_is = roomy s command listing passed committed in
+    let through = step_through s command listing passed room_is.0 room_is.1 in
     let lone = set_alone s.table s.commits cap number value tests.0 tests.1.0 (omega (arith, room)) in (
       ap replies (one_turn start t.line)
           ∙ ap (λ (l : Line). (line_step start l []).reply ∷ []) line
@@ -363,14 +411,14 @@ each_whole (Some command) listing t earlier line answers commits holds = not_bot
 
 answered_so_far : (n : ℕ) (past : List Turn) (s : State) (cap : ℕ) → Represents s past → IsTrue (is_some (place s.sessions n)) →
     4 * length (since_begin n past) ≤ cap →
-    replies (turns (opened s.table s.commits 0 cap) (lines_of (since_begin n past)) []) ≡ replies (since_begin n past)
+    replies (turns (opened_alone s.table s.commits cap) (lines_of (since_begin n past)) []) ≡ replies (since_begin n past)
 answered_so_far n past s cap holds active room = grind arith
 
 -- the table and the count behind a turn
 opens_after : (table : List Content) (commits made cap : ℕ) (lines : List Line) (listings : List (List CacheLine)) (earlier later : List Turn) (t : Turn) (room : ℕ) →
     turns (opened table commits made cap) lines listings ≡ earlier ++ t ∷ later →
     let count = commits_among (length earlier + 1) (commit_marks (earlier ++ t ∷ later)) in
-    opened t.after.table t.after.commits 0 room ≡ opened (after_commits table (earlier ++ t ∷ later) count) (commits + count) 0 room
+    opened_alone t.after.table t.after.commits room ≡ opened_alone (after_commits table (earlier ++ t ∷ later) count) (commits + count) room
 opens_after table commits made cap lines listings earlier later t room e =
     let start = opened table commits made cap in
     let run = earlier ++ t ∷ later in
@@ -380,9 +428,9 @@ opens_after table commits made cap lines listings earlier later t room e =
     ∙ subst (λ (r : List Turn). (state_at r start (suc (length earlier))).table ≡ after_commits table r (commits_among (suc (length earlier)) (commit_marks r))) e counted.table in
     let count_is = ap (λ (s : State). s.commits) after
     ∙ subst (λ (r : List Turn). (state_at r start (suc (length earlier))).commits ≡ commits + commits_among (suc (length earlier)) (commit_marks r)) e counted.commits in
-    ap (λ (now : List Content). opened now t.after.commits 0 room) table_is
-    ∙ ap (λ (n : ℕ). opened (after_commits table run (commits_among (suc (length earlier)) (commit_marks run))) n 0 room) count_is
-    ∙ ap (λ (i : ℕ). opened (after_commits table run (commits_among i (commit_marks run))) (commits + commits_among i (commit_marks run)) 0 room) (sym (add-one (length earlier)))
+    ap (λ (now : List Content). opened_alone now t.after.commits room) table_is
+    ∙ ap (λ (n : ℕ). opened_alone (after_commits table run (commits_among (suc (length earlier)) (commit_marks run))) n room) count_is
+    ∙ ap (λ (i : ℕ). opened_alone (after_commits table run (commits_among i (commit_marks run))) (commits + commits_among i (commit_marks run)) room) (sym (add-one (length earlier)))
 
 -- The law.
 
@@ -405,8 +453,8 @@ serial_order table commits made cap' lines listings earlier later t e =
     let count_is = ap (λ (s : State). s.commits) before ∙ count_now in
     let again = λ (committed : is_committed t.reply ≡ true) (cap : ℕ) (room : 4 * length (transaction t (reverse earlier)) ≤ cap).
     each_commit t.line trail.1.0 t (reverse earlier) refl (ap (λ (u : Turn). u.reply) trail.1.1) (ap (λ (u : Turn). u.after) trail.1.1) committed holds cap room in
-    let opens : (cap : ℕ) → opened t.before.table t.before.commits 0 cap ≡ opened (table_before table earlier later t) (commits + commits_before earlier later t) 0 cap =
-    λ cap. ap (λ (now : List Content). opened now t.before.commits 0 cap) table_is ∙ ap (λ (n : ℕ). opened (table_before table earlier later t) n 0 cap) count_is in
+    let opens : (cap : ℕ) → opened_alone t.before.table t.before.commits cap ≡ opened_alone (table_before table earlier later t) (commits + commits_before earlier later t) cap =
+    λ cap. ap (λ (now : List Content). opened_alone now t.before.commits cap) table_is ∙ ap (λ (n : ℕ). opened_alone (table_before table earlier later t) n cap) count_is in
     record {
       whole = λ committed.
           subst (λ (past : List Turn). IsTransaction past t (transaction t (reverse earlier))) (reverse-reverse earlier)

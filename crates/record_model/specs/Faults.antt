@@ -7,10 +7,10 @@ use Rattle.record_model.specs.declared.words.Command.TheVariants.{Begin, Read, W
 use Rattle.record_model.specs.declared.words.Why.TheVariants.{BadLine}
 use Rattle.record_model.specs.declared.words.Reply.{Reply}
 use Rattle.record_model.specs.declared.words.Reply.TheVariants as reply
-use Rattle.record_model.specs.State.{Content, State, opened, content_at, session_at, seen, busy_read}
+use Rattle.record_model.specs.State.{Content, State, content_at, session_at, seen, busy_read}
 use Rattle.record_model.specs.Step.{Outcome, step, is_accepted, with_session, having_read, wants_record, found}
 use Rattle.record_model.specs.Run.{Line, Turn, replies, after_commits}
-use Rattle.record_model.specs.Serial.{lines_of, since_begin}
+use Rattle.record_model.specs.Serial.{lines_of, since_begin, opened_alone}
 use Rattle.record_model.specs.Rows.{blank, fresh, aa, old_item}
 
 -- A step, and its runs.
@@ -81,7 +81,7 @@ among_others does lines = replies (last_transaction does lines)
 abbrev pub alone : Does → List Line → List Reply
 alone does lines =
     let table = after_commits blank (run_by does lines) 1 in
-    replies (turns_by does (opened table 1 0 63) (lines_of (last_transaction does lines)))
+    replies (turns_by does (opened_alone table 1 63) (lines_of (last_transaction does lines)))
 
 -- one record is read twice, and set in between
 abbrev pub read_twice : List Line

@@ -4,7 +4,7 @@ use Rattle.std.specs.Prelude.{drop, count_by, slice_index_or, nat_eq, Option, So
 use Rattle.std.specs.List.{starts_with}
 use Rattle.record_model.specs.declared.words.Command.{Command}
 use Rattle.record_model.specs.declared.words.Command.TheVariants.{Begin, Read, Write, Erase, Scan, Commit, Abort, Get}
-use Rattle.record_model.specs.declared.words.Command.TheVariants.{Set, Checkpoint, Cache, Stat, Quit}
+use Rattle.record_model.specs.declared.words.Command.TheVariants.{Set, Checkpoint, Cache, Stat, Quit, Mark, Back}
 use Rattle.record_model.specs.declared.words.Why.TheVariants.{BadLine}
 use Rattle.record_model.specs.declared.words.CacheLine.{CacheLine}
 use Rattle.record_model.specs.declared.words.Reply.{Reply}
@@ -30,6 +30,8 @@ is_quit (Some (Erase n number)) = false
 is_quit (Some (Scan n number count)) = false
 is_quit (Some (Commit n)) = false
 is_quit (Some (Abort n)) = false
+is_quit (Some (Mark n)) = false
+is_quit (Some (Back n standing)) = false
 is_quit (Some (Get number)) = false
 is_quit (Some (Set number value)) = false
 is_quit (Some Checkpoint) = false
@@ -46,6 +48,8 @@ is_cache (Some (Erase n number)) = false
 is_cache (Some (Scan n number count)) = false
 is_cache (Some (Commit n)) = false
 is_cache (Some (Abort n)) = false
+is_cache (Some (Mark n)) = false
+is_cache (Some (Back n standing)) = false
 is_cache (Some (Get number)) = false
 is_cache (Some (Set number value)) = false
 is_cache (Some Checkpoint) = false
@@ -105,6 +109,7 @@ is_committed (reply.Value value) = false
 is_committed reply.Nothing = false
 is_committed (reply.Committed count) = true
 is_committed reply.Aborted = false
+is_committed (reply.Back count) = false
 is_committed reply.Checked = false
 is_committed (reply.Items items) = false
 is_committed (reply.Listing lines) = false
@@ -112,6 +117,7 @@ is_committed (reply.Stat counts) = false
 is_committed reply.Bye = false
 is_committed (reply.Busy session) = false
 is_committed (reply.Full used owed cap) = false
+is_committed (reply.PageFull page need) = false
 is_committed (reply.Refused why) = false
 
 -- which turns were commits

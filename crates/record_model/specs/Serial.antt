@@ -4,7 +4,7 @@ use Rattle.std.specs.Prelude.{map, filter, reverse, Option, Some, None, is_some,
 use Rattle.std.specs.List.{list_any}
 use Rattle.record_model.specs.declared.words.Command.{Command}
 use Rattle.record_model.specs.declared.words.Command.TheVariants.{Begin, Read, Write, Erase, Scan, Commit, Abort, Get}
-use Rattle.record_model.specs.declared.words.Command.TheVariants.{Set, Checkpoint, Cache, Stat, Quit}
+use Rattle.record_model.specs.declared.words.Command.TheVariants.{Set, Checkpoint, Cache, Stat, Quit, Mark, Back}
 use Rattle.record_model.specs.declared.words.CacheLine.{CacheLine}
 use Rattle.record_model.specs.State.{Content, State, content_at, opened, session_at}
 use Rattle.record_model.specs.Step.{found, is_accepted}
@@ -20,6 +20,8 @@ session_of (Erase n number) = Some n
 session_of (Scan n number count) = Some n
 session_of (Commit n) = Some n
 session_of (Abort n) = Some n
+session_of (Mark n) = Some n
+session_of (Back n standing) = Some n
 session_of (Get number) = None
 session_of (Set number value) = None
 session_of Checkpoint = None
@@ -39,6 +41,8 @@ is_begin (Erase n number) = false
 is_begin (Scan n number count) = false
 is_begin (Commit n) = false
 is_begin (Abort n) = false
+is_begin (Mark n) = false
+is_begin (Back n standing) = false
 is_begin (Get number) = false
 is_begin (Set number value) = false
 is_begin Checkpoint = false
@@ -105,6 +109,10 @@ commits_before earlier later t = commits_among (length earlier) (commit_marks (e
 abbrev pub table_before : List Content → List Turn → List Turn → Turn → List Content
 table_before table earlier later t = after_commits table (earlier ++ t ∷ later) (commits_before earlier later t)
 
+-- Where a transaction runs alone, no page is ever full.
+abbrev pub opened_alone : List Content → ℕ → ℕ → State
+opened_alone table commits cap = record (opened table commits 0 cap) { pages_fill = false }
+
 -- A transaction gives its replies again where it runs alone, on the table and from the count of the commits before it.
 -- The log has no limit there: the cap is any number that has room for four log records for each of its commands, so
 -- that no reply is `Full`.
@@ -112,7 +120,7 @@ abbrev pub AnswersAlone : List Content → ℕ → List Turn → List Turn → T
 AnswersAlone table commits earlier later t =
     let own = transaction t (reverse earlier) in
     IsTrue (is_committed t.reply) → (cap : ℕ) → 4 * length own ≤ cap →
-    let alone = opened (table_before table earlier later t) (commits + commits_before earlier later t) 0 cap in
+    let alone = opened_alone (table_before table earlier later t) (commits + commits_before earlier later t) cap in
     replies (turns alone (lines_of own) []) ≡ replies own
 
 -- And it leaves there the table that its commit made in the run. So the transactions of a run, one after the other,
@@ -121,7 +129,7 @@ abbrev pub LeavesItsTable : List Content → ℕ → List Turn → List Turn →
 LeavesItsTable table commits earlier later t =
     let own = transaction t (reverse earlier) in
     IsTrue (is_committed t.reply) → (cap : ℕ) → 4 * length own ≤ cap →
-    let alone = opened (table_before table earlier later t) (commits + commits_before earlier later t) 0 cap in
+    let alone = opened_alone (table_before table earlier later t) (commits + commits_before earlier later t) cap in
     (left_by alone (turns alone (lines_of own) [])).table
     ≡ after_commits table (earlier ++ t ∷ later) (commits_before earlier later t + 1)
 
@@ -133,7 +141,7 @@ AnswersSoFar table commits earlier later t =
     let own = since_begin n (t ∷ reverse earlier) in
     4 * length own ≤ cap →
     let count = commits_among (length earlier + 1) (commit_marks (earlier ++ t ∷ later)) in
-    let alone = opened (after_commits table (earlier ++ t ∷ later) count) (commits + count) 0 cap in
+    let alone = opened_alone (after_commits table (earlier ++ t ∷ later) count) (commits + count) cap in
     replies (turns alone (lines_of own) []) ≡ replies own
 
 -- an accepted get gives what the table of the commits before it has

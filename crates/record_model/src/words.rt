@@ -39,6 +39,17 @@ pub enum Command {
     Abort {
         session: u32,
     },
+    /// The session's mark is set behind its writes that stand.
+    Mark {
+        session: u32,
+    },
+    /// The session's writes are dropped, the last one first, but for those in front of its mark, or but for the first
+    /// `standing` ones. A mark that stood behind the last of them then stands there. The session goes on, and what it
+    /// has written and read stays locked.
+    Back {
+        session: u32,
+        standing: Option<u32>,
+    },
     /// A read outside sessions.
     Get {
         number: u32,
@@ -69,6 +80,8 @@ pub enum Why {
     NoRecord,
     /// The value has more than [`byte_fields::VALUE_MAX`] octets.
     TooLong,
+    /// Fewer writes of the session stand than are to stay.
+    BadMark,
 }
 
 /// A record that has a value.
@@ -135,6 +148,8 @@ pub enum Reply {
     Committed(u64),
     /// The session's writes were dropped.
     Aborted,
+    /// So many of the session's writes were dropped.
+    Back(u64),
     /// The checkpoint was made.
     Checked,
     /// The records of a scan that have a value.
@@ -149,6 +164,8 @@ pub enum Reply {
     Busy(u32),
     /// The log has no room. The counts are those of [`Stat`].
     Full { used: u64, owed: u64, cap: u64 },
+    /// The page has no room for the value: with it the page's records may come to need so many octets together.
+    PageFull { page: u32, need: u32 },
     /// The command is refused.
     Refused(Why),
 }
