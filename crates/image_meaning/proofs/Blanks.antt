@@ -10,9 +10,9 @@ use Rattle.site.specs.Geometry.{HasLimits, HasLengths, log_length, flash_length,
 use Rattle.sealed_ring.specs.Ring.{IsRing, Units, hi_of}
 use Rattle.sealed_ring.specs.Laws.{BlankIsRing}
 use Rattle.sealed_ring.proofs.Examples.{blank_is_ring}
-use Rattle.record_model.specs.State.{Content, content_at}
+use Rattle.record_model.specs.State.{Content, content_at, length_of}
 use Rattle.log_records.specs.Log.{Version, version_at, slot_at, table_of}
-use Rattle.log_records.specs.Room.{length_of, open_length}
+use Rattle.log_records.specs.Room.{open_length}
 use Rattle.log_records.specs.Sound.{FitsLog, HasRoomInPage, Means, redone}
 use Rattle.log_records.specs.Sound as lists
 use Rattle.slotted_page.specs.Laws.{IsBlank}

@@ -5,9 +5,9 @@ use Rattle.std.specs.Prelude.{max}
 use Rattle.std.proofs.Math.Nat.{le-max_right}
 use Rattle.std.proofs.lemmas.Nat.{mod_below}
 use Rattle.std_lemmas.proofs.AllOf.{all_weaker}
-use Rattle.record_model.specs.State.{Content, content_at}
+use Rattle.record_model.specs.State.{Content, content_at, length_of}
 use Rattle.log_records.specs.Log.{Version, slot_at, last_on, shown, shown_by, version_at}
-use Rattle.log_records.specs.Room.{length_of, longest, open_length, put_back}
+use Rattle.log_records.specs.Room.{longest, open_length, put_back}
 use Rattle.log_records.specs.Sound.{LogicalImage, IsSound, IsInTable, Means, FitsLog, HasRoomInPage, last_known, redone}
 use Rattle.log_laws.proofs.Rooms.{total_within}
 use Rattle.image_meaning.proofs.Redos.{none_known, redone_replaces, slot_of_page, version_is_redone}

@@ -1,6 +1,6 @@
 -- Room in pages, as records are put behind a log.
 use Rattle.std.proofs.lemmas.Grind.{common_steps}
-use Rattle.std.proofs.Common.{◌≡◌, ◌⊎◌, inl, inr, ⊎_elim, ℕ, suc, zero, ◌+◌, ◌*◌, ◌/◌, ◌<◌, ◌≤◌, Bool, true, false, cond, not, ◌&&◌, List, [], ◌∷◌, ◌++◌, length, map, Some, None, refl, sym, ap, subst, ◌∙◌, append_assoc, append-nil, arith}
+use Rattle.std.proofs.Common.{◌≡◌, ◌⊎◌, inl, inr, ⊎_elim, ℕ, suc, zero, ◌+◌, ◌-◌, ◌*◌, ◌/◌, ◌<◌, ◌≤◌, Bool, true, false, cond, not, ◌&&◌, List, [], ◌∷◌, ◌++◌, length, map, Some, None, refl, sym, ap, subst, ◌∙◌, append_assoc, append-nil, arith}
 use Rattle.std.specs.Option.{option_or}
 use Rattle.std.specs.Prelude.{Option, IsTrue, filter, flat_map, max, sum_by, ◌==◌, nat_le}
 use Rattle.std.specs.List.{AllByRecursion, range_with_len, list_any}
@@ -9,12 +9,12 @@ use Rattle.std.proofs.lemmas.List.Sums.{sum_by-cons}
 use Rattle.std.proofs.lemmas.Bool.{cases_Bool, cases_lt, and_from, and_parts, and_left, and_right, eqb-true, eq-eqb, le-leb, lt-leb, not_from_false, or_left, or_right}
 use Rattle.std.proofs.lemmas.List.Folds.{list_any-append}
 use Rattle.std_lemmas.proofs.AllOf.{all_append, all_drop, all_filter, all_left, all_map, all_passed, all_push, all_right, all_weaker}
-use Rattle.record_model.specs.State.{Content}
+use Rattle.record_model.specs.State.{Content, length_of, page_room}
 use Rattle.log_records.specs.declared.log_record.LogRecord.{LogRecord}
 use Rattle.log_records.specs.declared.log_record.LogRecord.TheVariants.{Begin, Update, Clr, Commit, End}
 use Rattle.log_records.specs.Log.{Entry, Version, txn_of, is_of, is_on, number_of, is_update, is_closing, is_closed, is_loser, entries_of, before_of, after_of, shown, version_at}
 use Rattle.log_records.specs.Unfinished.{is_begin, is_clr, losers, left_open, open_by, open_updates}
-use Rattle.log_records.specs.Room.{length_of, longest, open_length, page_room, put_back, total_on, HasOpenRoom}
+use Rattle.log_records.specs.Room.{longest, open_length, put_back, total_on, HasOpenRoom}
 use Rattle.log_records.specs.Log.{slot_at, shown_by, last_on}
 use Rattle.log_records.specs.Sound.{Master, LogicalImage, InTurn, IsInOrder, IsLoserChain, Continues, ShowsLast, Undoes, HasRoomInPage, last_known}
 use Rattle.log_laws.specs.Follow.{Follows, IsUndoable}
@@ -51,11 +51,11 @@ sum_few f k a (suc n) each =
 -- a total rises with each of its parts
 pub total_within : (page : ℕ) (f g : ℕ → ℕ) → ((slot : ℕ) → slot < 32 → f (32 * page + slot) ≤ g (32 * page + slot)) → total_on page f ≤ total_on page g
 unfolding total_on
-total_within page f g each = sum_in (λ slot. f (32 * page + slot)) (λ slot. g (32 * page + slot)) 0 32 (λ slot low high. each slot (omega (arith, high)))
+total_within page f g each = sum_in f g (32 * page) 32 (λ n low high. subst (λ k. f k ≤ g k) (omega (arith, low)) (each (n - 32 * page) (omega (arith, low, high))))
 
 pub total_few : (page k : ℕ) (f : ℕ → ℕ) → ((slot : ℕ) → slot < 32 → f (32 * page + slot) ≤ k) → total_on page f ≤ 32 * k
 unfolding total_on
-total_few page k f each = sum_few (λ slot. f (32 * page + slot)) k 0 32 (λ slot low high. each slot (omega (arith, high)))
+total_few page k f each = sum_few f k (32 * page) 32 (λ n low high. subst (λ i. f i ≤ k) (omega (arith, low)) (each (n - 32 * page) (omega (arith, low, high))))
 
 -- The greatest length.
 

@@ -1,27 +1,16 @@
 -- How much of a page the values of its records take up.
-use Rattle.std.specs.Prelude.{ℕ, ◌+◌, ◌*◌, ◌≤◌, max, List, [], ◌∷◌, length, map, filter, flat_map, sum_by, Some, None}
-use Rattle.std.specs.List.{range_with_len}
-use Rattle.record_model.specs.State.{Content}
+use Rattle.std.specs.Prelude.{ℕ, ◌≤◌, List, ◌∷◌, map, filter, flat_map, sum_by}
+use Rattle.record_model.specs.State.{Content, greatest, length_of, page_room, records_of}
 use Rattle.log_records.specs.Log.{Entry, Version, is_on, before_of, shown}
 use Rattle.log_records.specs.Unfinished.{left_open, losers}
 
--- the octets of a value; none has no octets
-abbrev pub length_of : Content → ℕ
-length_of None = 0
-length_of (Some value) = length value
-
--- how many octets the values of a page's 32 records may have together
-abbrev pub page_room : ℕ
-page_room = 3952
-
 -- so many octets for each record of a page, together
 unfoldable pub total_on : ℕ → (ℕ → ℕ) → ℕ
-total_on page lengths = sum_by (λ slot. lengths (32 * page + slot)) (range_with_len 0 32)
+total_on page lengths = sum_by lengths (records_of page)
 
 -- the greatest length of these
 abbrev pub longest : List Content → ℕ
-longest [] = 0
-longest (content ∷ contents) = max (length_of content) (longest contents)
+longest contents = greatest (map length_of contents)
 
 -- what undo may put back on a record: what stood there before each of its Updates that an unfinished transaction has
 -- left open

@@ -3,14 +3,14 @@
 use Rattle.std.specs.Prelude.{◌≡◌, ℕ, ◌+◌, ◌-◌, ◌*◌, ◌/◌, ◌≤◌, ◌<◌, ◌==◌, Bool, false, ◌&&◌, ◌||◌, nat_lt, nat_le, List}
 use Rattle.std.specs.Prelude.{[], ◌∷◌, ◌++◌, drop, length, map, filter, filter_map, Option, Some, None, IsTrue, ⊤}
 use Rattle.std.specs.List.{list_any, range_with_len, AllByRecursion}
-use Rattle.record_model.specs.State.{Content, content_at}
+use Rattle.record_model.specs.State.{Content, content_at, length_of, page_room}
 use Rattle.log_records.specs.declared.log_record.LogRecord.{LogRecord}
 use Rattle.log_records.specs.declared.log_record.LogRecord.TheVariants.{Begin, Update, Clr, Commit}
 use Rattle.log_records.specs.Log.{Entry, Version, version_at, table_of, txn_of, entries_of, last_where, is_closed}
 use Rattle.log_records.specs.Log.{is_loser, number_of, is_on, is_update, before_of, after_of, last_on, slot_at}
 use Rattle.log_records.specs.Log.{shown_by}
 use Rattle.log_records.specs.Unfinished.{is_begin, prev_of, open_updates, losers, owed}
-use Rattle.log_records.specs.Room.{length_of, page_room, total_on, HasOpenRoom}
+use Rattle.log_records.specs.Room.{total_on, HasOpenRoom}
 
 -- a transaction that was active at a checkpoint: the LSNs of its Begin and of its last record
 pub record Active : Type 0 where
