@@ -21,7 +21,7 @@ pub record AreShort (k : ℕ) (log : List Entry) (pages : List Version) : Type 0
   pub written : AllByRecursion (IsShortEntry k) log
   pub slots : (number : ℕ) → number < 32 * length pages → length_of (slot_at pages number) ≤ k
 
-shown_short : (k : ℕ) (log : List Entry) (pages : List Version) (number : ℕ) (test : Entry → Bool) → AreShort k log pages → number < 32 * length pages → length_of (shown_by (slot_at pages number) (last_where test log)) ≤ k
+pub shown_short : (k : ℕ) (log : List Entry) (pages : List Version) (number : ℕ) (test : Entry → Bool) → AreShort k log pages → number < 32 * length pages → length_of (shown_by (slot_at pages number) (last_where test log)) ≤ k
 shown_short k log pages number test short within = by (last_where test log) (λ e last. (all_last (IsShortEntry k) test log e short.written last).1) where
   by : (o : Option Entry) → ((e : Entry) → o ≡ Some e → length_of (after_of e.rec) ≤ k) → length_of (shown_by (slot_at pages number) o) ≤ k
   by None each = short.slots number within
