@@ -22,9 +22,12 @@ Told = collections.namedtuple('Told', 'text status')
 
 # --- scripts
 def some_lines(random, records):
-    """Lines of all kinds, or sets over all pages, so that pages leave memory and groups are pushed."""
+    """Lines of all kinds, a session that goes back, or sets over all pages, so that pages leave memory and groups are pushed."""
     count = random.choice([0, 1, 2, 4, 8, 16])
-    if random.random() < 0.5:
+    kind = random.random()
+    if kind < 0.25:
+        return storage_model.session_lines(random, records, count)
+    if kind < 0.6:
         lines = [storage_model.random_line(random, records) for _ in range(count)]
         return lines + ['quit', 'get 0'] if random.random() < 0.05 else lines
     return [f'set {random.randrange(records)} {storage_model.random_value(random)}' for _ in range(count)]

@@ -29,10 +29,13 @@ def fresh(program, sizes):
 
 
 def some_lines(random, sizes, most):
-    """Lines of all kinds, or sets over all pages, so that pages leave memory and groups are pushed."""
+    """Lines of all kinds, a session that goes back, or sets over all pages, so that pages leave memory and groups are pushed."""
     records = storage_model.SLOTS * sizes.pages
     count = random.choice([0, 1, 3, random.randint(0, most)])
-    if random.random() < 0.6:
+    kind = random.random()
+    if kind < 0.25:
+        return storage_model.session_lines(random, records, count)
+    if kind < 0.65:
         return [storage_model.random_line(random, records) for _ in range(count)]
     return [f'set {random.randrange(records)} {storage_model.random_value(random)}' for _ in range(count)]
 

@@ -4,16 +4,25 @@ table each commit leaves."""
 SESSIONS = 8
 SLOTS = 32
 LONGEST = 120
+PAGE_ROOM = 3952
 
 
 def shown(value):
     return 'none' if value is None else 'value ' + (value or '-')
 
 
+def length(value):
+    """The octets of a value, which is written in two digits each."""
+    return len(value or '') // 2
+
+
 class Session:
+    """Its writes are those that stand; the records that it wrote stay its own when a write is dropped."""
+
     def __init__(self, begun_at):
         self.begun_at = begun_at
         self.writes = []
+        self.mark = 0
         self.read = set()
         self.written = set()
 
@@ -57,6 +66,19 @@ class Model:
             return f'full {self.used()} {self.owed()} {self.cap}'
         return None
 
+    # --- the room of a page
+    def footprint(self, record):
+        """The greatest length that the record has in the table or by a write that stands."""
+        writes = [value for session in self.sessions.values() for written, value in session.writes if written == record]
+        return max(length(value) for value in [self.table.get(record)] + writes)
+
+    def page_full(self, record, value):
+        first = record - record % SLOTS
+        prints = {near: self.footprint(near) for near in range(first, first + SLOTS)}
+        prints[record] = max(prints[record], length(value))
+        need = sum(prints.values())
+        return f'full page {record // SLOTS} {need}' if need > PAGE_ROOM else None
+
     # --- refusals
     def busy(self, record, own, held):
         for number in sorted(self.sessions):
@@ -97,9 +119,10 @@ class Model:
         refused = self.refused(number, record)
         if refused:
             return refused
-        if value is not None and len(value) > 2 * LONGEST:
+        if length(value) > LONGEST:
             return 'refused long'
         reason = self.busy_writing(record, number) or self.full(2)
+        reason = reason or (value is not None and self.page_full(record, value))
         if reason:
             return reason
         session = self.sessions[number]
@@ -154,6 +177,26 @@ class Model:
         self.made += len(self.sessions.pop(number).writes) + 1
         return 'aborted'
 
+    def mark(self, number):
+        if number not in self.sessions:
+            return 'refused session'
+        session = self.sessions[number]
+        session.mark = len(session.writes)
+        return 'ok'
+
+    def back(self, number, standing=None):
+        if number not in self.sessions:
+            return 'refused session'
+        session = self.sessions[number]
+        standing = session.mark if standing is None else standing
+        dropped = len(session.writes) - standing
+        if dropped < 0:
+            return 'refused mark'
+        session.writes = session.writes[:standing]
+        session.mark = min(session.mark, standing)
+        self.made += dropped
+        return f'back {dropped}'
+
     def get(self, record):
         if record >= self.records:
             return 'refused record'
@@ -162,13 +205,13 @@ class Model:
     def set(self, record, value):
         if record >= self.records:
             return 'refused record'
-        if len(value) > 2 * LONGEST:
+        if length(value) > LONGEST:
             return 'refused long'
         busy = self.busy_writing(record)
         if busy:
             return busy
         self.checkpoint_if_due()
-        full = self.full(4)
+        full = self.full(4) or self.page_full(record, value)
         if full:
             return full
         self.made += 3
@@ -199,6 +242,11 @@ def random_value(random):
     return ''.join(random.choice('0123456789abcdef') for _ in range(2 * length)) or '-'
 
 
+def random_back(random, session):
+    """To the mark, or to so many writes."""
+    return f'back {session}' if random.random() < 0.6 else f'back {session} {random.choice([0, 0, 1, 1, 2, 3, 5])}'
+
+
 def random_line(random, records):
     """One line, most often of a few records, so that sessions meet."""
     near = random.random() < 0.5
@@ -219,8 +267,38 @@ def random_line(random, records):
         return f'read {session} {record}'
     if kind < 0.86:
         return f'scan {session} {record} {random.randrange(1, 65)}'
-    if kind < 0.93:
+    if kind < 0.88:
+        return f'mark {session}'
+    if kind < 0.91:
+        return random_back(random, session)
+    if kind < 0.95:
         return f'commit {session}'
-    if kind < 0.96:
+    if kind < 0.97:
         return f'abort {session}'
     return random.choice(['checkpoint', 'stat', '? what', f'begin {random.randrange(8, 10)}', 'get 999999'])
+
+
+def session_line(random, records, session):
+    """One line of a session that writes a few records again and again, or a set beside it."""
+    record = random.randrange(4) * (records // 4)
+    kind = random.random()
+    if kind < 0.35:
+        return f'write {session} {record} {random_value(random)}'
+    if kind < 0.42:
+        return f'erase {session} {record}'
+    if kind < 0.55:
+        return f'mark {session}'
+    if kind < 0.70:
+        return random_back(random, session)
+    if kind < 0.76:
+        return f'read {session} {record}'
+    if kind < 0.80:
+        return 'checkpoint'
+    return f'set {random.randrange(records)} {random_value(random)}'
+
+
+def session_lines(random, records, count):
+    """A session that marks and goes back, and may be left as it is."""
+    session = random.randrange(SESSIONS)
+    lines = [session_line(random, records, session) for _ in range(count)]
+    return [f'begin {session}'] + lines + random.choice([[], [], [f'commit {session}'], [f'abort {session}']])

@@ -8,8 +8,8 @@ use Rattle.record_model.specs.declared.words.Command.TheVariants.{Get, Set}
 use Rattle.record_model.specs.declared.words.Why.TheVariants.{TooLong}
 use Rattle.record_model.specs.declared.words.Reply.{Reply}
 use Rattle.record_model.specs.declared.words.Reply.TheVariants as reply
-use Rattle.record_model.specs.State.{State, busy_read, busy_write, content_at, is_due}
-use Rattle.record_model.specs.Step.{Outcome, answer, carried_out, effect, first_refusal, found, full, may_read, may_write, outcome, ready, refusal, refuse_if, lacks_room, wants_record, wants_short}
+use Rattle.record_model.specs.State.{State, busy_read, busy_write, content_at, is_due, need, page_of, page_room}
+use Rattle.record_model.specs.Step.{Outcome, carried_out, carried_through, first_refusal, found, full, may_read, may_write, outcome, ready, refusal, refuse_if, lacks_room, wants_record, wants_short}
 use Rattle.record_model.specs.Run.{Line, Turn, is_committed}
 use Rattle.face.specs.Loads.{HasCounted}
 use Rattle.face.specs.Run.{Run, answered, first_lines, listing_at, state_at, step, turns_of}
@@ -47,17 +47,21 @@ module _ (p : Reply → Bool) where
   outcome_never s command (Some r) never is = never
   outcome_never s command None never is = is
 
-abbrev set_outcome : State → ℕ → List ℕ → Bool → Outcome
-set_outcome s number value lacks = if lacks then record { after = s; reply = full s } else record { after = effect s (Set number value); reply = answer s (Set number value) [] }
+abbrev set_outcome : State → ℕ → List ℕ → Bool → Bool → Outcome
+set_outcome s number value lacks fills = if lacks then record { after = s; reply = full s }
+    else carried_through s (Set number value) [] (refuse_if fills (reply.PageFull (page_of number) (need s number value)))
 
-set_passed : (s : State) (number : ℕ) (value : List ℕ) (lacks : Bool) → has_passed (set_outcome s number value lacks).reply ≡ true
-set_passed s number value true = refl
-set_passed s number value false = refl
+set_passed : (s : State) (number : ℕ) (value : List ℕ) (lacks fills : Bool) → has_passed (set_outcome s number value lacks fills).reply ≡ true
+set_passed s number value true fills = refl
+set_passed s number value false true = refl
+set_passed s number value false false = refl
 
 passed_is : (s : State) (number : ℕ) (value : List ℕ) (o : Option Reply) → Never has_passed o → has_passed (outcome s (Set number value) [] o).reply ≡ is_none o
 unfolding Never
 passed_is s number value (Some r) never = never
-passed_is s number value None never = set_passed (ready s (Set number value)) number value (lacks_room (ready s (Set number value)) (Set number value))
+passed_is s number value None never =
+    let r = ready s (Set number value) in
+    set_passed r number value (lacks_room r (Set number value)) (r.pages_fill && nat_lt page_room (need r number value))
 
 -- a set by any listing, and a get
 pub set_makes : (s : State) (number : ℕ) (value : List ℕ) → (is_due s && has_passed (step s (Some (Set number value)) []).reply) ≡ makes_one s (Some (Set number value))

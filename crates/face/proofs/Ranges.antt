@@ -72,6 +72,7 @@ plain_text reply.Nothing = record { first = 110; second = 111; more = _; is = re
 plain_text (reply.Committed count) = record { first = 99; second = 111; more = _; is = refl; other = λ a b. omega (arith, a) }
 plain_text reply.Done = record { first = 111; second = 107; more = _; is = refl; other = λ a b. omega (arith, a) }
 plain_text reply.Aborted = record { first = 97; second = 98; more = _; is = refl; other = λ a b. omega (arith, a) }
+plain_text (reply.Back count) = record { first = 98; second = 97; more = _; is = refl; other = λ a b. omega (arith, a) }
 plain_text reply.Checked = record { first = 99; second = 104; more = _; is = refl; other = λ a b. omega (arith, a) }
 plain_text (reply.Items []) = record { first = 101; second = 110; more = _; is = refl; other = λ a b. omega (arith, a) }
 plain_text (reply.Items (item ∷ items)) = record { first = 105; second = 116; more = _; is = refl; other = λ a b. omega (arith, a) }
@@ -82,6 +83,7 @@ plain_text (reply.Stat stat) = record { first = 115; second = 116; more = _; is 
 plain_text reply.Bye = record { first = 98; second = 121; more = _; is = refl; other = λ a b. omega (arith, a) }
 plain_text (reply.Busy session) = record { first = 98; second = 117; more = _; is = refl; other = λ a b. omega (arith, a) }
 plain_text (reply.Full used owed cap) = record { first = 102; second = 117; more = _; is = refl; other = λ a b. omega (arith, b) }
+plain_text (reply.PageFull page need) = record { first = 102; second = 117; more = _; is = refl; other = λ a b. omega (arith, b) }
 plain_text (reply.Refused why) = record { first = 114; second = 101; more = _; is = refl; other = λ a b. omega (arith, a) }
 
 pub plain_opening : (n : ℕ) → Plain (open_text n)

@@ -160,8 +160,9 @@ log_reads_by_turns run done newest blocks = restart_log_reads run.geometry newes
 -- each disk page that it doesn't stage as it was at entry. Pages are read, of flash at most one for each touch that
 -- finds its page there, twelve for each group that is appended, and as many as a start may read; of the disk at most
 -- one for each touch that misses its page on flash. Of the log each slot is read once and each kept block once more,
--- six reads beside them, and one for each Update that the restart undoes; and for each session that a line aborts one
--- and one more for each of its writes.
+-- six reads beside them, and one for each Update that the restart undoes; for each session that a line aborts one and
+-- one more for each write that it ever made; and for each line that goes back one for each write that it drops, and for
+-- each that the session has dropped before.
 abbrev pub AsksNoMore : ℕ → Run → Site → Site → Type 0
 AsksNoMore pool run old new =
     (newest : Option Master) (blocks : List (List LogRecord)) → IsSound newest run.geometry old.image blocks

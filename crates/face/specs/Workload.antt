@@ -63,6 +63,7 @@ is_value (reply.Value value) = true
 is_value reply.Nothing = false
 is_value (reply.Committed count) = false
 is_value reply.Aborted = false
+is_value (reply.Back count) = false
 is_value reply.Checked = false
 is_value (reply.Items items) = false
 is_value (reply.Listing lines) = false
@@ -70,6 +71,7 @@ is_value (reply.Stat counts) = false
 is_value reply.Bye = false
 is_value (reply.Busy session) = false
 is_value (reply.Full used owed cap) = false
+is_value (reply.PageFull page need) = false
 is_value (reply.Refused why) = false
 
 -- whether a reply is that of a set that no test refused, whatever room there was
@@ -79,6 +81,7 @@ has_passed (reply.Value value) = false
 has_passed reply.Nothing = false
 has_passed (reply.Committed count) = true
 has_passed reply.Aborted = false
+has_passed (reply.Back count) = false
 has_passed reply.Checked = false
 has_passed (reply.Items items) = false
 has_passed (reply.Listing lines) = false
@@ -86,6 +89,7 @@ has_passed (reply.Stat counts) = false
 has_passed reply.Bye = false
 has_passed (reply.Busy session) = false
 has_passed (reply.Full used owed cap) = true
+has_passed (reply.PageFull page need) = true
 has_passed (reply.Refused why) = false
 
 abbrev pub found_in : List Turn → ℕ

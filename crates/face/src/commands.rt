@@ -38,6 +38,8 @@ fn carry_out_plain<S: Site>(
         } => engine.scan(site, session, number, count),
         Command::Commit { session } => engine.commit(site, session),
         Command::Abort { session } => engine.abort(site, session),
+        Command::Mark { session } => Ok(engine.mark(session)),
+        Command::Back { session, standing } => engine.back(site, session, standing),
         Command::Get { number } => engine.get(site, number),
         Command::Set { number, value } => engine.set(site, number, &value),
         Command::Checkpoint => engine.checkpoint(site),

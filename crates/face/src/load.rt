@@ -70,7 +70,10 @@ fn is_value(reply: &Reply) -> bool
 fn has_passed(reply: &Reply) -> bool
     ensures { result ≡ stated.has_passed reply.now }
 {
-    matches!(reply, Reply::Committed(_) | Reply::Full { .. })
+    matches!(
+        reply,
+        Reply::Committed(_) | Reply::Full { .. } | Reply::PageFull { .. }
+    )
 }
 
 // Whether a line with this reply is a set that has made a checkpoint: one was due before it, and no test refused it.

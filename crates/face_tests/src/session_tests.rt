@@ -66,6 +66,35 @@ const ROOM: &[Step<'static>] = served! {
     stat commits 1 used 8 owed 7 cap 15 active 7\n";
 };
 
+const BACK: &[Step<'static>] = served! {
+    STANDARD;
+    "begin 0\nwrite 0 1 aa\nmark 0\nwrite 0 1 bb\nwrite 0 2 cc\nback 0\nread 0 1\nread 0 2\nget 2\ncommit 0\n\
+    get 1\nget 2\n" =>
+    "open 0\nok\nok\nok\nok\nok\nback 2\nvalue aa\nnone\nbusy 0\ncommitted 1\nvalue aa\nnone\n";
+    "mark 8\nback 0\nbegin 0\nread 0 5\nbegin 1\nwrite 0 1 aa\nwrite 0 2 bb\nmark 0\nback 0\nwrite 0 1 cc\nback 0\n\
+    erase 0 2\nread 0 2\nback 0\nread 0 2\nread 1 2\nwrite 1 5 01\ncommit 0\nget 1\nread 1 2\n" =>
+    "open 0\nrefused session\nrefused session\nok\nnone\nok\nok\nok\nok\nback 0\nok\nback 1\nok\nnone\nback 1\n\
+    value bb\nbusy 0\nbusy 0\ncommitted 1\nvalue aa\nvalue bb\n";
+    "begin 0\nwrite 0 1 aa\nwrite 0 2 bb\nmark 0\nwrite 0 3 cc\nback 0 4\nback 0 3\nread 0 3\nback 0 1\nread 0 2\n\
+    write 0 4 dd\nback 0\nread 0 4\nback 0 0\nread 0 1\nstat\ncommit 0\nget 1\n" =>
+    "open 0\nok\nok\nok\nok\nok\nrefused mark\nback 0\nvalue cc\nback 2\nnone\nok\nback 1\nnone\nback 1\nnone\n\
+    stat commits 0 used 9 owed 1 cap 63 active 1\ncommitted 1\nnone\n";
+    // The pages of the dropped writes are touched, the last one's first.
+    "set 0 01\nset 32 02\nbegin 0\nwrite 0 0 11\nmark 0\nwrite 0 32 12\nwrite 0 64 13\nback 0\ncache\nabort 0\ncache\n" =>
+    "open 0\ncommitted 1\ncommitted 2\nok\nok\nok\nok\nok\nback 2\nframe 0 0 page 0 -dr\nframe 1 0 page 1 -dr\n\
+    frame 2 0 page 0 vd-\nframe 3 0 page 1 vdr\nframe 4 0 page 2 vd-\npool 1*\nend 6\naborted\n\
+    frame 0 0 page 0 -dr\nframe 1 0 page 1 -dr\nframe 2 0 page 0 vdr\nframe 3 0 page 1 -dr\nframe 4 0 page 2 vd-\n\
+    frame 5 0 page 1 vd-\npool 0*\nend 7\n";
+};
+
+const BACK_WITH_FEW_BLOCKS: &[Step<'static>] = served! {
+    SMALL;
+    "begin 0\nwrite 0 1 aa\nwrite 0 1 aa\nwrite 0 1 aa\nwrite 0 1 aa\nwrite 0 1 aa\nwrite 0 1 aa\n\
+    back 0\nstat\nwrite 0 1 aa\nback 0\ncommit 0\n" =>
+    "open 0\nok\nok\nok\nok\nok\nok\nok\nback 6\nstat commits 0 used 13 owed 1 cap 15 active 1\nfull 13 1 15\n\
+    back 0\ncommitted 1\n";
+};
+
 const FAULTS: &[Step<'static>] = &[
     Step::Fail(Call::Write(Dev::Log), 4),
     Step::Feed("begin 0\nwrite 0 1 aa\ncommit 0\n"),
@@ -84,10 +113,12 @@ const FAULTS: &[Step<'static>] = &[
 ];
 
 // The tests by their names.
-const TESTS: [(&str, &[Step<'static>]); 4] = [
+const TESTS: [(&str, &[Step<'static>]); 6] = [
     ("sessions_are_kept_apart", APART),
     ("lines_and_sessions_are_refused", REFUSALS),
     ("undo_has_room", ROOM),
+    ("sessions_go_back", BACK),
+    ("going_back_has_room", BACK_WITH_FEW_BLOCKS),
     ("faults_end_a_session", FAULTS),
 ];
 

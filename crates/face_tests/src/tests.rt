@@ -59,6 +59,11 @@ get 1234567890
 scan 0 0 65
 checkpoint 0
 cache 0
+mark
+mark 0 1
+back
+back 0 01
+back 0 0 0
 get 5\r";
 
 // Whether a run over this line refuses it and makes no change but those of a restart.

@@ -21,7 +21,7 @@ fn tells(alloc: Global, script: &str, told: &str) -> Result<bool, Fail> {
     Ok(status == 0 && site.told() == told.as_bytes())
 }
 
-const LIVES: [(&'static str, &'static str); 6] = [
+const LIVES: [(&'static str, &'static str); 8] = [
     ("", "open 0\nlife 1 status 0\n"),
     (
         "set 0 aa\nbegin 0\nwrite 0 0 bb\nwrite 0 32 cc\nwrite 0 64 dd\nstop 1000 1\nstop 1 1\nstop 2 1\n\
@@ -50,6 +50,19 @@ const LIVES: [(&'static str, &'static str); 6] = [
     (
         "set 0 aa\nstop 1000 1\nstop 8 1\nget 0\n",
         "open 0\ncommitted 1\nlife 1 status 0\nlife 2 status 3\nopen 1\nvalue aa\nlife 3 status 0\n",
+    ),
+    // A session that has gone back is left: what it dropped and what it wrote on are undone.
+    (
+        "begin 0\nwrite 0 0 aa\nmark 0\nwrite 0 0 bb\nback 0\nset 32 01\nwrite 0 0 cc\nset 64 02\nstop 1000 1\n\
+        get 0\nget 32\nget 64\n",
+        "open 0\nok\nok\nok\nok\nback 1\ncommitted 1\nok\ncommitted 2\nlife 1 status 0\nopen 2\nnone\nvalue 01\n\
+        value 02\nlife 2 status 0\n",
+    ),
+    (
+        "set 0 01\nset 32 02\nbegin 0\nwrite 0 0 11\nmark 0\nwrite 0 32 12\nwrite 0 64 13\nback 0\nset 96 04\n\
+        stop 1000 0\nget 0\nget 32\nget 64\nget 96\n",
+        "open 0\ncommitted 1\ncommitted 2\nok\nok\nok\nok\nok\nback 2\ncommitted 3\nlife 1 status 0\nopen 3\nvalue 01\n\
+        value 02\nnone\nvalue 04\nlife 2 status 0\n",
     ),
 ];
 

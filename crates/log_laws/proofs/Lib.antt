@@ -12,6 +12,8 @@ pub mod Owing
 pub mod Rooms
 pub mod PendingCounts
 pub mod Shown
+pub mod Standing
+pub mod StandingTables
 pub mod Orderly
 pub mod Tails
 pub mod Losers

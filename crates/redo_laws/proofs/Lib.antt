@@ -20,3 +20,4 @@ pub mod RingNumbers
 pub mod LeftNumbers
 pub mod Endings
 pub mod ShortRecords
+pub mod ShortContents

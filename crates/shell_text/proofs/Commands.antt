@@ -8,7 +8,7 @@ use Rattle.std.proofs.lemmas.Bool.{and_parts, and_from, leb-true, le-leb}
 use Rattle.std.proofs.lemmas.Option.{option_and_then_some, same_Some}
 use Rattle.std.proofs.lemmas.Slice.Eq.{bytes_eq-Decides}
 use Rattle.record_model.specs.declared.words.Command.{Command}
-use Rattle.record_model.specs.declared.words.Command.TheVariants.{Begin, Read, Write, Erase, Scan, Commit, Abort, Get, Set, Checkpoint, Cache, Stat, Quit}
+use Rattle.record_model.specs.declared.words.Command.TheVariants.{Begin, Read, Write, Erase, Scan, Commit, Abort, Mark, Back, Get, Set, Checkpoint, Cache, Stat, Quit}
 use Rattle.shell_text.specs.declared.grammar.TheConstants.{COUNT_MAX}
 use Rattle.shell_text.specs.Grammar.{IsNumber, IsSpelled}
 use Rattle.shell_text.specs.Reading.{number_of, value_of, bare_command, command_of_one, command_of_two, scan_of, two_words, three_words, command_in}
@@ -33,13 +33,16 @@ one_spelled name a n c number =
     by_name name (codes "begin") (Begin n) _ c P (λ is. ((λ i. is i ∷ number.1 i ∷ []), (number.0, tt)))
     (by_name name (codes "commit") (Commit n) _ c P (λ is. ((λ i. is i ∷ number.1 i ∷ []), (number.0, tt)))
     (by_name name (codes "abort") (Abort n) _ c P (λ is. ((λ i. is i ∷ number.1 i ∷ []), (number.0, tt)))
-    (by_name name (codes "get") (Get n) _ c P (λ is. ((λ i. is i ∷ number.1 i ∷ []), (number.0, tt))) (λ none. cc none))))
+    (by_name name (codes "mark") (Mark n) _ c P (λ is. ((λ i. is i ∷ number.1 i ∷ []), (number.0, tt)))
+    (by_name name (codes "back") (Back n None) _ c P (λ is. ((λ i. is i ∷ number.1 i ∷ []), (number.0, tt)))
+    (by_name name (codes "get") (Get n) _ c P (λ is. ((λ i. is i ∷ number.1 i ∷ []), (number.0, tt))) (λ none. cc none))))))
 
 numbers_spelled : (name a b : List ℕ) (n m : ℕ) (c : Command) → IsNumber n × (a ≡ decimal n) → IsNumber m × (b ≡ decimal m) → command_of_two name n m ≡ Some c → IsSpelled (name ∷ a ∷ b ∷ []) c
 numbers_spelled name a b n m c first second =
     let P : Command → Type 0 = IsSpelled (name ∷ a ∷ b ∷ []) in
     by_name name (codes "read") (Read n m) _ c P (λ is. ((λ i. is i ∷ first.1 i ∷ second.1 i ∷ []), (first.0, (second.0, tt))))
-    (by_name name (codes "erase") (Erase n m) _ c P (λ is. ((λ i. is i ∷ first.1 i ∷ second.1 i ∷ []), (first.0, (second.0, tt)))) (λ none. cc none))
+    (by_name name (codes "erase") (Erase n m) _ c P (λ is. ((λ i. is i ∷ first.1 i ∷ second.1 i ∷ []), (first.0, (second.0, tt))))
+    (by_name name (codes "back") (Back n (Some m)) _ c P (λ is. ((λ i. is i ∷ first.1 i ∷ second.1 i ∷ []), (first.0, (second.0, tt)))) (λ none. cc none)))
 
 -- a command with a value
 with_value : (make : List ℕ → Command) (o : Option (List ℕ)) (c : Command) → option_map make o ≡ Some c → (value : List ℕ) × (o ≡ Some value) × (make value ≡ c)
@@ -109,6 +112,10 @@ pub command_in-spelled : (words : List (List ℕ)) (c : Command) → IsSpelled w
 command_in-spelled words (Begin n) s = ap command_in s.0 ∙ one_again (codes "begin") n s.1.0
 command_in-spelled words (Commit n) s = ap command_in s.0 ∙ one_again (codes "commit") n s.1.0
 command_in-spelled words (Abort n) s = ap command_in s.0 ∙ one_again (codes "abort") n s.1.0
+command_in-spelled words (Mark n) s = ap command_in s.0 ∙ one_again (codes "mark") n s.1.0
+command_in-spelled words (Back n None) s = ap command_in s.0 ∙ one_again (codes "back") n s.1.0
+command_in-spelled words (Back n (Some m)) s =
+    ap command_in s.0 ∙ two_again (codes "back") (decimal m) n s.1.0 ∙ ap (option_and_then (command_of_two (codes "back") n)) (number_of-decimal m s.1.1.0)
 command_in-spelled words (Get n) s = ap command_in s.0 ∙ one_again (codes "get") n s.1.0
 command_in-spelled words (Read n m) s =
     ap command_in s.0 ∙ two_again (codes "read") (decimal m) n s.1.0 ∙ ap (option_and_then (command_of_two (codes "read") n)) (number_of-decimal m s.1.1.0)

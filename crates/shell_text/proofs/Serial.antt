@@ -14,7 +14,7 @@ use Rattle.record_model.specs.declared.words.Reply.TheVariants as reply
 use Rattle.record_model.specs.State.{State, opened}
 use Rattle.record_model.specs.Step.{is_accepted}
 use Rattle.record_model.specs.Run.{Line, Turn, turn, replies, is_committed, commit_marks, commits_among, after_commits, turns}
-use Rattle.record_model.specs.Serial.{lines_of, is_session, is_begin_line, is_accepted_of, since_begin, committed_by, line_session, transaction, commits_before, table_before}
+use Rattle.record_model.specs.Serial.{lines_of, is_session, is_begin_line, is_accepted_of, since_begin, committed_by, line_session, transaction, commits_before, table_before, opened_alone}
 use Rattle.record_model.specs.Laws.{is_refused}
 use Rattle.record_model.proofs.RefusalLaws.{refusals_are_told}
 use Rattle.record_model.proofs.RunLaws.{IsRun, turns_are_run}
@@ -31,6 +31,7 @@ refused_is_said (reply.Value value) = refl
 refused_is_said reply.Nothing = refl
 refused_is_said (reply.Committed count) = refl
 refused_is_said reply.Aborted = refl
+refused_is_said (reply.Back count) = refl
 refused_is_said reply.Checked = refl
 refused_is_said (reply.Items []) = refl
 refused_is_said (reply.Items (item ∷ items)) = refl
@@ -41,6 +42,7 @@ refused_is_said (reply.Stat stat) = refl
 refused_is_said reply.Bye = refl
 refused_is_said (reply.Busy session) = refl
 refused_is_said (reply.Full used owed cap) = refl
+refused_is_said (reply.PageFull page need) = refl
 refused_is_said (reply.Refused why) = refl
 
 commit_is_said : (r : Reply) → says_committed (reply_text r) ≡ is_committed r
@@ -49,6 +51,7 @@ commit_is_said (reply.Value value) = refl
 commit_is_said reply.Nothing = refl
 commit_is_said (reply.Committed count) = refl
 commit_is_said reply.Aborted = refl
+commit_is_said (reply.Back count) = refl
 commit_is_said reply.Checked = refl
 commit_is_said (reply.Items []) = refl
 commit_is_said (reply.Items (item ∷ items)) = refl
@@ -59,6 +62,7 @@ commit_is_said (reply.Stat stat) = refl
 commit_is_said reply.Bye = refl
 commit_is_said (reply.Busy session) = refl
 commit_is_said (reply.Full used owed cap) = refl
+commit_is_said (reply.PageFull page need) = refl
 commit_is_said (reply.Refused why) = refl
 
 -- Turns of the model.
@@ -165,14 +169,14 @@ serial_is_told table commits made cap lines listings earlier later t e =
           ∙ ap (λ (l : List (List ℕ)). open_text commits ∷ l) (texts_of_are (earlier ++ t ∷ later) ∙ map-append (λ (u : Turn). reply_text u.reply) earlier (t ∷ later));
       commits = commit_is_said t.reply;
       alone = λ committed cap room.
-          let alone = opened (table_before table earlier later t) (commits + commits_before earlier later t) 0 cap in
+          let alone = opened_alone (table_before table earlier later t) (commits + commits_before earlier later t) cap in
           let room' : 4 * length own ≤ cap = subst (λ (n : ℕ). 4 * n ≤ cap) (ap length (sym said) ∙ length_is own) room in
           told_again alone own _ said (serial.alone (sym (commit_is_said t.reply) ∙ committed) cap room');
       so_far = λ n active cap room.
           let since = since_begin n (t ∷ reverse earlier) in
           let said = since_is_said n (t ∷ reverse earlier) (turns_are.0, turns_reverse earlier turns_are.1) in
           let count = commits_among (length earlier + 1) (commit_marks (earlier ++ t ∷ later)) in
-          let alone = opened (after_commits table (earlier ++ t ∷ later) count) (commits + count) 0 cap in
+          let alone = opened_alone (after_commits table (earlier ++ t ∷ later) count) (commits + count) cap in
           let room' : 4 * length since ≤ cap = subst (λ (n : ℕ). 4 * n ≤ cap) (ap length (sym said) ∙ length_is since) room in
           told_again alone since _ said (serial.so_far n active cap room');
       get = λ number line carried.

@@ -1,6 +1,6 @@
 -- Words that have no spaces, joined by spaces, are cut into the same words again.
 use Rattle.std.proofs.Common.{◌≡◌, ℕ, Bool, true, false, List, [], ◌∷◌, ◌++◌, refl, ap, ◌∙◌, arith, inl, inr}
-use Rattle.std.specs.Prelude.{◌==◌, not, if◌then◌else◌, codes, decimal}
+use Rattle.std.specs.Prelude.{◌==◌, not, if◌then◌else◌, codes, decimal, Some, None}
 use Rattle.std.specs.List.{list_all, join_with_byte, onto_first, AllPass}
 use Rattle.std.specs.Str.{all_ascii_digits}
 use Rattle.std.specs.Char.{is_ascii_digit}
@@ -9,7 +9,7 @@ use Rattle.std.proofs.lemmas.List.Elements.{All-head, All-tail}
 use Rattle.hex.specs.Hex.{is_hex_digit}
 use Rattle.hex.proofs.HexLemmas.{decode_of-ok}
 use Rattle.record_model.specs.declared.words.Command.{Command}
-use Rattle.record_model.specs.declared.words.Command.TheVariants.{Begin, Read, Write, Erase, Scan, Commit, Abort, Get, Set, Checkpoint, Cache, Stat, Quit}
+use Rattle.record_model.specs.declared.words.Command.TheVariants.{Begin, Read, Write, Erase, Scan, Commit, Abort, Mark, Back, Get, Set, Checkpoint, Cache, Stat, Quit}
 use Rattle.shell_text.specs.Grammar.{IsNumber, IsHex, IsSpelled}
 use Rattle.shell_text.specs.Reading.{words_of}
 use Rattle.shell_text.proofs.Numbers.{decimal_digits}
@@ -101,6 +101,9 @@ pub spelled_words : (words : List (List ℕ)) (c : Command) → IsSpelled words 
 spelled_words words (Begin n) s = one_number (codes "begin") words n refl s.0 s.1.0
 spelled_words words (Commit n) s = one_number (codes "commit") words n refl s.0 s.1.0
 spelled_words words (Abort n) s = one_number (codes "abort") words n refl s.0 s.1.0
+spelled_words words (Mark n) s = one_number (codes "mark") words n refl s.0 s.1.0
+spelled_words words (Back n None) s = one_number (codes "back") words n refl s.0 s.1.0
+spelled_words words (Back n (Some m)) s = one_more (codes "back") words n (decimal m) refl s.0 s.1.0 (number_has_none m s.1.1.0)
 spelled_words words (Get n) s = one_number (codes "get") words n refl s.0 s.1.0
 spelled_words words (Read n m) s = one_more (codes "read") words n (decimal m) refl s.0 s.1.0 (number_has_none m s.1.1.0)
 spelled_words words (Erase n m) s = one_more (codes "erase") words n (decimal m) refl s.0 s.1.0 (number_has_none m s.1.1.0)

@@ -1,10 +1,11 @@
 -- Which lines are commands.
-use Rattle.std.specs.Prelude.{◌≡◌, ◌⊎◌, ℕ, ◌^◌, ◌<◌, ◌≤◌, List, [], ◌∷◌, ◌++◌, length, map, codes, decimal, Ok}
+use Rattle.std.specs.Prelude.{◌≡◌, ◌⊎◌, ℕ, ◌^◌, ◌<◌, ◌≤◌, List, [], ◌∷◌, ◌++◌, length, map, codes, decimal, Ok, Some}
+use Rattle.std.specs.Prelude.{None}
 use Rattle.std.specs.List.{AllByRecursion, join_with_byte}
 use Rattle.hex.specs.Hex.{decode_of}
 use Rattle.record_model.specs.declared.words.Command.{Command}
 use Rattle.record_model.specs.declared.words.Command.TheVariants.{Begin, Read, Write, Erase, Scan, Commit, Abort, Get}
-use Rattle.record_model.specs.declared.words.Command.TheVariants.{Set, Checkpoint, Cache, Stat, Quit}
+use Rattle.record_model.specs.declared.words.Command.TheVariants.{Mark, Back, Set, Checkpoint, Cache, Stat, Quit}
 use Rattle.shell_text.specs.declared.grammar.TheConstants.{LINE_MAX, COUNT_MAX}
 
 -- A number of a line is below this, so that it has one to nine digits. It is written in decimal, with no leading zero.
@@ -36,6 +37,9 @@ IsSpelled words (Scan session number count) = Says words (codes "scan") (session
     × (count ≤ COUNT_MAX)
 IsSpelled words (Commit session) = Says words (codes "commit") (session ∷ [])
 IsSpelled words (Abort session) = Says words (codes "abort") (session ∷ [])
+IsSpelled words (Mark session) = Says words (codes "mark") (session ∷ [])
+IsSpelled words (Back session None) = Says words (codes "back") (session ∷ [])
+IsSpelled words (Back session (Some standing)) = Says words (codes "back") (session ∷ standing ∷ [])
 IsSpelled words (Get number) = Says words (codes "get") (number ∷ [])
 IsSpelled words (Set number value) = SaysValue words (codes "set") (number ∷ []) value
 IsSpelled words Checkpoint = Says words (codes "checkpoint") []

@@ -8,7 +8,7 @@ use Rattle.std.specs.Str.Parse.{digits_value}
 use Rattle.hex.specs.Hex.{decode_of}
 use Rattle.record_model.specs.declared.words.Command.{Command}
 use Rattle.record_model.specs.declared.words.Command.TheVariants.{Begin, Read, Write, Erase, Scan, Commit, Abort, Get}
-use Rattle.record_model.specs.declared.words.Command.TheVariants.{Set, Checkpoint, Cache, Stat, Quit}
+use Rattle.record_model.specs.declared.words.Command.TheVariants.{Mark, Back, Set, Checkpoint, Cache, Stat, Quit}
 use Rattle.record_model.specs.Run.{Line}
 use Rattle.shell_text.specs.declared.grammar.TheConstants.{LINE_MAX, COUNT_MAX}
 
@@ -42,12 +42,15 @@ abbrev pub command_of_one : List ℕ → ℕ → Option Command
 command_of_one name number = if bytes_eq name (codes "begin") then Some (Begin number)
     else if bytes_eq name (codes "commit") then Some (Commit number)
     else if bytes_eq name (codes "abort") then Some (Abort number)
+    else if bytes_eq name (codes "mark") then Some (Mark number)
+    else if bytes_eq name (codes "back") then Some (Back number None)
     else if bytes_eq name (codes "get") then Some (Get number)
     else None
 
 abbrev pub command_of_two : List ℕ → ℕ → ℕ → Option Command
 command_of_two name session number = if bytes_eq name (codes "read") then Some (Read session number)
     else if bytes_eq name (codes "erase") then Some (Erase session number)
+    else if bytes_eq name (codes "back") then Some (Back session (Some number))
     else None
 
 abbrev pub scan_of : ℕ → ℕ → ℕ → Option Command

@@ -35,15 +35,16 @@ LongestValue =
     ≡ codes "open 0\ncommitted 1\nrefused long\ncommitted 2\nvalue -\nnone\n"
 
 -- Lines that are no commands: none of their words, a leading zero, two spaces, a space at the end, an odd digit, a
--- letter that is no digit, a scan of nothing and of too much, upper case, and a line that is too long.
+-- letter that is no digit, a scan of nothing and of too much, a mark with no session, a back with a number too many,
+-- upper case, and a line that is too long.
 abbrev pub wrong_lines : List (List ℕ)
 wrong_lines =
     [] ∷ codes "get 05" ∷ codes "get  5" ∷ codes "get 5 " ∷ codes "set 5 0" ∷ codes "set 5 0g" ∷ codes "scan 0 0 0"
-    ∷ codes "scan 0 0 65"
+    ∷ codes "scan 0 0 65" ∷ codes "mark" ∷ codes "back 0 0 0"
     ∷ codes "GET 5" ∷ (codes "set 55 " ++ replicate 494 48) ∷ []
 
 abbrev pub WrongLines : Type 0
-WrongLines = told (typed wrong_lines) ≡ codes "open 0\n" ++ concat (replicate 10 (codes "refused line\n"))
+WrongLines = told (typed wrong_lines) ≡ codes "open 0\n" ++ concat (replicate 12 (codes "refused line\n"))
 
 -- a line of 500 octets is none of them, though its value is too long to be kept
 abbrev pub LongestLine : Type 0
@@ -96,3 +97,11 @@ LastAlone =
     (commands_of true (typed (codes "begin 0" ∷ codes "read 0 2" ∷ codes "write 0 2 cc" ∷ codes "read 0 2"
     ∷ codes "scan 0 0 7" ∷ codes "commit 0" ∷ []))) []
     ≡ codes "open 3\nok\nvalue aa\nok\nvalue cc\nitem 2 cc\nitem 5 bb\nend 2\ncommitted 4\n"
+
+-- A session goes back to its mark, and to so many writes as it hasn't, and as it has.
+abbrev pub GoingBack : Type 0
+GoingBack =
+    told (typed (codes "begin 0" ∷ codes "write 0 1 aa" ∷ codes "mark 0" ∷ codes "write 0 1 bb" ∷ codes "write 0 2 cc"
+    ∷ codes "back 0" ∷ codes "read 0 1" ∷ codes "read 0 2" ∷ codes "get 2" ∷ codes "back 0 2" ∷ codes "back 0 0"
+    ∷ codes "commit 0" ∷ codes "get 1" ∷ []))
+    ≡ codes "open 0\nok\nok\nok\nok\nok\nback 2\nvalue aa\nnone\nbusy 0\nrefused mark\nback 1\ncommitted 1\nnone\n"

@@ -8,6 +8,7 @@ use Rattle.record_model.specs.State.{Content, State, opened, content_at, session
 use Rattle.record_model.specs.Step.{found}
 use Rattle.record_model.specs.Run.{Line, Turn, turns, is_committed, commit_marks, commits_among, after_commits}
 use Rattle.record_model.specs.Serial.{is_session, is_begin_line, line_session, commits_before, table_before}
+use Rattle.record_model.specs.Serial.{opened_alone}
 use Rattle.shell_text.specs.Texts.{open_text, reply_text}
 use Rattle.shell_text.specs.Runs.{texts}
 
@@ -59,13 +60,13 @@ abbrev pub texts_of : List Turn → List (List ℕ)
 texts_of run = map (λ t. reply_text t.reply) run
 
 -- A run of the lines of a commit's transaction alone, on the table of the commits before it and with room enough in the
--- log, tells its opening and then, line by line, what they were told among the others.
+-- log and in pages, tells its opening and then, line by line, what they were told among the others.
 abbrev pub ToldAlone : State → List Turn → List Turn → Turn → Type 0
 ToldAlone opening earlier later t =
     let own = told_transaction (exchange t) (map exchange (reverse earlier)) in
     IsTrue (says_committed (reply_text t.reply)) → (cap : ℕ) → 4 * length own ≤ cap →
     let count = opening.commits + commits_before earlier later t in
-    let alone = opened (table_before opening.table earlier later t) count 0 cap in
+    let alone = opened_alone (table_before opening.table earlier later t) count cap in
     texts alone (map line_of_exchange own) [] ≡ open_text alone.commits ∷ map text_of_exchange own
 
 -- what was carried out of a session that is active behind a turn was told so far what it is told alone, on the table of
@@ -77,7 +78,7 @@ ToldSoFar opening earlier later t =
     4 * length own ≤ cap →
     let marks = commit_marks (earlier ++ t ∷ later) in
     let made = commits_among (length earlier + 1) marks in
-    let alone = opened (after_commits opening.table (earlier ++ t ∷ later) made) (opening.commits + made) 0 cap in
+    let alone = opened_alone (after_commits opening.table (earlier ++ t ∷ later) made) (opening.commits + made) cap in
     texts alone (map line_of_exchange own) [] ≡ open_text alone.commits ∷ map text_of_exchange own
 
 -- a get that isn't refused tells what the table of the commits before it has

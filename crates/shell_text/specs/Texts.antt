@@ -3,7 +3,7 @@ use Rattle.std.specs.Prelude.{ℕ, Bool, List, [], ◌∷◌, ◌++◌, length, 
 use Rattle.std.specs.List.{concat}
 use Rattle.hex.specs.Hex.{encode_lower}
 use Rattle.record_model.specs.declared.words.Why.{Why}
-use Rattle.record_model.specs.declared.words.Why.TheVariants.{BadLine, BadSession, NoRecord, TooLong}
+use Rattle.record_model.specs.declared.words.Why.TheVariants.{BadLine, BadSession, NoRecord, TooLong, BadMark}
 use Rattle.record_model.specs.declared.words.Item.{Item}
 use Rattle.record_model.specs.declared.words.Stat.{Stat}
 use Rattle.record_model.specs.declared.words.CacheLine.{CacheLine}
@@ -25,6 +25,7 @@ why_text BadLine = codes "line"
 why_text BadSession = codes "session"
 why_text NoRecord = codes "record"
 why_text TooLong = codes "long"
+why_text BadMark = codes "mark"
 
 abbrev pub stat_text : Stat → List ℕ
 stat_text s =
@@ -55,6 +56,7 @@ reply_lines (reply.Value value) = (codes "value " ++ value_text value ++ codes "
 reply_lines reply.Nothing = codes "none\n" ∷ []
 reply_lines (reply.Committed count) = (codes "committed " ++ decimal count ++ codes "\n") ∷ []
 reply_lines reply.Aborted = codes "aborted\n" ∷ []
+reply_lines (reply.Back count) = (codes "back " ++ decimal count ++ codes "\n") ∷ []
 reply_lines reply.Checked = codes "checkpoint\n" ∷ []
 reply_lines (reply.Items items) = map item_text items ++ end_text (length items) ∷ []
 reply_lines (reply.Listing lines) = map cache_text lines ++ end_text (length lines) ∷ []
@@ -63,6 +65,8 @@ reply_lines reply.Bye = codes "bye\n" ∷ []
 reply_lines (reply.Busy session) = (codes "busy " ++ decimal session ++ codes "\n") ∷ []
 reply_lines (reply.Full used owed cap) =
     (codes "full " ++ decimal used ++ codes " " ++ decimal owed ++ codes " " ++ decimal cap ++ codes "\n") ∷ []
+reply_lines (reply.PageFull page need) =
+    (codes "full page " ++ decimal page ++ codes " " ++ decimal need ++ codes "\n") ∷ []
 reply_lines (reply.Refused why) = (codes "refused " ++ why_text why ++ codes "\n") ∷ []
 
 -- the lines, one after the other

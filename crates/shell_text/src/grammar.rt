@@ -124,6 +124,15 @@ fn command_of_number(name: &[u8], number: u32) -> Option<Command>
     if name == b"abort".as_slice() {
         return Some(Command::Abort { session: number });
     }
+    if name == b"mark".as_slice() {
+        return Some(Command::Mark { session: number });
+    }
+    if name == b"back".as_slice() {
+        return Some(Command::Back {
+            session: number,
+            standing: None,
+        });
+    }
     if name == b"get".as_slice() {
         return Some(Command::Get { number });
     }
@@ -138,6 +147,12 @@ fn command_of_numbers(name: &[u8], session: u32, number: u32) -> Option<Command>
     }
     if name == b"erase".as_slice() {
         return Some(Command::Erase { session, number });
+    }
+    if name == b"back".as_slice() {
+        return Some(Command::Back {
+            session,
+            standing: Some(number),
+        });
     }
     None
 }

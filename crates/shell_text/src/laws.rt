@@ -22,8 +22,8 @@ pub fn lines_are_cut()
 {}
 
 /// What a run tells is in serial order: the texts of each transaction that commits are those that its lines alone are
-/// told, on the table of the commits before its own and with room enough in the log, whatever the interleaving of the
-/// sessions.
+/// told, on the table of the commits before its own and with room enough in the log and in pages, whatever the
+/// interleaving of the sessions.
 /// Which lines these are can be read from the texts. The same holds, at each moment, of what an active session was
 /// told.
 pub fn serial_is_told()

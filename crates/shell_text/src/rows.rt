@@ -1,7 +1,7 @@
 // Runs that were worked out by hand, whose texts are as they should be. The functions do nothing: each states rows as
 // clauses.
 ghost use Rattle.shell_text.specs.Rows.{LongestValue, WrongLines, LongestLine, UpperCaseIsRead, ScanAmongWrites};
-ghost use Rattle.shell_text.specs.Rows.{CacheListed, LastLine, QuitEnds, ThreeSessions, LastAlone};
+ghost use Rattle.shell_text.specs.Rows.{CacheListed, LastLine, QuitEnds, ThreeSessions, LastAlone, GoingBack};
 
 /// Values that are as long as can be, too long, empty, and absent; and hexadecimal digits of both cases.
 pub fn rows_of_values()
@@ -23,8 +23,9 @@ pub fn rows_of_lists()
     ensures cache_listed { CacheListed }
 {}
 
-/// Three sessions that are typed in turns, and one of them alone.
+/// Three sessions that are typed in turns, and one of them alone; and one that goes back.
 pub fn rows_of_sessions()
     ensures three_sessions { ThreeSessions }
     ensures last_alone { LastAlone }
+    ensures going_back { GoingBack }
 {}

@@ -146,6 +146,18 @@ fn full_line(used: u64, owed: u64, cap: u64) -> Line
     line
 }
 
+fn page_full_line(page: u32, need: u32) -> Line
+    ensures { result ≡ codes "full page " ++ decimal page ++ codes " " ++ decimal need ++ codes "\n" }
+{
+    let mut line = Line::new();
+    line.push(b"full page ");
+    line.push_number(u64::from(page));
+    line.push(b" ");
+    line.push_number(u64::from(need));
+    line.push(b"\n");
+    line
+}
+
 fn refused_line(why: Why) -> Line
     ensures { result ≡ codes "refused " ++ why_text why ++ codes "\n" }
 {
@@ -154,6 +166,7 @@ fn refused_line(why: Why) -> Line
         Why::BadSession => plain_line(b"refused session\n"),
         Why::NoRecord => plain_line(b"refused record\n"),
         Why::TooLong => plain_line(b"refused long\n"),
+        Why::BadMark => plain_line(b"refused mark\n"),
     }
 }
 
@@ -186,6 +199,7 @@ pub fn reply_line(reply: &Reply, place: usize) -> Line
         Reply::Nothing => plain_line(b"none\n"),
         Reply::Committed(count) => number_line(b"committed ", *count),
         Reply::Aborted => plain_line(b"aborted\n"),
+        Reply::Back(count) => number_line(b"back ", *count),
         Reply::Checked => plain_line(b"checkpoint\n"),
         Reply::Items(items) => {
             if place == items.len() {
@@ -203,6 +217,7 @@ pub fn reply_line(reply: &Reply, place: usize) -> Line
         Reply::Bye => plain_line(b"bye\n"),
         Reply::Busy(session) => number_line(b"busy ", u64::from(*session)),
         Reply::Full { used, owed, cap } => full_line(*used, *owed, *cap),
+        Reply::PageFull { page, need } => page_full_line(*page, *need),
         Reply::Refused(why) => refused_line(*why),
     }
 }

@@ -46,6 +46,21 @@ fn commands_are_read(rt: HostRuntime) -> Result<(), Fail> {
         read_line(b"set 4 -"),
         Ok(Command::Set { number: 4, value })
     );
+    assert_eq!(rt; read_line(b"mark 7"), Ok(Command::Mark { session: 7 }));
+    assert_eq!(rt;
+        read_line(b"back 7"),
+        Ok(Command::Back {
+            session: 7,
+            standing: None
+        })
+    );
+    assert_eq!(rt;
+        read_line(b"back 7 0"),
+        Ok(Command::Back {
+            session: 7,
+            standing: Some(0)
+        })
+    );
     assert_eq!(rt; read_line(b"quit"), Ok(Command::Quit));
     Ok(())
 }
@@ -62,6 +77,10 @@ fn other_lines_are_refused(rt: HostRuntime) {
         b"scan 0 0 0",
         b"scan 0 0 65",
         b"GET 5",
+        b"mark",
+        b"mark 0 1",
+        b"back 0 01",
+        b"back 0 0 0",
         [b'0'; 501].as_slice(),
     ] {
         assert_eq!(rt; read_line(line), Err(BadLine));
@@ -95,6 +114,22 @@ fn replies_have_their_lines(rt: HostRuntime) -> Result<(), Fail> {
     assert_eq!(rt;
         text_of(rt.alloc(), &reply)?.as_slice(),
         b"stat commits 100 used 3 owed 0 cap 15 active 0\n".as_slice()
+    );
+    let reply = Reply::PageFull {
+        page: 0,
+        need: 4_000,
+    };
+    assert_eq!(rt;
+        text_of(rt.alloc(), &reply)?.as_slice(),
+        b"full page 0 4000\n".as_slice()
+    );
+    assert_eq!(rt;
+        text_of(rt.alloc(), &Reply::Back(6))?.as_slice(),
+        b"back 6\n".as_slice()
+    );
+    assert_eq!(rt;
+        text_of(rt.alloc(), &Reply::Refused(Why::BadMark))?.as_slice(),
+        b"refused mark\n".as_slice()
     );
     let reply = Reply::Refused(Why::TooLong);
     assert_eq!(rt;

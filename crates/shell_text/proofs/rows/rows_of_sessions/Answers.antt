@@ -10,3 +10,7 @@ returns-clause-three_sessions c = refl
 pub returns-clause-last_alone : goal.returns-clause-last_alone
 unfolding digits decode_pairs encode_with
 returns-clause-last_alone c = refl
+
+pub returns-clause-going_back : goal.returns-clause-going_back
+unfolding digits decode_pairs encode_with
+returns-clause-going_back c = refl
