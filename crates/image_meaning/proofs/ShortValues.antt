@@ -22,27 +22,34 @@ use Rattle.flash_cache.specs.Representation.{version_on}
 use Rattle.image_meaning.specs.Meaning.{versions_on}
 use Rattle.image_meaning.proofs.Versions.{length-versions, version_is}
 
+-- no value of a record, of all and of the versions is longer than values may be
+abbrev pub HasShort : Entry → Type 0
+HasShort e = IsShortEntry VALUE_MAX e
+
+abbrev pub HaveShort : List Entry → List Version → Type 0
+HaveShort log pages = AreShort VALUE_MAX log pages
+
 -- Records.
 
 pub content_short : (content : Content) → IsShort content → length_of content ≤ VALUE_MAX
 content_short None short = omega arith
 content_short (Some value) short = short
 
-pub form_short : (lsn : ℕ) (rec : LogRecord) → HasForm rec → IsShortEntry VALUE_MAX (record { lsn = lsn; rec = rec })
+pub form_short : (lsn : ℕ) (rec : LogRecord) → HasForm rec → HasShort (record { lsn = lsn; rec = rec })
 form_short lsn (Update txn prev page slot before after) form = (content_short before form.1, content_short after form.2)
 form_short lsn (Clr txn prev undo_next page slot after) form = (omega arith, content_short after form.1)
 form_short lsn Begin form = (omega arith, omega arith)
 form_short lsn (Commit txn number) form = (omega arith, omega arith)
 form_short lsn (End txn) form = (omega arith, omega arith)
 
-pub entries_short : (lsn : ℕ) (records : List LogRecord) → AllByRecursion HasForm records → AllByRecursion (IsShortEntry VALUE_MAX) (entries_from lsn records)
+pub entries_short : (lsn : ℕ) (records : List LogRecord) → AllByRecursion HasForm records → AllByRecursion HasShort (entries_from lsn records)
 entries_short lsn [] form = tt
 entries_short lsn (rec ∷ records) form = (form_short lsn rec form.0, entries_short (lsn + length (spelling rec)) records form.1)
 
-pub log_short : (number : ℕ) (blocks : List (List LogRecord)) → AllByRecursion AreBlock blocks → AllByRecursion (IsShortEntry VALUE_MAX) (log_from number blocks)
+pub log_short : (number : ℕ) (blocks : List (List LogRecord)) → AllByRecursion AreBlock blocks → AllByRecursion HasShort (log_from number blocks)
 log_short number [] are = tt
 log_short number (records ∷ blocks) are =
-    all_append (IsShortEntry VALUE_MAX) (entries_from (512 * number + 2) records) (log_from (number + 1) blocks) (entries_short (512 * number + 2) records are.0.have_form) (log_short (number + 1) blocks are.1)
+    all_append HasShort (entries_from (512 * number + 2) records) (log_from (number + 1) blocks) (entries_short (512 * number + 2) records are.0.have_form) (log_short (number + 1) blocks are.1)
 
 -- Versions.
 
@@ -63,13 +70,13 @@ slots_short g image sound number within =
 
 -- Both.
 
-pub image_short : (g : Geometry) (image : Image) (log : List Entry) → ((number : ℕ) → number < g.pages → page.IsSound (version_on g image number)) → AllByRecursion (IsShortEntry VALUE_MAX) log → AreShort VALUE_MAX log (versions_on g image)
+pub image_short : (g : Geometry) (image : Image) (log : List Entry) → ((number : ℕ) → number < g.pages → page.IsSound (version_on g image number)) → AllByRecursion HasShort log → HaveShort log (versions_on g image)
 image_short g image log sound short = record { written = short; slots = slots_short g image sound }
 
 -- behind a record with values as short as values are
-pub room_by_lengths : (log : List Entry) (e : Entry) (pages : List Version) (page : ℕ) → AreShort VALUE_MAX log pages → IsShortEntry VALUE_MAX e → page < length pages → HasOpenRoom (log ++ e ∷ []) pages page
+pub room_by_lengths : (log : List Entry) (e : Entry) (pages : List Version) (page : ℕ) → HaveShort log pages → HasShort e → page < length pages → HasOpenRoom (log ++ e ∷ []) pages page
 room_by_lengths log e pages page short one exists =
-    short_open VALUE_MAX (log ++ e ∷ []) pages page (omega arith) (record { written = all_push (IsShortEntry VALUE_MAX) log e short.written one; slots = short.slots }) exists
+    short_open VALUE_MAX (log ++ e ∷ []) pages page (omega arith) (record { written = all_push HasShort log e short.written one; slots = short.slots }) exists
 
-pub rooms_by_lengths : (p : LogicalImage) → AreShort VALUE_MAX p.log p.pages → (page : ℕ) → page < length p.pages → HasRoomInPage p page
+pub rooms_by_lengths : (p : LogicalImage) → HaveShort p.log p.pages → (page : ℕ) → page < length p.pages → HasRoomInPage p page
 rooms_by_lengths p short page exists = short_rooms VALUE_MAX p page (omega arith) short exists
