@@ -32,7 +32,6 @@ use Rattle.image_form.specs.Verdict.{Reading, Reads, HoldBefore, logical_image_o
 use Rattle.image_check.specs.Laws.{SoundStands, StandingIsSound, JudgedStands, StandingIsJudged}
 use Rattle.image_form.proofs.LiveUnits.{all_live, each_live}
 use Rattle.image_form.proofs.BlockLists.{one_block, log_in_table, blocks_on_pages, log_in_order}
-use Rattle.image_meaning.proofs.ShortValues.{image_short, log_short, rooms_by_lengths}
 use Rattle.image_meaning.proofs.Versions.{length-versions}
 
 -- Groups.
@@ -112,7 +111,7 @@ logical_image_with g m image blocks hi = record {
 
 -- By the rules.
 
-module _ (r : Reading) (image : Image) (reads : Reads r image) (rules : HoldBefore 12 r image) where
+module _ (r : Reading) (image : Image) (reads : Reads r image) (rules : HoldBefore 13 r image) where
   formed : IsFormed r.g r.master image
   formed = reads.formed
 
@@ -138,8 +137,7 @@ module _ (r : Reading) (image : Image) (reads : Reads r image) (rules : HoldBefo
         room_for_undo = (rules 9 (omega arith)).ninth refl;
         master_names_the_active = (rules 10 (omega arith)).tenth refl;
         commits = (rules 11 (omega arith)).eleventh refl;
-        -- values are so short that each page has room for any 32 of them
-        room_in_pages = rooms_by_lengths (logical_image_of r image) (image_short r.g image (log_from r.master.kept r.blocks) formed.versions (log_short r.master.kept r.blocks reads.blocks.are_blocks));
+        room_in_pages = (rules 12 (omega arith)).twelfth refl;
       }
 
   groups_sound : meaning.AreGroups r.g image
@@ -267,6 +265,7 @@ standing_is_sound g image table commits stands =
         ninth = λ is. records.room_for_undo;
         tenth = λ is. records.master_names_the_active;
         eleventh = λ is. records.commits;
+        twelfth = λ is. records.room_in_pages;
       };
       means = subst (λ (p : LogicalImage). Means p table commits) same stands.stands.means;
     }
