@@ -10,11 +10,11 @@ use Rattle.record_model.specs.State.{Content, content_at, length_of}
 use Rattle.log_records.specs.declared.log_record.LogRecord.{LogRecord}
 use Rattle.log_records.specs.declared.log_record.LogRecord.TheVariants.{Begin, Update, Clr, Commit, End}
 use Rattle.log_records.specs.Spelling.{spelling, AreBlock, HasForm, IsShort}
-use Rattle.log_records.specs.Log.{Entry, Version, entries_from, log_from, slot_at, version_at}
+use Rattle.log_records.specs.Log.{Entry, Version, entries_from, log_from, is_on, shown, slot_at}
 use Rattle.log_records.specs.Room.{HasOpenRoom}
 use Rattle.log_records.specs.Sound.{LogicalImage, HasRoomInPage}
 use Rattle.log_records.proofs.Values.{page_and_slot}
-use Rattle.log_laws.proofs.Lengths.{AreShort, IsShortEntry, short_open, short_rooms}
+use Rattle.log_laws.proofs.Lengths.{AreShort, IsShortEntry, short_open, short_rooms, shown_short}
 use Rattle.slotted_page.specs.Layout as page
 use Rattle.slotted_page.proofs.Lengths.{short_content}
 use Rattle.slotted_page.proofs.Slots.{get_or-slots_of}
@@ -80,3 +80,14 @@ room_by_lengths log e pages page short one exists =
 
 pub rooms_by_lengths : (p : LogicalImage) → HaveShort p.log p.pages → (page : ℕ) → page < length p.pages → HasRoomInPage p page
 rooms_by_lengths p short page exists = short_rooms VALUE_MAX p page (omega arith) short exists
+
+-- an Update of what a record shows has room
+pub update_room : (log : List Entry) (pages : List Version) (lsn t prev number : ℕ) (after : Content) → HaveShort log pages → IsShort after → number < 32 * length pages →
+    HasOpenRoom (log ++ record { lsn = lsn; rec = Update t prev (number / 32) (number % 32) (shown log pages number) after } ∷ []) pages ((32 * (number / 32) + number % 32) / 32)
+update_room log pages lsn t prev number after short fitting exists =
+    room_by_lengths log (record { lsn = lsn; rec = Update t prev (number / 32) (number % 32) (shown log pages number) after }) pages ((32 * (number / 32) + number % 32) / 32) short
+    (shown_short VALUE_MAX log pages number (is_on number) short exists, content_short after fitting) (omega (arith, exists, page_and_slot number))
+
+-- behind a Begin too
+pub begun_short : (log : List Entry) (pages : List Version) (lsn : ℕ) → HaveShort log pages → HaveShort (log ++ record { lsn = lsn; rec = Begin } ∷ []) pages
+begun_short log pages lsn short = record { written = all_push HasShort log (record { lsn = lsn; rec = Begin }) short.written (form_short lsn Begin tt); slots = short.slots }
