@@ -1,12 +1,12 @@
 -- Pages have room where values are so short that any 32 of them have.
-use Rattle.std.proofs.Common.{ℕ, ◌+◌, ◌*◌, ◌<◌, ◌≤◌, ◌≡◌, refl, List, [], ◌∷◌, length, Some, None, arith}
+use Rattle.std.proofs.Common.{ℕ, ◌+◌, ◌*◌, ◌<◌, ◌≤◌, ◌≡◌, refl, List, length, Some, None, arith}
 use Rattle.std.specs.Prelude.{Option}
 use Rattle.std.specs.List.{AllByRecursion}
 use Rattle.std_lemmas.proofs.AllOf.{all_weaker}
-use Rattle.record_model.specs.State.{Content, length_of, page_room}
-use Rattle.log_records.specs.Log.{Entry, Version, version_at, slot_at, is_on, before_of, after_of, shown, shown_by, last_on, last_where}
-use Rattle.log_records.specs.Room.{open_length, total_on, HasOpenRoom}
-use Rattle.log_records.specs.Sound.{LogicalImage, HasRoomInPage, last_known, redone}
+use Rattle.record_model.specs.State.{length_of, page_room}
+use Rattle.log_records.specs.Log.{Entry, Version, slot_at, is_on, before_of, after_of, shown_by, last_where}
+use Rattle.log_records.specs.Room.{open_length, HasOpenRoom}
+use Rattle.log_records.specs.Sound.{LogicalImage, HasRoomInPage, redone}
 use Rattle.log_laws.proofs.Losers.{left_keep}
 use Rattle.log_laws.proofs.Rooms.{IsNoLonger, total_few, within_is_room}
 use Rattle.log_records.proofs.Lists.{all_last}

@@ -14,7 +14,7 @@ use Rattle.std_lemmas.proofs.Lists.{map_same, filter_all}
 use Rattle.record_model.specs.State.{Content, content_at, length_of}
 use Rattle.log_records.specs.Log.{Entry, Version, version_at, slot_at, txn_of, is_of, is_on, is_loser, is_closed, is_closing, entries_of, updates_in, last_where, last_on, first_update, number_of, before_first, before_of, after_of, value_after, value_of, shown}
 use Rattle.log_records.specs.Unfinished.{is_begin, left_open, losers, open_updates, owed}
-use Rattle.log_records.specs.Room.{longest, open_length, put_back, total_on}
+use Rattle.log_records.specs.Room.{longest, open_length, put_back}
 use Rattle.log_records.specs.Sound.{LogicalImage, IsSound, Means, InTurn, IsOfOpenTransaction, IsOrderly, AreOrderly, IsLoserChain, Pairwise, HoldsOff, FitsLog, ShowsLast, IsInTable, HasRoomInPage, before_block, from_block, last_known, redone, active_in, commit_number, commit_numbers, commit_count}
 use Rattle.log_laws.specs.NewImage.{with_master, MayCheckpoint}
 use Rattle.log_laws.proofs.Lists.{all_find, any_find, find_passes, last_passes}

@@ -1,19 +1,19 @@
 -- Room in pages, as records are put behind a log.
 use Rattle.std.proofs.lemmas.Grind.{common_steps}
-use Rattle.std.proofs.Common.{◌≡◌, ◌⊎◌, inl, inr, ⊎_elim, ℕ, suc, zero, ◌+◌, ◌-◌, ◌*◌, ◌/◌, ◌<◌, ◌≤◌, Bool, true, false, cond, not, ◌&&◌, List, [], ◌∷◌, ◌++◌, length, map, Some, None, refl, sym, ap, subst, ◌∙◌, append_assoc, append-nil, arith}
+use Rattle.std.proofs.Common.{◌≡◌, inl, inr, ℕ, suc, zero, ◌+◌, ◌-◌, ◌*◌, ◌/◌, ◌<◌, ◌≤◌, Bool, true, false, cond, not, ◌&&◌, List, [], ◌∷◌, ◌++◌, map, Some, None, refl, sym, ap, subst, ◌∙◌, append_assoc, append-nil, arith}
 use Rattle.std.specs.Option.{option_or}
-use Rattle.std.specs.Prelude.{Option, IsTrue, filter, flat_map, max, sum_by, ◌==◌, nat_le}
+use Rattle.std.specs.Prelude.{Option, IsTrue, filter, flat_map, sum_by, ◌==◌, nat_le}
 use Rattle.std.specs.List.{AllByRecursion, range_with_len, list_any}
 use Rattle.std.proofs.Math.Nat.{max-le, le-max_left, le-max_right}
 use Rattle.std.proofs.lemmas.List.Sums.{sum_by-cons}
-use Rattle.std.proofs.lemmas.Bool.{cases_Bool, cases_lt, and_from, and_parts, and_left, and_right, eqb-true, eq-eqb, le-leb, lt-leb, not_from_false, or_left, or_right}
+use Rattle.std.proofs.lemmas.Bool.{cases_Bool, cases_lt, and_from, and_parts, and_right, eqb-true, eq-eqb, le-leb, lt-leb, not_from_false, or_left, or_right}
 use Rattle.std.proofs.lemmas.List.Folds.{list_any-append}
-use Rattle.std_lemmas.proofs.AllOf.{all_append, all_drop, all_filter, all_left, all_map, all_passed, all_push, all_right, all_weaker}
+use Rattle.std_lemmas.proofs.AllOf.{all_append, all_drop, all_filter, all_left, all_map, all_push, all_right, all_weaker}
 use Rattle.record_model.specs.State.{Content, length_of, page_room}
 use Rattle.log_records.specs.declared.log_record.LogRecord.{LogRecord}
 use Rattle.log_records.specs.declared.log_record.LogRecord.TheVariants.{Begin, Update, Clr, Commit, End}
-use Rattle.log_records.specs.Log.{Entry, Version, txn_of, is_of, is_on, number_of, is_update, is_closing, is_closed, is_loser, entries_of, before_of, after_of, shown, version_at}
-use Rattle.log_records.specs.Unfinished.{is_begin, is_clr, losers, left_open, open_by, open_updates}
+use Rattle.log_records.specs.Log.{Entry, Version, txn_of, is_of, is_on, is_update, is_closing, is_closed, is_loser, entries_of, before_of, after_of, shown, version_at}
+use Rattle.log_records.specs.Unfinished.{is_begin, losers, left_open, open_by, open_updates}
 use Rattle.log_records.specs.Room.{longest, open_length, put_back, total_on, HasOpenRoom}
 use Rattle.log_records.specs.Log.{slot_at, shown_by, last_on}
 use Rattle.log_records.specs.Sound.{Master, LogicalImage, InTurn, IsInOrder, IsLoserChain, Continues, ShowsLast, Undoes, HasRoomInPage, last_known}
@@ -23,7 +23,7 @@ use Rattle.log_laws.proofs.Appends.{begins, entries_push}
 use Rattle.log_laws.proofs.Follow.{undoable_behind}
 use Rattle.log_laws.proofs.Owing.{left_push}
 use Rattle.log_laws.proofs.Shown.{shown_push}
-use Rattle.log_laws.proofs.Values.{with, closed_same, is_number-Some, open_before}
+use Rattle.log_laws.proofs.Values.{with, closed_same, open_before}
 use Rattle.log_records.proofs.Entries.{in_order_left}
 use Rattle.log_records.proofs.Lists.{last_where-append}
 
