@@ -30,6 +30,7 @@ concerns_more newest txn before now e own concerns = record {
   under_way = λ t last writes differ active. active_stays (master_of newest) now e t last writes (concerns.under_way t last writes differ active) (ne_eqb (txn_of e) t (λ same. differ (sym same ∙ own)));
   losers = λ t differ. loser_stays now e t (ne_eqb (txn_of e) t (λ same. differ (sym same ∙ own))) ∙ concerns.losers t differ;
   left = λ t differ. ap (open_updates []) (entries_other now e t (ne_eqb (txn_of e) t (λ same. differ (sym same ∙ own)))) ∙ concerns.left t differ;
+  entries = λ t differ. entries_other now e t (ne_eqb (txn_of e) t (λ same. differ (sym same ∙ own))) ∙ concerns.entries t differ;
 }
 
 -- so are its CLRs
@@ -56,7 +57,7 @@ rolls_back store last old new newest records table commits begin at writes made 
     let e : Entry = record { lsn = u.lsn; rec = End begin } in
     record {
       log = (records ++ u.clrs) ++ e ∷ [];
-      concerns = concerns_more newest begin records (records ++ u.clrs) e refl (concerns_clrs newest begin records records u.clrs u.own (record { under_way = λ t last writes differ active. active; losers = λ t differ. refl; left = λ t differ. refl }));
+      concerns = concerns_more newest begin records (records ++ u.clrs) e refl (concerns_clrs newest begin records records u.clrs u.own (record { under_way = λ t last writes differ active. active; losers = λ t differ. refl; left = λ t differ. refl; entries = λ t differ. refl }));
       holds = record { both = u.holds; orderly = u.orderly h.orderly; masters = masters };
       closed = u.closed;
       owes = omega (arith, u.owes, u.count, unfinished.remaining_is, many);
