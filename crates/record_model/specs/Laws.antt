@@ -1,6 +1,6 @@
 -- What follows from the model, for those who build on it.
-use Rattle.std.specs.Prelude.{◌≡◌, ℕ, ◌+◌, ◌<◌, ◌≤◌, ◌==◌, Bool, true, false, not, List, length, take, slice_get, slice_index_or, sum_by}
-use Rattle.std.specs.Prelude.{Option, Some, None, IsTrue}
+use Rattle.std.specs.Prelude.{◌≡◌, ℕ, ◌+◌, ◌<◌, ◌≤◌, ◌==◌, Bool, true, false, not, List, length, take, slice_get}
+use Rattle.std.specs.Prelude.{slice_index_or, sum_by, Option, Some, None, IsTrue}
 use Rattle.std.specs.List.{list_any}
 use Rattle.record_model.specs.declared.words.Command.{Command}
 use Rattle.record_model.specs.declared.words.CacheLine.{CacheLine}
@@ -81,7 +81,8 @@ TableFits = (s : State) (page : ℕ) → PagesFit s →
     sum_by (λ number. length_of (content_at s.table number)) (records_of page) ≤ page_room
 
 abbrev pub SeenFits : Type 0
-SeenFits = (s : State) (n page : ℕ) → PagesFit s → sum_by (λ number. length_of (seen s n number)) (records_of page) ≤ page_room
+SeenFits = (s : State) (n page : ℕ) → PagesFit s →
+    sum_by (λ number. length_of (seen s n number)) (records_of page) ≤ page_room
 
 -- where no line quits, each line has its turn
 abbrev pub EachLineHasATurn : Type 0
