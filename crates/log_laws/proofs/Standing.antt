@@ -1,10 +1,10 @@
 -- The writes of a transaction that stand, as lists.
-use Rattle.std.proofs.Common.{◌≡◌, ℕ, suc, zero, ◌-◌, Bool, true, false, cond, List, [], ◌∷◌, ◌++◌, length, take, drop, Some, None, refl, sym, ap, ◌∙◌, arith}
+use Rattle.std.proofs.Common.{◌≡◌, ◌≤◌, ℕ, suc, zero, ◌-◌, Bool, true, false, cond, List, [], ◌∷◌, ◌++◌, length, take, drop, Some, None, refl, sym, ap, ◌∙◌, arith}
 use Rattle.std.specs.Prelude.{option_map, filter_map, find, reverse}
 use Rattle.std.specs.List.{AllByRecursion}
 use Rattle.std.specs.Option.{option_or}
-use Rattle.std.proofs.lemmas.List.{length-append, reverse-append, take-append-le}
-use Rattle.std.proofs.Math.Seq.{take-length}
+use Rattle.std.proofs.lemmas.List.{length-append, length-drop, reverse-append, take-append-le, take-append-drop}
+use Rattle.std.proofs.Math.Seq.{take-length, drop-append_seam}
 use Rattle.std.proofs.lemmas.List.Elements.{filter_map-append}
 use Rattle.std_lemmas.proofs.AllOf.{all_drop}
 use Rattle.record_model.specs.State.{Write, last_write}
@@ -24,7 +24,7 @@ writes_of us = filter_map (λ e. write_of e.rec) (reverse us)
 pub writes_more : (u : Entry) (us : List Entry) → writes_of (u ∷ us) ≡ writes_of us ++ filter_map (λ e. write_of e.rec) (u ∷ [])
 writes_more u us = ap (filter_map (λ e. write_of e.rec)) (reverse-append (u ∷ []) us) ∙ filter_map-append (λ e. write_of e.rec) (reverse us) (u ∷ [])
 
-abbrev AreUpdates : List Entry → Type 0
+abbrev pub AreUpdates : List Entry → Type 0
 AreUpdates us = AllByRecursion (λ u. is_update u.rec ≡ true) us
 
 one_write : (u : Entry) → is_update u.rec ≡ true → length (filter_map (λ e. write_of e.rec) (u ∷ [])) ≡ 1
@@ -49,6 +49,19 @@ writes_dropped (suc count) (u ∷ us) all =
     writes_dropped count us all.1 ∙ ap (λ n. take n (writes_of us)) fewer
     ∙ sym (ap (take (suc (length us) - suc count)) (writes_more u us)
     ∙ take-append-le (suc (length us) - suc count) (writes_of us) (filter_map (λ e. write_of e.rec) (u ∷ [])) (omega (arith, writes_count us all.1)))
+
+-- and these
+writes_split : (count : ℕ) (us : List Entry) → writes_of us ≡ writes_of (drop count us) ++ writes_of (take count us)
+writes_split count us =
+    ap writes_of (sym (take-append-drop count us)) ∙ ap (filter_map (λ e. write_of e.rec)) (reverse-append (take count us) (drop count us))
+    ∙ filter_map-append (λ e. write_of e.rec) (reverse (drop count us)) (reverse (take count us))
+
+writes_taken : (count : ℕ) (us : List Entry) → AreUpdates us → writes_of (take count us) ≡ drop (length us - count) (writes_of us)
+writes_taken count us all =
+    let front = writes_count (drop count us) (all_drop (λ u. is_update u.rec ≡ true) count us all) in
+    let same : length us - count ≡ length (writes_of (drop count us)) = omega (arith, front, length-drop count us) in
+    sym (ap (drop (length us - count)) (writes_split count us) ∙ ap (λ n. drop n (writes_of (drop count us) ++ writes_of (take count us))) same
+    ∙ drop-append_seam (writes_of (drop count us)) (writes_of (take count us)))
 
 -- the last of them on a number
 last_reverse : (test : Entry → Bool) (us : List Entry) → last_where test (reverse us) ≡ find test us
@@ -75,7 +88,7 @@ open_are_updates us (e ∷ entries) all = by e.rec refl (λ vs are. open_are_upd
     by (Commit txn number) is f = f us all
     by (End txn) is f = f us all
 
-left_are_updates : (log : List Entry) (t : ℕ) → AreUpdates (left_open log t)
+pub left_are_updates : (log : List Entry) (t : ℕ) → AreUpdates (left_open log t)
 left_are_updates log t = open_are_updates [] (entries_of t log) tt
 
 pub standing_count : (log : List Entry) (t : ℕ) → length (standing_in t log) ≡ length (left_open log t)
@@ -85,3 +98,9 @@ standing_count log t = writes_count (left_open log t) (left_are_updates log t)
 pub standing_dropped : (log log' : List Entry) (t count : ℕ) → left_open log' t ≡ drop count (left_open log t) → standing_in t log' ≡ take (length (standing_in t log) - count) (standing_in t log)
 standing_dropped log log' t count left =
     ap writes_of left ∙ writes_dropped count (left_open log t) (left_are_updates log t) ∙ ap (λ n. take (n - count) (standing_in t log)) (sym (standing_count log t))
+
+-- and the last ones are those of the first Updates that are left
+pub standing_taken : (log : List Entry) (t count : ℕ) (writes : List Write) → writes ≡ standing_in t log → count ≤ length writes → writes_of (take count (left_open log t)) ≡ drop (length writes - count) writes
+standing_taken log t count writes are few =
+    writes_taken count (left_open log t) (left_are_updates log t)
+    ∙ ap (λ n. drop (n - count) (standing_in t log)) (sym (standing_count log t)) ∙ ap (λ (w : List Write). drop (length w - count) w) (sym are)

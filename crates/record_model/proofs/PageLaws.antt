@@ -101,7 +101,7 @@ last_within (write ∷ writes) r m content h k =
     by true e = e
     by false e = h
 
-set_or : {A : Type 0} (xs : List A) (n : ℕ) (v d : A) (k : ℕ) → ((slice_index_or (slice_set xs n v) k d ≡ v) × (n ≡ k)) ⊎ (slice_index_or (slice_set xs n v) k d ≡ slice_index_or xs k d)
+pub set_or : {A : Type 0} (xs : List A) (n : ℕ) (v d : A) (k : ℕ) → ((slice_index_or (slice_set xs n v) k d ≡ v) × (n ≡ k)) ⊎ (slice_index_or (slice_set xs n v) k d ≡ slice_index_or xs k d)
 set_or [] n v d k = inr refl
 set_or (x ∷ xs) zero v d zero = inl (refl, refl)
 set_or (x ∷ xs) zero v d (suc k) = inr refl
