@@ -29,10 +29,6 @@ use Rattle.log_records.proofs.Lists.{last_where-append}
 
 -- Totals.
 
-all_in : (P : ℕ → Type 0) (a n : ℕ) → ((i : ℕ) → a ≤ i → i < a + n → P i) → AllByRecursion P (range_with_len a n)
-all_in P a zero each = tt
-all_in P a (suc n) each = (each a (omega arith) (omega arith), all_in P (a + 1) n (λ i low high. each i (omega (arith, low)) (omega (arith, high))))
-
 sum_in : (f g : ℕ → ℕ) (a n : ℕ) → ((i : ℕ) → a ≤ i → i < a + n → f i ≤ g i) → sum_by f (range_with_len a n) ≤ sum_by g (range_with_len a n)
 sum_in f g a zero each = omega arith
 sum_in f g a (suc n) each =
