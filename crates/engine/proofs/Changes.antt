@@ -47,7 +47,7 @@ wrote_more newest records old new s n lsn page slot entry before after are small
             born = under.born;
             count = omega (arith, under.count, length-append session.writes (write ∷ []));
             mark = under.mark;
-            wrote = ap (λ (l : List ℕ). l ++ 32 * page + slot ∷ []) under.wrote ∙ sym (ap updated (entries_own records e entry.begin (eq-eqb entry.begin entry.begin refl)) ∙ updated_more (entries_of entry.begin records) e);
+            wrote = ap (λ (l : List ℕ). l ++ (32 * page + slot) ∷ []) under.wrote ∙ sym (ap updated (entries_own records e entry.begin (eq-eqb entry.begin entry.begin refl)) ∙ updated_more (entries_of entry.begin records) e);
           }))))
           (λ differ. subst (λ (a : Option Active). SessionIs newest s.kept (records ++ e ∷ []) a (slice_index_or (slice_set s.sessions n now) m None)) (sym (changes.others m differ))
           (subst (λ (o : Option Session). SessionIs newest s.kept (records ++ e ∷ []) (entry_of old m) o) (sym (get_or-set_other s.sessions n m now None differ))

@@ -6,7 +6,7 @@ use Rattle.record_model.specs.Step.{effect, with_session}
 use Rattle.record_model.specs.declared.words.Command.TheVariants as command
 use Rattle.log_records.specs.Log.{Entry}
 use Rattle.log_records.specs.declared.log_record.LogRecord.TheVariants.{Commit}
-use Rattle.log_laws.specs.Follow.{writes_in}
+use Rattle.log_laws.specs.Follow.{standing_in, writes_in}
 use Rattle.log_laws.proofs.StandingTables.{table_stands}
 use Rattle.image_meaning.specs.Meaning.{versions_on}
 use Rattle.lock_table.specs.declared.lock.Lock.{Lock}
@@ -41,7 +41,7 @@ writes_are engine site s entry fits at =
     let found = some_active fits.newest fits.records engine.active s fits.sessions entry.session entry at in
     let active = found.under_way.is_active in
     let versions = versions_on (sizes_of engine.store) site.image in
-    stands_for (table_is engine.store site fits.newest fits.records s.table s.commits fits.holds) (table_stands fits.records versions entry.begin (undoable engine.store site fits.newest fits.records s.table s.commits fits.holds) active.lives.not_closed active.chain)
+    stands_for (writes_in entry.begin fits.records) (standing_in entry.begin fits.records) (table_is engine.store site fits.newest fits.records s.table s.commits fits.holds) (table_stands fits.records versions entry.begin (undoable engine.store site fits.newest fits.records s.table s.commits fits.holds) active.lives.not_closed active.chain)
     ∙ ap (table_with s.table) (sym (ap writes_of found.is ∙ active.writes_are))
 
 pub commits_either : (engine : Engine) {old : Site} (s : State) (entry : Active) (fits : Matches engine old s) → entry_of engine.active entry.session ≡ Some entry → (snapshot : Snapshot) →

@@ -57,8 +57,8 @@ table_is store site newest records table commits h =
     ∙ ap (λ (l : List Entry). table_of l (versions_on (sizes_of store) site.image)) log.runs_on.records_are
 
 -- so two lists of writes leave the same of both
-pub stands_for : {table other : List Content} {first later : List Write} → table ≡ other → table_with other first ≡ table_with other later → table_with table first ≡ table_with table later
-stands_for {first = first} {later = later} same is = ap (λ (t : List Content). table_with t first) same ∙ is ∙ ap (λ (t : List Content). table_with t later) (sym same)
+pub stands_for : {table other : List Content} (first later : List Write) → table ≡ other → table_with other first ≡ table_with other later → table_with table first ≡ table_with table later
+stands_for first later same is = ap (λ (t : List Content). table_with t first) same ∙ is ∙ ap (λ (t : List Content). table_with t later) (sym same)
 
 pub undoable : (store : TransactionStore) (site : Site) (newest : Option Master) (records : List Entry) (table : List Content) (commits : ℕ) (h : Represents store site newest records table commits) → IsUndoable records
 undoable store site newest records table commits h =

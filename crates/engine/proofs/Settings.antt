@@ -169,7 +169,7 @@ pub sets_one : {store : TransactionStore} {site : Site} {newest : Option Master}
     table_with table (writes_in txn w.log) ≡ table_with table ((number, after) ∷ [])
 sets_one {store = store} {site = site} {newest = newest} {table = table} {commits = commits} {txn = txn} w =
     let versions = versions_on (sizes_of store) site.image in
-    stands_for (table_is store site newest w.log table commits w.holds) (table_stands w.log versions txn (undoable store site newest w.log table commits w.holds) w.active.lives.not_closed w.active.chain)
+    stands_for (writes_in txn w.log) (follow.standing_in txn w.log) (table_is store site newest w.log table commits w.holds) (table_stands w.log versions txn (undoable store site newest w.log table commits w.holds) w.active.lives.not_closed w.active.chain)
     ∙ ap (table_with table) (sym w.active.writes_are)
 
 -- It is committed.

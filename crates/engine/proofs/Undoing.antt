@@ -47,28 +47,25 @@ writes_join : (later earlier : List Entry) → standing.writes_of (later ++ earl
 writes_join later earlier =
     ap (filter_map (λ (e : Entry). write_of e.rec)) (reverse-append later earlier) ∙ filter_map-append (λ (e : Entry). write_of e.rec) (reverse earlier) (reverse later)
 
+abbrev one_write : Entry → Option ℕ → List Write
+one_write u o = cons_option (option_map (λ n. (n, after_of u.rec)) o) []
+
 -- the last ones of them are taken back
 taken_back : (table : List Content) (later earlier : List Entry) → StoodThere table (later ++ earlier) → flat_map clr_work later ≡ goes_back table (standing.writes_of earlier) (standing.writes_of later)
 taken_back table [] earlier there = refl
 taken_back table (u ∷ later) earlier there = by (number_of u.rec) refl (taken_back table later earlier there.1)
   where
-    abbrev before : List Write
-    before = standing.writes_of earlier
+    with_one : (o : Option ℕ) → number_of u.rec ≡ o → standing.writes_of (u ∷ later) ≡ standing.writes_of later ++ one_write u o
+    with_one o on = writes_more u later ∙ ap (λ (x : Option ℕ). standing.writes_of later ++ one_write u x) on
 
-    abbrev one : Option ℕ → List Write
-    one o = cons_option (option_map (λ n. (n, after_of u.rec)) o) []
-
-    with_one : (o : Option ℕ) → number_of u.rec ≡ o → standing.writes_of (u ∷ later) ≡ standing.writes_of later ++ one o
-    with_one o on = writes_more u later ∙ ap (λ (x : Option ℕ). standing.writes_of later ++ one x) on
-
-    by : (o : Option ℕ) → number_of u.rec ≡ o → flat_map clr_work later ≡ goes_back table before (standing.writes_of later) → clr_on (before_of u.rec) o ++ flat_map clr_work later ≡ goes_back table before (standing.writes_of (u ∷ later))
-    by None on rest = rest ∙ ap (goes_back table before) (sym (with_one None on ∙ append-nil (standing.writes_of later)))
+    by : (o : Option ℕ) → number_of u.rec ≡ o → flat_map clr_work later ≡ goes_back table (standing.writes_of earlier) (standing.writes_of later) → clr_on (before_of u.rec) o ++ flat_map clr_work later ≡ goes_back table (standing.writes_of earlier) (standing.writes_of (u ∷ later))
+    by None on rest = rest ∙ ap (goes_back table (standing.writes_of earlier)) (sym (with_one None on ∙ append-nil (standing.writes_of later)))
     by (Some n) on rest =
         ap (λ (b : Content). takes_back (n, b) ++ flat_map clr_work later) (there.0 n on ∙ ap (λ (l : List Write). stands_at table l n) (writes_join later earlier))
-        ∙ ap (λ (w : List RingOp). takes_back (n, stands_at table (before ++ standing.writes_of later) n) ++ w) rest
-        ∙ sym (ap (goes_back table before) (with_one (Some n) on)
-        ∙ ap (λ (l : List Write). flat_map takes_back (reverse l)) (stood_more table before (standing.writes_of later) (n, after_of u.rec))
-        ∙ ap (flat_map takes_back) (reverse-append (stood_before table before (standing.writes_of later)) ((n, stands_at table (before ++ standing.writes_of later) n) ∷ [])))
+        ∙ ap (λ (w : List RingOp). takes_back (n, stands_at table (standing.writes_of earlier ++ standing.writes_of later) n) ++ w) rest
+        ∙ sym (ap (goes_back table (standing.writes_of earlier)) (with_one (Some n) on)
+        ∙ ap (λ (l : List Write). flat_map takes_back (reverse l)) (stood_more table (standing.writes_of earlier) (standing.writes_of later) (n, after_of u.rec))
+        ∙ ap (flat_map takes_back) (reverse-append (stood_before table (standing.writes_of earlier) (standing.writes_of later)) ((n, stands_at table (standing.writes_of earlier ++ standing.writes_of later) n) ∷ [])))
 
 module _ (log : List Entry) (versions : List Version) (table : List Content) (same_table : table ≡ table_of log versions) where
   stood_there : (us : List Entry) → ((number : ℕ) → RunsFrom number (value_of log versions number) us) → AllByRecursion (IsInTable versions) us → StoodThere table us

@@ -32,22 +32,22 @@ pub returns-in_default-clause-refused : goal.returns-in_default-clause-refused
 returns-in_default-clause-refused c s site fits =
     refused s (Back c.args.session c.args.standing) _ (λ i. first_refusal (idle_session c.args.session fits (sym c.find.ensures.entry ∙ c.in_default.is) i ∷ wants_standing s c.args.session c.args.standing ∷ []))
 
-pub returns-then-entry-clause-refused : goal.returns-then-entry-clause-refused
-returns-then-entry-clause-refused c s site fits =
+pub returns-then-entry-stays-clause-refused : goal.returns-then-entry-stays-clause-refused
+returns-then-entry-stays-clause-refused c s site fits =
     let at = sym c.find.ensures.entry ∙ c.in-Some.is in
     let found = some_active fits.newest fits.records c.args.self.now.active s fits.sessions c.args.session c.in-Some.entry at in
     let entry = entry_is c.args.self.now.active c.args.session c.in-Some.entry c.find.ensures.table at in
-    let short = lack s c.args.session c.args.standing found.session c.in-Some.entry.mark c.in-Some.entry.writes found.is found.under_way.count entry.mark (omega (arith, c.if-entry.true, c.stays.ensures)) in
+    let short = lack s c.args.session c.args.standing found.session c.in-Some.entry.mark c.in-Some.entry.writes found.is found.under_way.count entry.mark (omega (arith, c.if-entry-stays.true, c.stays.ensures)) in
     refused s (Back c.args.session c.args.standing) _ (λ i. first_refusal (wants_active_is s c.args.session found.session found.is i ∷ short i ∷ []))
 
 pub returns-clause-accepted : goal.returns-clause-accepted
 returns-clause-accepted c s site fits =
     let at = sym c.find.ensures.entry ∙ c.in-Some.is in
     let found = some_active fits.newest fits.records c.args.self.now.active s fits.sessions c.args.session c.in-Some.entry at in
-    let there = stand s c.args.session c.args.standing found.session c.in-Some.entry.mark c.in-Some.entry.writes found.is found.under_way.count (omega (arith, c.if-entry.false, c.stays.ensures)) in
+    let there = stand s c.args.session c.args.standing found.session c.in-Some.entry.mark c.in-Some.entry.writes found.is found.under_way.count (omega (arith, c.if-entry-stays.false, c.stays.ensures)) in
     carried_out s (Back c.args.session c.args.standing) refl (λ i. first_refusal (wants_active_is s c.args.session found.session found.is i ∷ there i ∷ [])) refl refl
 
 pub returns-clause-stand : goal.returns-clause-stand
 returns-clause-stand c entry at =
     let same : c.in-Some.entry ≡ entry = same_Some c.in-Some.entry entry (sym (sym c.find.ensures.entry ∙ c.in-Some.is) ∙ at) in
-    subst (λ (x : Active). unwrap_or c.args.standing x.mark ≤ x.writes) same (omega (arith, c.if-entry.false, c.stays.ensures))
+    subst (λ (x : Active). unwrap_or c.args.standing x.mark ≤ x.writes) same (omega (arith, c.if-entry-stays.false, c.stays.ensures))

@@ -22,7 +22,7 @@ returns-clause-answers c s site fits =
     let is = carried_out s (Mark c.args.session) refl (wants_active_is s c.args.session found.session found.is) refl refl in
     let own = (entry_is engine.active c.args.session c.in-Some.entry c.find.ensures.table at).session in
     let changes = subst (λ (n : _). ChangesOnly engine.active c.mark.new.active n (Some (after_mark c.in-Some.entry))) own c.mark.ensures.entry in
-    (sym (ap (λ (o : Outcome). o.reply) is.0), subst (λ (o : Outcome). Matches c.new.self site o.after) (sym is.0) (marked_fits engine c.mark.new.active site s c.args.session c.in-Some.entry fits c.find.ensures.table at changes c.mark.ensures.owed))
+    (sym (ap (λ (o : Outcome). o.reply) is.0), subst (λ (o : Outcome). Matches (record engine { active = c.mark.new.active }) site o.after) (sym is.0) (marked_fits engine c.mark.new.active site s c.args.session c.in-Some.entry fits c.find.ensures.table at changes c.mark.ensures.owed))
 
 pub returns-clause-going : goal.returns-clause-going
 returns-clause-going c site going =
