@@ -1,4 +1,5 @@
 -- A set: a transaction of one write, outside sessions.
+use Rattle.image_meaning.proofs.ShortValues.{HaveShort, update_room}
 use Rattle.image_meaning.proofs.Versions.{length-versions}
 use Rattle.checkpoint.specs.declared.master.Master.{Master}
 use Rattle.std.proofs.Common.{Option, ◌≡◌, ◌+◌, ◌*◌, ◌/◌, ◌%◌, ◌<◌, ◌≤◌, ◌==◌, Bool, true, false, ◌||◌, cond, List, [], ◌∷◌, ◌++◌, length, find, None, Some, refl, sym, ap, subst, ◌∙◌, arith, IsTrue, ℕ, ⊎_elim, true≢false}
@@ -11,6 +12,7 @@ use Rattle.site.specs.State.{State as Site}
 use Rattle.record_model.specs.State.{Content, State, Write, session_at, table_with}
 use Rattle.record_model.specs.State as model
 use Rattle.record_model.specs.Step.{making, committed}
+use Rattle.log_records.specs.Spelling.{IsShort}
 use Rattle.log_records.specs.Log.{Entry, is_of, is_closed, is_loser, shown}
 use Rattle.log_records.specs.Unfinished.{owed}
 use Rattle.log_records.specs.declared.log_record.LogRecord.TheVariants.{Begin, Commit}
@@ -108,9 +110,9 @@ module _ (engine : Engine) (old : Site) (s : State) (number : ℕ) (fits : Match
   place = div-add-mod number 32
 
   -- behind its Begin its Update may be logged
-  pub may_update : (store : TransactionStore) (site : Site) (lsn : ℕ) (after : Content) → sizes_of store ≡ sizes_of engine.store → store.log.kept ≡ engine.store.log.kept → blocks_to store.log ≤ blocks_to engine.store.log + 1 →
+  pub may_update : (store : TransactionStore) (site : Site) (lsn : ℕ) (after : Content) → HaveShort (fits.records ++ begin_at txn ∷ []) (versions_on (sizes_of store) site.image) → IsShort after → sizes_of store ≡ sizes_of engine.store → store.log.kept ≡ engine.store.log.kept → blocks_to store.log ≤ blocks_to engine.store.log + 1 →
       MayGrow store site fits.newest (fits.records ++ begin_at txn ∷ []) (update_at txn lsn number (shown_in store site (fits.records ++ begin_at txn ∷ []) number) after)
-  may_update store site lsn after same kept more =
+  may_update store site lsn after short fitting same kept more =
       let log = fits.records ++ begin_at txn ∷ [] in
       let versions = versions_on (sizes_of store) site.image in
       let before : Content = shown log versions number in
@@ -120,7 +122,9 @@ module _ (engine : Engine) (old : Site) (s : State) (number : ℕ) (fits : Match
       let free_here : IsFreeFor log txn number = free_begun fits.records txn number (free fits.newest fits.records engine.active s fits.sessions table number (unwritten s number (sym (busy_write_is engine.locks s fits.locks_are None number) ∙ unlocked))) in
       let owes = owed_update log (update_at txn lsn number before after) refl begun.lives.not_closed begun.chain in
       record {
-        follows = active_may_write (master_of fits.newest) versions log lsn txn txn (number / 32) (number % 32) [] before after begun_undoable begun within (subst (IsFreeFor log txn) (sym is) free_here) (ap (shown log versions) (sym is));
+        follows = active_may_write (master_of fits.newest) versions log lsn txn txn (number / 32) (number % 32) [] before after begun_undoable begun within (subst (IsFreeFor log txn) (sym is) free_here) (ap (shown log versions) (sym is))
+            -- as long as values are short
+            (update_room log versions lsn txn txn number after short fitting (omega (arith, within, is)));
         no_commit = refl;
         room = omega (arith, owes, owed_begin fits.records txn fresh, fits.sessions.owes, room, blocks, cap, more, ap (λ (g : Geometry). g.blocks) same, kept);
       }

@@ -1,7 +1,9 @@
 -- A session's read, and its write.
 use Rattle.engine.proofs.Scans.{none_more_written}
 use Rattle.std.proofs.Math.Bool.{or-false, and-true}
+use Rattle.image_meaning.proofs.ShortValues.{update_room}
 use Rattle.image_meaning.proofs.Versions.{length-versions}
+use Rattle.redo_laws.proofs.ShortRecords.{records_are_short}
 use Rattle.checkpoint.specs.declared.master.Master.{Master}
 use Rattle.std.proofs.Common.{◌≡◌, ℕ, ◌+◌, ◌*◌, ◌/◌, ◌%◌, ◌<◌, ◌≤◌, ◌&&◌, ◌||◌, ◌==◌, Bool, true, false, not, cond, ◌++◌, ◌∷◌, [], List, length, find, Option, None, Some, ⊎_elim, refl, sym, ap, subst, ◌∙◌, arith, IsTrue, get_or-set_same, get_or-set_other, length-set}
 use Rattle.std.specs.Prelude.{slice_set, slice_index_or, option_map, unwrap_or}
@@ -12,6 +14,7 @@ use Rattle.site.specs.State.{State as Site}
 use Rattle.record_model.specs.State.{Content, Session, State, Write, session_at, writes_of, wrote_of, reads_of, content_at, last_write, seen}
 use Rattle.record_model.specs.State as model
 use Rattle.record_model.specs.Step.{having_written, having_read}
+use Rattle.log_records.specs.Spelling.{IsShort}
 use Rattle.log_records.specs.Log.{Entry, is_on, shown}
 use Rattle.log_laws.specs.Follow.{IsFreeFor}
 use Rattle.log_laws.proofs.Losers.{active_may_write}
@@ -131,10 +134,10 @@ may_read_too s n number = find_less (λ m. not (n == m) && model.has_written s m
 
 -- A write.
 
-pub may_write : (engine : Engine) (site : Site) (s : State) (fits : Matches engine site s) (entry : Active) (number lsn : ℕ) (after : Content) → IsTable engine.active → entry_of engine.active entry.session ≡ Some entry → number < 32 * (sizes_of engine.store).pages →
+pub may_write : (engine : Engine) (site : Site) (s : State) (fits : Matches engine site s) (entry : Active) (number lsn : ℕ) (after : Content) → IsShort after → IsTable engine.active → entry_of engine.active entry.session ≡ Some entry → number < 32 * (sizes_of engine.store).pages →
     locks.busy_write engine.locks (Some entry.session) number ≡ None → engine.store.made + entries.owed engine.active + 2 ≤ engine.cap → blocks_to engine.store.log ≤ engine.store.log.kept + engine.store.made → engine.cap + 1 ≡ (sizes_of engine.store).blocks →
     MayGrow engine.store site fits.newest fits.records (record { lsn = lsn; rec = update_by entry.begin entry.last number (shown_in engine.store site fits.records number) after })
-may_write engine site s fits entry number lsn after table at less free room blocks cap =
+may_write engine site s fits entry number lsn after fitting table at less free room blocks cap =
     let n = entry.session in
     let versions = versions_on (sizes_of engine.store) site.image in
     let before : Content = shown_in engine.store site fits.records number in
@@ -147,7 +150,9 @@ may_write engine site s fits entry number lsn after table at less free room bloc
     let place = page_and_slot number in
     record {
       follows = active_may_write (master_of fits.newest) versions fits.records lsn entry.begin entry.last (number / 32) (number % 32) found.session.writes before after (undoable engine.store site fits.newest fits.records s.table s.commits fits.holds) active
-          (omega (arith, place, less, size)) (subst (IsFreeFor fits.records entry.begin) (sym place) only) (ap (shown fits.records versions) (sym place));
+          (omega (arith, place, less, size)) (subst (IsFreeFor fits.records entry.begin) (sym place) only) (ap (shown fits.records versions) (sym place))
+          -- as long as values are short
+          (update_room fits.records versions lsn entry.begin entry.last number after (records_are_short engine.store.log engine.store.pages site fits.newest fits.records s.table s.commits fits.holds.both) fitting (omega (arith, less, size)));
       no_commit = refl;
       room = omega (arith, owed_update fits.records e refl active.lives.not_closed active.chain, fits.sessions.owes, room, blocks, cap);
     }

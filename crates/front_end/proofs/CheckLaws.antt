@@ -40,15 +40,15 @@ checked old mid new line status result goes same tells answer whole = record {
   whole = λ honest done. whole honest done ∙ ap (λ (t : List ℕ). t ++ line) (same honest).told;
 }
 
--- The rule that fails is one of the eleven.
+-- The rule that fails is one of the twelve.
 
-numbered : (i : ℕ) (image : Image) → FailsFirst i image → (1 ≤ i) × (i ≤ 11)
+numbered : (i : ℕ) (image : Image) → FailsFirst i image → (1 ≤ i) × (i ≤ 12)
 numbered zero image fails = absurd fails
 numbered (suc zero) image fails = (omega arith, omega arith)
 numbered (suc (suc zero)) image fails = (omega arith, omega arith)
 numbered (suc (suc (suc i))) image fails =
     let k : ℕ = suc (suc (suc i)) in
-    elim (cases_lt k 12) [
+    elim (cases_lt k 13) [
       | inl below ↦ (omega arith, omega (arith, below))
       | inr past ↦ absurd (fails.3 (rule_past k fails.0 image past))
     ]

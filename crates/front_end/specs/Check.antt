@@ -37,12 +37,12 @@ pub record SaysSound (line : List ℕ) (site : State) : Type 0 where
   pub line_is : line ≡ verdict_line (Sound records commits)
   pub sound : IsTrue site.honest → IsSoundWith site.image records commits
 
--- The line says which is the first rule that fails; of an honest site it is this one, and one of the eleven.
+-- The line says which is the first rule that fails; of an honest site it is this one, and one of the twelve.
 pub record SaysUnsound (line : List ℕ) (site : State) : Type 0 where
   pub rule : ℕ
   pub line_is : line ≡ unsound_line rule
   pub fails : IsTrue site.honest → FailsFirst rule site.image
-  pub numbered : IsTrue site.honest → (1 ≤ rule) × (rule ≤ 11)
+  pub numbered : IsTrue site.honest → (1 ≤ rule) × (rule ≤ 12)
 
 -- the line that goes with each status
 pub record IsAnswer (status : ℕ) (line : List ℕ) (old new : State) : Type 0 where

@@ -6,12 +6,14 @@ use Rattle.site.specs.State.{State, Image}
 use Rattle.site.specs.Calls.{Preserves}
 use Rattle.site.specs.Work.{OnlyReads}
 use Rattle.log_records.specs.declared.log_record.LogRecord.{LogRecord}
+use Rattle.log_records.specs.Log.{log_from}
 use Rattle.log_records.specs.Sound.{commit_count}
 use Rattle.image_form.specs.declared.formed.Found.{Found}
 use Rattle.image_form.specs.Formed.{IsThere}
 use Rattle.image_check.specs.Deciding.{MeetsBefore}
 use Rattle.image_check.specs.Judging.{Sees, reading_of}
-use Rattle.image_form.specs.Verdict.{Reading, Reads, Rule, OctetsAreFormed, KeptBlocksAreLive, RecordsFollowBegins, LosersCanBeUndone, LosersHoldOthersOff, VersionsFit, FramesAreClean, SegmentsFollowGroups, UndoHasRoom, MasterNamesTheActive, CommitsAreNumbered, HoldBefore, FailsFirst, IsSoundWith, logical_image_of, values_of}
+use Rattle.image_form.specs.Verdict.{Reading, Reads, Rule, OctetsAreFormed, KeptBlocksAreLive, RecordsFollowBegins, LosersCanBeUndone, LosersHoldOthersOff, VersionsFit, FramesAreClean, SegmentsFollowGroups, UndoHasRoom, MasterNamesTheActive, CommitsAreNumbered, PagesHaveRoom, HoldBefore, FailsFirst, IsSoundWith, logical_image_of, values_of}
+use Rattle.image_meaning.proofs.ShortValues.{image_short, log_short, rooms_by_lengths}
 use Rattle.image_check.proofs.Readings.{a_reading, no_rule}
 use Rattle.image_form.proofs.FirstRule.{there_later}
 
@@ -39,6 +41,7 @@ Numbered (suc (suc (suc (suc (suc (suc (suc (suc zero)))))))) r image = Segments
 Numbered (suc (suc (suc (suc (suc (suc (suc (suc (suc zero))))))))) r image = UndoHasRoom (logical_image_of r image)
 Numbered (suc (suc (suc (suc (suc (suc (suc (suc (suc (suc zero)))))))))) r image = MasterNamesTheActive (logical_image_of r image)
 Numbered (suc (suc (suc (suc (suc (suc (suc (suc (suc (suc (suc zero))))))))))) r image = CommitsAreNumbered (logical_image_of r image)
+Numbered (suc (suc (suc (suc (suc (suc (suc (suc (suc (suc (suc (suc zero)))))))))))) r image = PagesHaveRoom (logical_image_of r image)
 Numbered _ r image = ⊤
 
 -- a rule by its number
@@ -53,6 +56,7 @@ rule_of i r image holds = record {
   ninth = λ is. subst (λ (k : ℕ). Numbered k r image) is holds;
   tenth = λ is. subst (λ (k : ℕ). Numbered k r image) is holds;
   eleventh = λ is. subst (λ (k : ℕ). Numbered k r image) is holds;
+  twelfth = λ is. subst (λ (k : ℕ). Numbered k r image) is holds;
 }
 
 -- no rule is before the third one
@@ -77,6 +81,7 @@ numbered_of (suc (suc (suc (suc (suc (suc (suc (suc zero)))))))) r image rule = 
 numbered_of (suc (suc (suc (suc (suc (suc (suc (suc (suc zero))))))))) r image rule = rule.ninth refl
 numbered_of (suc (suc (suc (suc (suc (suc (suc (suc (suc (suc zero)))))))))) r image rule = rule.tenth refl
 numbered_of (suc (suc (suc (suc (suc (suc (suc (suc (suc (suc (suc zero))))))))))) r image rule = rule.eleventh refl
+numbered_of (suc (suc (suc (suc (suc (suc (suc (suc (suc (suc (suc (suc zero)))))))))))) r image rule = rule.twelfth refl
 numbered_of i r image rule = tt
 
 -- Calls one after the other.
@@ -129,8 +134,12 @@ verdict_by (suc zero) reads fails = let third = fails.0 in absurd (omega (arith,
 verdict_by (suc (suc zero)) reads fails = let third = fails.0 in absurd (omega (arith, third))
 verdict_by (suc (suc (suc i))) {r} reads fails = (r, reads, fails.1, fails.2)
 
+-- the values of blocks and pages of the form are so short that each page has room for any 32 of them
+pub room_by_form : (r : Reading) (image : Image) → Reads r image → PagesHaveRoom (logical_image_of r image)
+room_by_form r image reads = rooms_by_lengths (logical_image_of r image) (image_short r.g image (log_from r.master.kept r.blocks) reads.formed.versions (log_short r.master.kept r.blocks reads.blocks.are_blocks))
+
 -- or none does
-pub sound_by : {found : Found} {blocks : List (List LogRecord)} {old a : State} (records commits : ℕ) → Past 12 found blocks old a → records ≡ values_of (logical_image_of (reading_of found blocks) a.image) →
+pub sound_by : {found : Found} {blocks : List (List LogRecord)} {old a : State} (records commits : ℕ) → Past 13 found blocks old a → records ≡ values_of (logical_image_of (reading_of found blocks) a.image) →
     commits ≡ commit_count (logical_image_of (reading_of found blocks) a.image) → IsSoundWith old.image records commits
 sound_by {found} {blocks} records commits past values count =
     subst (λ (image : Image). IsSoundWith image records commits) past.same (record { reading = reading_of found blocks; reads = past.meets.reads; rules = past.meets.rules; values = values; count = count })

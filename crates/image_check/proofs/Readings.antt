@@ -103,7 +103,7 @@ a_reading g m image formed live =
 -- Sound devices fail no rule.
 
 -- no rule has another number
-pub no_rule : (i : ℕ) (r : Reading) (image : Image) → (3 ≤ i → i ≤ 11 → ⊥) → Rule i r image
+pub no_rule : (i : ℕ) (r : Reading) (image : Image) → (3 ≤ i → i ≤ 12 → ⊥) → Rule i r image
 no_rule i r image outside = record {
   third = λ is. absurd (outside (omega (arith, is)) (omega (arith, is)));
   fourth = λ is. absurd (outside (omega (arith, is)) (omega (arith, is)));
@@ -114,9 +114,10 @@ no_rule i r image outside = record {
   ninth = λ is. absurd (outside (omega (arith, is)) (omega (arith, is)));
   tenth = λ is. absurd (outside (omega (arith, is)) (omega (arith, is)));
   eleventh = λ is. absurd (outside (omega (arith, is)) (omega (arith, is)));
+  twelfth = λ is. absurd (outside (omega (arith, is)) (omega (arith, is)));
 }
 
-pub rule_past : (i : ℕ) (r : Reading) (image : Image) → 12 ≤ i → Rule i r image
+pub rule_past : (i : ℕ) (r : Reading) (image : Image) → 13 ≤ i → Rule i r image
 rule_past i r image past = no_rule i r image (λ low high. omega (arith, past, high))
 
 pub sound_fails_none : OneNewest → SoundFailsNone
@@ -129,7 +130,7 @@ sound_fails_none newest image records commits (suc (suc zero)) sound fails =
 sound_fails_none newest image records commits (suc (suc (suc i))) sound fails =
     let k : ℕ = suc (suc (suc i)) in
     let same : sound.reading ≡ fails.0 = reads_once newest image sound.reading fails.0 sound.reads fails.1 in
-    fails.3 (elim (cases_lt k 12) [
+    fails.3 (elim (cases_lt k 13) [
       | inl below ↦ subst (λ (r : Reading). Rule k r image) same (sound.rules k below)
       | inr past ↦ rule_past k fails.0 image past
     ])

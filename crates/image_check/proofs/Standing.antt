@@ -111,7 +111,7 @@ logical_image_with g m image blocks hi = record {
 
 -- By the rules.
 
-module _ (r : Reading) (image : Image) (reads : Reads r image) (rules : HoldBefore 12 r image) where
+module _ (r : Reading) (image : Image) (reads : Reads r image) (rules : HoldBefore 13 r image) where
   formed : IsFormed r.g r.master image
   formed = reads.formed
 
@@ -137,6 +137,7 @@ module _ (r : Reading) (image : Image) (reads : Reads r image) (rules : HoldBefo
         room_for_undo = (rules 9 (omega arith)).ninth refl;
         master_names_the_active = (rules 10 (omega arith)).tenth refl;
         commits = (rules 11 (omega arith)).eleventh refl;
+        room_in_pages = (rules 12 (omega arith)).twelfth refl;
       }
 
   groups_sound : meaning.AreGroups r.g image
@@ -264,6 +265,7 @@ standing_is_sound g image table commits stands =
         ninth = λ is. records.room_for_undo;
         tenth = λ is. records.master_names_the_active;
         eleventh = λ is. records.commits;
+        twelfth = λ is. records.room_in_pages;
       };
       means = subst (λ (p : LogicalImage). Means p table commits) same stands.stands.means;
     }

@@ -13,7 +13,7 @@ use Rattle.image_form.specs.Verdict.{IsSoundWith, FailsFirst}
 -- Devices for which all rules hold stand for the table and the commits that they are read as.
 abbrev pub SoundStands : Type 0
 SoundStands = (r : Reading) (image : Image) (table : List Content) (commits : ℕ) → Reads r image
-    → HoldBefore 12 r image →
+    → HoldBefore 13 r image →
     Means (logical_image_of r image) table commits → StandsFor r.g image table commits
 
 -- a reading by which all rules hold, with this table and so many commits
@@ -21,7 +21,7 @@ pub record IsReadAs (g : Geometry) (image : Image) (table : List Content) (commi
   pub reading : Reading
   pub sizes : reading.g ≡ g
   pub reads : Reads reading image
-  pub rules : HoldBefore 12 reading image
+  pub rules : HoldBefore 13 reading image
   pub means : Means (logical_image_of reading image) table commits
 
 -- And devices that stand for a table are sound by all rules, and read as that.

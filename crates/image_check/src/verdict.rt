@@ -23,7 +23,7 @@ use std::alloc::Global;
 pub enum Verdict {
     /// All rules hold: how many numbers have a value, and after how many commits.
     Sound { records: u64, commits: u64 },
-    /// The first rule that fails, from 1 to 11, and where it does. Of the place nothing is promised.
+    /// The first rule that fails, from 1 to 12, and where it does. Of the place nothing is promised.
     Unsound { rule: u8, place: Place },
 }
 
@@ -66,7 +66,8 @@ fn failing_on_flash<S: Site>(site: &mut S, found: &Found) -> Result<Option<(u8, 
     Ok(None)
 }
 
-// The verdict where the rules before the ninth hold and so many numbers have a value.
+// The verdict where the rules before the ninth hold and so many numbers have a value. The twelfth holds by the form of
+// blocks and pages: any 32 values have room in a page.
 fn judge_counts(found: &Found, survey: &Survey, records: u64) -> Verdict
     requires { (site : State) × MayBeJudged found.now site }
 

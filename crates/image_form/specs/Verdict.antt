@@ -7,7 +7,8 @@ use Rattle.image_changes.specs.Rings.{log_shape}
 use Rattle.log_records.specs.declared.log_record.LogRecord.{LogRecord}
 use Rattle.log_records.specs.Log.{log_from, table_of, entries_of, is_loser}
 use Rattle.log_records.specs.Sound.{LogicalImage, InTurn, Pairwise, IsOfOpenTransaction, HaveBegunBefore, IsLoserChain}
-use Rattle.log_records.specs.Sound.{HoldsOff, FitsLog, HasRoom, active_in, before_block, AreNumbered, commit_count}
+use Rattle.log_records.specs.Sound.{HoldsOff, FitsLog, HasRoom, HasRoomInPage, active_in, before_block, AreNumbered}
+use Rattle.log_records.specs.Sound.{commit_count}
 use Rattle.log_records.specs.Log.{version_at}
 use Rattle.checkpoint.specs.declared.master.Master.{Master}
 use Rattle.checkpoint.specs.Newest.{seen}
@@ -83,6 +84,10 @@ MasterNamesTheActive p = p.master.active ≡ active_in (before_block p.master.re
 abbrev pub CommitsAreNumbered : LogicalImage → Type 0
 CommitsAreNumbered = AreNumbered
 
+-- 12. Each page has room for what is redone on it, and for what undo may put back.
+abbrev pub PagesHaveRoom : LogicalImage → Type 0
+PagesHaveRoom p = (page : ℕ) → page < length p.pages → HasRoomInPage p page
+
 -- the rule of a reading that has this number, from the third on
 pub record Rule (i : ℕ) (r : Reading) (image : Image) : Type 0 where
   pub third : i ≡ 3 → RecordsFollowBegins (logical_image_of r image)
@@ -94,6 +99,7 @@ pub record Rule (i : ℕ) (r : Reading) (image : Image) : Type 0 where
   pub ninth : i ≡ 9 → UndoHasRoom (logical_image_of r image)
   pub tenth : i ≡ 10 → MasterNamesTheActive (logical_image_of r image)
   pub eleventh : i ≡ 11 → CommitsAreNumbered (logical_image_of r image)
+  pub twelfth : i ≡ 12 → PagesHaveRoom (logical_image_of r image)
 
 -- the first two rules hold, and the contents are read so
 pub record Reads (r : Reading) (image : Image) : Type 0 where
@@ -113,7 +119,7 @@ values_of p = count_by is_some (table_of p.log p.pages)
 pub record IsSoundWith (image : Image) (records commits : ℕ) : Type 0 where
   pub reading : Reading
   pub reads : Reads reading image
-  pub rules : HoldBefore 12 reading image
+  pub rules : HoldBefore 13 reading image
   pub values : records ≡ values_of (logical_image_of reading image)
   pub count : commits ≡ commit_count (logical_image_of reading image)
 

@@ -10,15 +10,17 @@ use Rattle.std_lemmas.proofs.AllOf.{all_left, all_right, all_both}
 use Rattle.record_model.specs.State.{content_at}
 use Rattle.log_records.specs.declared.log_record.LogRecord.{LogRecord}
 use Rattle.log_records.specs.Log.{Entry, Version, number_of, is_on, last_on, shown}
+use Rattle.log_records.specs.Room.{open_length, put_back, HasOpenRoom}
 use Rattle.log_records.specs.Sound.{LogicalImage, InTurn}
 use Rattle.log_laws.specs.Follow.{Follows, next_entries}
 use Rattle.log_laws.proofs.Lists.{or_is_none}
 use Rattle.log_laws.proofs.Orders.{all_from, none_passes, entries_in_order}
+use Rattle.log_laws.proofs.Rooms.{total_within}
 use Rattle.log_laws.specs.Tail.{whole, Carries}
 use Rattle.log_laws.proofs.Values.{is_number-Some}
 use Rattle.image_meaning.specs.LogicalImages.{ReplaceAll, with_versions}
 use Rattle.image_meaning.specs.Redone.{IsLogged, AreKnown, IsCurrent, ShowsAll}
-use Rattle.image_meaning.proofs.OtherVersions.{slot_same, sound_with}
+use Rattle.image_meaning.proofs.OtherVersions.{same_first, slot_same, sound_with}
 use Rattle.image_meaning.proofs.Redos.{page_of_number, current_replaces}
 use Rattle.log_records.proofs.Lists.{last_where-append}
 
@@ -78,8 +80,23 @@ module _ (p : LogicalImage) (versions : List Version) (r : ReplaceAll p versions
   unfolding Extends
   shown_by_last log extends number within = grind (arith, slot_same)
 
+  room_still : (log : List Entry) → Extends p log → (page : ℕ) → page < length p.pages → HasOpenRoom log p.pages page → HasOpenRoom log versions page
+  room_still log extends page exists room =
+      let same = total_within page (open_length log versions) (open_length log p.pages)
+      (λ slot less. same_first (put_back log (32 * page + slot)) (shown_by_last log extends (32 * page + slot) (omega (arith, exists, less)))) in
+      omega (arith, same, room)
+
   follows_still : (log : List Entry) → Extends p log → (e : Entry) → Follows p.master p.pages log e → Follows p.master versions log e
-  follows_still log extends e f = grind (arith, shown_by_last)
+  follows_still log extends e f = record {
+    in_table = λ number on. let within = f.in_table number on in let count = r.count in omega (arith, within, count);
+    of_open = f.of_open;
+    can_be_undone = f.can_be_undone;
+    held_off = f.held_off;
+    from_shown = λ number update on. f.from_shown number update on ∙ sym (shown_by_last log extends number (f.in_table number on));
+    ends_undone = f.ends_undone;
+    room_in_page = λ number update on.
+        room_still (log ++ e ∷ []) (extends_more p log (e ∷ []) extends) (number / 32) (let within = f.in_table number on in omega (arith, within)) (f.room_in_page number update on);
+  }
 
   all_follow : (log entries : List Entry) → Extends p log → InTurn (Follows p.master p.pages) log entries → InTurn (Follows p.master versions) log entries
   all_follow log [] extends follow = tt

@@ -1,6 +1,7 @@
 -- Blank devices.
-use Rattle.std.proofs.Common.{◌≡◌, ℕ, suc, ◌-◌, ◌*◌, ◌/◌, ◌%◌, ◌<◌, List, [], map, get_or, take, drop, replicate, None, refl, sym, ap, subst, ◌∙◌, arith}
+use Rattle.std.proofs.Common.{◌≡◌, ℕ, suc, ◌-◌, ◌+◌, ◌*◌, ◌/◌, ◌%◌, ◌<◌, List, [], length, map, get_or, take, drop, replicate, None, refl, sym, ap, subst, ◌∙◌, arith}
 use Rattle.std.specs.Prelude.{slice_index}
+use Rattle.std.proofs.Math.Nat.{max-le}
 use Rattle.std.specs.List.{AllByRecursion}
 use Rattle.std.proofs.lemmas.List.{ext_get_or, length-replicate, get_or-replicate, take-replicate, drop-replicate}
 use Rattle.std.proofs.lemmas.Nat.{mod_below}
@@ -9,9 +10,10 @@ use Rattle.site.specs.Geometry.{HasLimits, HasLengths, log_length, flash_length,
 use Rattle.sealed_ring.specs.Ring.{IsRing, Units, hi_of}
 use Rattle.sealed_ring.specs.Laws.{BlankIsRing}
 use Rattle.sealed_ring.proofs.Examples.{blank_is_ring}
-use Rattle.record_model.specs.State.{Content, content_at}
+use Rattle.record_model.specs.State.{Content, content_at, length_of}
 use Rattle.log_records.specs.Log.{Version, version_at, slot_at, table_of}
-use Rattle.log_records.specs.Sound.{FitsLog, Means}
+use Rattle.log_records.specs.Room.{open_length}
+use Rattle.log_records.specs.Sound.{FitsLog, HasRoomInPage, Means, redone}
 use Rattle.log_records.specs.Sound as lists
 use Rattle.slotted_page.specs.Laws.{IsBlank}
 use Rattle.slotted_page.proofs.Blank.{blank}
@@ -25,6 +27,7 @@ use Rattle.tail_rebuild.specs.Standing.{HasSaved}
 use Rattle.flash_cache.specs.Representation.{frames_on, disk_on, version_on}
 use Rattle.image_meaning.specs.Meaning.{IsUnused, IsFrameOf, AreSegments, AreOctetsSoundUnder, IsSoundUnder, logical_image, versions_on}
 use Rattle.image_meaning.specs.Laws.{BlankStands}
+use Rattle.log_laws.proofs.Rooms.{total_few}
 use Rattle.image_meaning.proofs.Versions.{length-versions, version_is}
 use Rattle.log_records.proofs.Values.{page_and_slot, length_table_of, content_of_table}
 use Rattle.log_store.proofs.Standing.{blank_has_no_blocks}
@@ -98,12 +101,6 @@ module _ (ring_of_zeros : BlankIsRing) (g : Geometry) (limits : HasLimits g) whe
   fits : (number : ℕ) → number < g.pages → FitsLog (logical_image g (blank_image g) []) number (version_at (versions_on g (blank_image g)) number)
   fits number within = grind (arith, version_is, blank_page)
 
-  records : lists.IsSound (logical_image g (blank_image g) [])
-  records = grind (arith, fits, length-versions)
-
-  pub sound_blank : IsSoundUnder None g (blank_image g) []
-  sound_blank = record { octets = octets; held = blank_has_no_blocks g limits; records = records }
-
   -- no slot has a value
   pub slot_blank : (number : ℕ) → number < 32 * g.pages → slot_at (versions_on g (blank_image g)) number ≡ None
   slot_blank number within =
@@ -111,6 +108,40 @@ module _ (ring_of_zeros : BlankIsRing) (g : Geometry) (limits : HasLimits g) whe
       ap (λ (v : Version). content_at v.slots (number % 32)) (version_is g (blank_image g) (number / 32) here)
       ∙ ap (λ (slots : List Content). content_at slots (number % 32)) (blank_page (number / 32) here).slots
       ∙ get_or-replicate 32 (number % 32) None None (mod_below number 32 (omega arith))
+
+  room : (page : ℕ) → page < length (versions_on g (blank_image g)) → HasRoomInPage (logical_image g (blank_image g) []) page
+  room page exists = record {
+    redone_fits = λ lsn later.
+        let none = total_few page 0 (λ number. length_of (redone (logical_image g (blank_image g) []) lsn number)) (λ slot less. let e = nothing slot less in omega (arith, e)) in
+        omega (arith, none);
+    open_fits =
+        let none = total_few page 0 (open_length [] (versions_on g (blank_image g))) (λ slot less. max-le {a = length_of (slot_at (versions_on g (blank_image g)) (32 * page + slot))} {b = 0} {k = 0} (let e = nothing slot less in omega (arith, e)) (omega arith)) in
+        omega (arith, none);
+  }
+    where
+      nothing : (slot : ℕ) → slot < 32 → length_of (slot_at (versions_on g (blank_image g)) (32 * page + slot)) ≡ 0
+      nothing slot less = ap length_of (slot_blank (32 * page + slot) (omega (arith, exists, less, length-versions g (blank_image g))))
+
+  records : lists.IsSound (logical_image g (blank_image g) [])
+  records = record {
+    kept_before_redo = omega arith;
+    redo_before_end = omega arith;
+    kept_is_live = omega arith;
+    in_order = omega arith;
+    in_table = tt;
+    open_transactions = tt;
+    begun = tt;
+    losers_can_be_undone = λ t loser. absurd (grind arith);
+    losers_hold_others_off = tt;
+    versions_fit = λ page exists. fits page (omega (arith, exists, length-versions g (blank_image g)));
+    room_for_undo = grind arith;
+    master_names_the_active = refl;
+    commits = grind arith;
+    room_in_pages = room;
+  }
+
+  pub sound_blank : IsSoundUnder None g (blank_image g) []
+  sound_blank = record { octets = octets; held = blank_has_no_blocks g limits; records = records }
 
   pub means_blank : Means (logical_image g (blank_image g) []) (replicate (32 * g.pages) None) 0
   means_blank = record {

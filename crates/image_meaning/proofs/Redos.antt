@@ -2,7 +2,8 @@
 use Rattle.image_meaning.specs.Redone.{IsCurrent}
 use Rattle.log_laws.specs.NewImage.{Replaces}
 use Rattle.std.proofs.Common.{◌≡◌, ℕ, ◌+◌, ◌*◌, ◌/◌, ◌%◌, ◌<◌, ◌≤◌, ◌==◌, ◌&&◌, ◌||◌, Bool, true, false, List, [], ◌∷◌, ◌++◌, Some, None, refl, sym, ap, subst, ◌∙◌, arith, inl, inr}
-use Rattle.std.specs.Prelude.{Option, nat_lt, nat_le, IsTrue, if◌then◌else◌, length}
+use Rattle.std.specs.Prelude.{Option, max, nat_lt, nat_le, IsTrue, if◌then◌else◌, length}
+use Rattle.std.proofs.Math.Nat.{max-le, le-max_left}
 use Rattle.std.specs.List.{AllByRecursion}
 use Rattle.std.specs.Option.{option_or}
 use Rattle.std.proofs.lemmas.Bool.{cases_Bool, le-leb, lt-leb, and_right}
@@ -11,7 +12,7 @@ use Rattle.std.proofs.lemmas.Option.{none-some}
 use Rattle.std.proofs.lemmas.Nat.{div-mul-add, mod-mul-add}
 use Rattle.std_lemmas.proofs.AllOf.{all_filter, all_weaker}
 use Rattle.record_model.specs.State.{Content, content_at}
-use Rattle.log_records.specs.Log.{Entry, Version, version_at, slot_at, number_of, is_number, is_on, after_of, last_where, last_on, shown_by}
+use Rattle.log_records.specs.Log.{Entry, Version, version_at, slot_at, number_of, is_number, is_on, after_of, last_where, last_on, shown, shown_by}
 use Rattle.log_records.specs.Sound.{LogicalImage, IsSound, IsInOrder, ShowsLast, last_known, before_block, redone}
 use Rattle.log_laws.proofs.Lists.{or_is_none}
 use Rattle.log_laws.proofs.Orders.{all_from, none_passes}
@@ -62,8 +63,15 @@ known_by_number number lsn e known =
 last_of_known : (log : List Entry) (number lsn : ℕ) → AreKnown log (number / 32) lsn → last_known log lsn number ≡ last_on log number
 last_of_known log number lsn known = grind (arith, last_same, all_weaker, known_by_number)
 
-none_known : (log : List Entry) (number lsn : ℕ) → last_on log number ≡ None → last_known log lsn number ≡ None
+pub none_known : (log : List Entry) (number lsn : ℕ) → last_on log number ≡ None → last_known log lsn number ≡ None
 none_known log number lsn none = last_weaker (λ e. is_on number e) (λ e. is_on number e && nat_le e.lsn lsn) (λ e off. ap (λ (b : Bool). b && nat_le e.lsn lsn) off) log none
+
+-- what isn't known up to an LSN isn't known up to an earlier one
+none_earlier : (log : List Entry) (number early lsn : ℕ) → early ≤ lsn → last_known log lsn number ≡ None → last_known log early number ≡ None
+none_earlier log number early lsn before none = last_weaker (λ e. is_on number e && nat_le e.lsn lsn) (λ e. is_on number e && nat_le e.lsn early) (λ e off. by (is_on number e) e.lsn off) log none where
+  by : (b : Bool) (n : ℕ) → (b && nat_le n lsn) ≡ false → (b && nat_le n early) ≡ false
+  by true n off = grind (arith, nat_tests)
+  by false n off = refl
 
 known_on_page : (log : List Entry) (page slot lsn : ℕ) → slot < 32 → AreKnown log page lsn → AreKnown log ((32 * page + slot) / 32) lsn
 known_on_page log page slot lsn less known = subst (λ (q : ℕ). AreKnown log q lsn) (sym (page_of_number page slot less)) known
@@ -77,6 +85,14 @@ shown_last : (slot content : Content) (o : Option Entry) → ShowsLast content o
 shown_last slot content None shows none = none refl
 shown_last slot content (Some e) shows none = shows
 
+-- what is shown over what was shown by an earlier record
+shown_twice : (slot : Content) (o earlier : Option Entry) → (o ≡ None → earlier ≡ None) → shown_by (shown_by slot earlier) o ≡ shown_by slot o
+shown_twice slot None earlier none = ap (shown_by slot) (none refl)
+shown_twice slot (Some e) earlier none = refl
+
+greater_is : (a b : ℕ) → b ≤ a → max a b ≡ a
+greater_is a b less = let high = max-le {a = a} {b = b} {k = a} (omega arith) less in let low = le-max_left a b in omega (arith, high, low)
+
 -- Versions.
 
 -- Either may replace the page's version.
@@ -88,8 +104,12 @@ redone_replaces p page v sound within r = record {
     knows = all_weaker (λ e. (n : ℕ) → number_of e.rec ≡ Some n → n / 32 ≡ page → e.lsn ≤ (version_at p.pages page).lsn) (λ e. (n : ℕ) → number_of e.rec ≡ Some n → n / 32 ≡ page → e.lsn ≤ v.lsn)
         (λ e known n on here. let low = known n on here in let later = r.later in omega (arith, low, later)) (before_block p.master.redo p.log) (sound.versions_fit page within).knows;
   };
-  as_before = λ slot less none.
-      r.slots slot less ∙ ap (shown_by (slot_at p.pages (32 * page + slot))) (none_known p.log (32 * page + slot) v.lsn none) ∙ slot_of_page p.pages page slot less;
+  as_before = λ lsn slot later less.
+      let number = 32 * page + slot in
+      let before = r.later in
+      ap (λ (c : Content). shown_by c (last_known p.log lsn number)) (r.slots slot less)
+      ∙ shown_twice (slot_at p.pages number) (last_known p.log lsn number) (last_known p.log v.lsn number) (none_earlier p.log number v.lsn lsn later)
+      ∙ ap (λ (n : ℕ). redone p n number) (sym (greater_is lsn (version_at p.pages page).lsn (omega (arith, later, before))));
 }
 
 -- A version with the records up to an LSN redone, or with all of them, may replace the page's version.
@@ -102,8 +122,20 @@ current_replaces p page v c = record {
         (c.all.slots slot less ∙ ap (shown_by (slot_at p.pages (32 * page + slot))) (sym (last_of_known p.log (32 * page + slot) v.lsn (known_on_page p.log page slot v.lsn less c.all.known))));
     knows = all_filter (λ e. (n : ℕ) → number_of e.rec ≡ Some n → n / 32 ≡ page → e.lsn ≤ v.lsn) (λ e. nat_lt e.lsn (512 * p.master.redo)) p.log c.all.known;
   };
-  as_before = λ slot less none. c.all.slots slot less ∙ ap (shown_by (slot_at p.pages (32 * page + slot))) none ∙ slot_of_page p.pages page slot less;
+  as_before = λ lsn slot later less.
+      let number = 32 * page + slot in
+      ap (λ (x : Content). shown_by x (last_known p.log lsn number)) (c.all.slots slot less)
+      ∙ ap (shown_by (shown p.log p.pages number)) (all_known slot lsn less later)
+      ∙ shown_twice (slot_at p.pages number) (last_on p.log number) (last_on p.log number) (λ none. none)
+      ∙ ap (shown_by (slot_at p.pages number)) (sym (all_known slot (max lsn (version_at p.pages page).lsn) less (let low = le-max_left lsn (version_at p.pages page).lsn in omega (arith, low, later))));
 }
+  where
+    all_known : (slot lsn : ℕ) → slot < 32 → v.lsn ≤ lsn → last_known p.log lsn (32 * page + slot) ≡ last_on p.log (32 * page + slot)
+    all_known slot lsn less later =
+        last_of_known p.log (32 * page + slot) lsn
+        (known_on_page p.log page slot lsn less
+        (all_weaker (λ e. (n : ℕ) → number_of e.rec ≡ Some n → n / 32 ≡ page → e.lsn ≤ v.lsn) (λ e. (n : ℕ) → number_of e.rec ≡ Some n → n / 32 ≡ page → e.lsn ≤ lsn)
+        (λ e known n on here. let low = known n on here in omega (arith, low, later)) p.log c.all.known))
 
 -- The page's own version is redone up to its LSN.
 pub version_is_redone : (p : LogicalImage) (page : ℕ) → IsSound p → page < length p.pages → IsRedone p page (version_at p.pages page)

@@ -8,7 +8,7 @@ use Rattle.log_laws.specs.NewImage.{Replaces}
 abbrev pub with_versions : LogicalImage → List Version → LogicalImage
 with_versions p versions = record p { pages = versions }
 
--- each version fits the log, and is as the one before in each slot that no record stands on
+-- each version fits the log, and over it the same is redone as over the one before
 pub record ReplaceAll (p : LogicalImage) (versions : List Version) : Type 0 where
   pub count : length versions ≡ length p.pages
   pub each : (page : ℕ) → page < length p.pages → Replaces p page (version_at versions page)

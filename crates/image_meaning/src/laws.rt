@@ -34,7 +34,7 @@ pub fn staged()
 {}
 
 /// Appending a group keeps an image sound, and what it stands for, where no segment is due, each version that it brings
-/// fits the log and is as the one before in each slot that no record stands on, its clean frames equal the disk, and
+/// fits the log and has over it redone what the one before has, its clean frames equal the disk, and
 /// the disk has what the group that leaves alone has.
 pub fn pushed()
     ensures sound { PushedIsSound }

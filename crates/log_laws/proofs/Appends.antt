@@ -1,6 +1,6 @@
 -- Which records may stand behind a log.
 use Rattle.std.proofs.lemmas.Grind.{common_steps}
-use Rattle.std.proofs.Common.{◌≡◌, ℕ, ◌+◌, ◌*◌, ◌<◌, Bool, true, false, cond, List, [], ◌∷◌, ◌++◌, length, Some, refl, sym, ap, subst, ◌∙◌, arith}
+use Rattle.std.proofs.Common.{◌≡◌, ℕ, ◌+◌, ◌*◌, ◌/◌, ◌<◌, Bool, true, false, cond, List, [], ◌∷◌, ◌++◌, length, Some, refl, sym, ap, subst, ◌∙◌, arith}
 use Rattle.std.specs.Prelude.{filter, filter_map, ◌==◌}
 use Rattle.std.specs.List.{AllByRecursion, list_any}
 use Rattle.std.proofs.lemmas.List.Elements.{filter-append}
@@ -11,6 +11,7 @@ use Rattle.record_model.specs.State.{Content, Write}
 use Rattle.log_records.specs.declared.log_record.LogRecord.TheVariants.{Begin, Update, Clr, Commit, End}
 use Rattle.log_records.specs.Log.{Entry, Version, txn_of, is_of, is_on, is_number, number_of, is_closing, is_closed, entries_of, last_on, shown}
 use Rattle.log_records.specs.Unfinished.{left_open}
+use Rattle.log_records.specs.Room.{HasOpenRoom}
 use Rattle.log_records.specs.Sound.{Master, IsOpen, IsLoserChain, Undoes, Continues, Compensates, HoldsOff, ShowsLast, last_lsn}
 use Rattle.log_laws.specs.Follow.{Follows, CanBeUndone, IsUndoable, IsUndone, IsFresh, IsFreeFor, has_written, write_of}
 use Rattle.log_laws.proofs.Values.{with, shown_begins}
@@ -84,8 +85,9 @@ module _ (m : Master) (pages : List Version) (log : List Entry) where
   pub update_follows : (lsn t prev page slot : ℕ) (before after : Content) → 32 * page + slot < 32 * length pages → IsOpen m log t →
       IsUndoable log → IsLoserChain t (entries_of t log) → prev ≡ last_lsn (entries_of t log) →
       IsFreeFor log t (32 * page + slot) → before ≡ shown log pages (32 * page + slot) →
+      HasOpenRoom (with log (record { lsn = lsn; rec = Update t prev page slot before after })) pages ((32 * page + slot) / 32) →
       Follows m pages log (record { lsn = lsn; rec = Update t prev page slot before after })
-  update_follows lsn t prev page slot before after within lives undoable chain last free is = record {
+  update_follows lsn t prev page slot before after within lives undoable chain last free is room = record {
     in_table = λ number h. subst (λ n. n < 32 * length pages) (same_Some (32 * page + slot) number h) within;
     of_open = λ other. lives;
     can_be_undone = λ loser. chain_more (record { lsn = lsn; rec = Update t prev page slot before after }) chain (record {
@@ -97,6 +99,8 @@ module _ (m : Master) (pages : List Version) (log : List Entry) where
     held_off = free_off log t (32 * page + slot) (record { lsn = lsn; rec = Update t prev page slot before after }) refl refl free;
     from_shown = λ number h n. is ∙ ap (shown log pages) (same_Some (32 * page + slot) number n);
     ends_undone = λ h. absurd (grind arith);
+    room_in_page = λ number h n.
+        subst (λ k. HasOpenRoom (with log (record { lsn = lsn; rec = Update t prev page slot before after })) pages (k / 32)) (same_Some (32 * page + slot) number n) room;
   }
 
   pub clr_follows : (lsn t prev undo_next page slot : ℕ) (after : Content) (u : Entry) (rest : List Entry) → 32 * page + slot < 32 * length pages → IsOpen m log t →
@@ -112,6 +116,7 @@ module _ (m : Master) (pages : List Version) (log : List Entry) where
     held_off = off;
     from_shown = λ number h. absurd (grind arith);
     ends_undone = λ h. absurd (grind arith);
+    room_in_page = λ number h. absurd (grind arith);
   }
 
   closed_no_loser : (e : Entry) → is_closing e.rec ≡ true → CanBeUndone (with log e) (txn_of e)

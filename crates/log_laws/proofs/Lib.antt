@@ -9,6 +9,7 @@ pub mod Seals
 pub mod Commits
 pub mod Appends
 pub mod Owing
+pub mod Rooms
 pub mod PendingCounts
 pub mod Shown
 pub mod Standing
@@ -16,6 +17,7 @@ pub mod StandingTables
 pub mod Orderly
 pub mod Tails
 pub mod Losers
+pub mod Lengths
 pub mod Rows
 pub mod Versions
 pub mod Masters

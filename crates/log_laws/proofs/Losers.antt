@@ -1,6 +1,6 @@
 -- Transactions at work, and transactions that are undone.
 use Rattle.std.proofs.lemmas.Grind.{common_steps}
-use Rattle.std.proofs.Common.{◌≡◌, ℕ, ◌+◌, ◌*◌, ◌<◌, ◌≤◌, ⊎_elim, Bool, true, false, cond, not, ◌&&◌, ◌||◌, List, [], ◌∷◌, ◌++◌, length, map, drop, Some, refl, sym, ap, subst, ◌∙◌, arith}
+use Rattle.std.proofs.Common.{◌≡◌, ℕ, ◌+◌, ◌*◌, ◌/◌, ◌<◌, ◌≤◌, ⊎_elim, Bool, true, false, cond, not, ◌&&◌, ◌||◌, List, [], ◌∷◌, ◌++◌, length, map, drop, Some, refl, sym, ap, subst, ◌∙◌, arith}
 use Rattle.std.specs.Prelude.{filter, IsTrue, ◌==◌, nat_lt}
 use Rattle.std.specs.List.{AllByRecursion, list_any}
 use Rattle.std.proofs.lemmas.List.{append-nil}
@@ -16,6 +16,7 @@ use Rattle.log_records.specs.declared.log_record.LogRecord.{LogRecord}
 use Rattle.log_records.specs.declared.log_record.LogRecord.TheVariants.{Begin, Update, Clr}
 use Rattle.log_records.specs.Log.{Entry, Version, txn_of, is_of, is_on, is_update, is_closing, is_closed, is_loser, entries_of, updates_in, first_update, shown}
 use Rattle.log_records.specs.Unfinished.{is_begin, open_by, open_updates, left_open, losers, owed_by}
+use Rattle.log_records.specs.Room.{HasOpenRoom}
 use Rattle.log_records.specs.Sound.{Active, Master, LogicalImage, IsOpen, IsInTable, is_known, before_block, from_block, last_lsn, last_number}
 use Rattle.log_laws.specs.Follow.{Follows, CanBeUndone, IsActive, IsFresh, IsFreeFor, IsUndoable, next_entries}
 use Rattle.log_laws.specs.Tail.{Carries, whole, next_lsn}
@@ -65,9 +66,10 @@ active_begun m log lsn fresh late = grind (arith, common_steps, with, begins, en
 
 pub active_may_write : (m : Master) (pages : List Version) (log : List Entry) (lsn t last page slot : ℕ) (writes : List Write) (before after : Content) →
     IsUndoable log → IsActive m log t last writes → 32 * page + slot < 32 * length pages → IsFreeFor log t (32 * page + slot) → before ≡ shown log pages (32 * page + slot) →
+    HasOpenRoom (with log (record { lsn = lsn; rec = Update t last page slot before after })) pages ((32 * page + slot) / 32) →
     Follows m pages log (record { lsn = lsn; rec = Update t last page slot before after })
-active_may_write m pages log lsn t last page slot writes before after undoable a within free is =
-    update_follows m pages log lsn t last page slot before after within a.lives undoable a.chain a.last_is free is
+active_may_write m pages log lsn t last page slot writes before after undoable a within free is room =
+    update_follows m pages log lsn t last page slot before after within a.lives undoable a.chain a.last_is free is room
 
 pub active_writes : (m : Master) (log : List Entry) (lsn t last page slot : ℕ) (writes : List Write) (before after : Content) → IsActive m log t last writes →
     CanBeUndone (with log (record { lsn = lsn; rec = Update t last page slot before after })) t →

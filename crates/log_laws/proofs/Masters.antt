@@ -1,7 +1,7 @@
 -- A new master keeps a logical image sound, and what it means.
 use Rattle.std.proofs.lemmas.Grind.{common_steps}
 use Rattle.std.proofs.Common.{◌≡◌, ℕ, ◌+◌, ◌-◌, ◌*◌, ◌/◌, ◌%◌, ◌<◌, ◌≤◌, ⊎_elim, Bool, true, false, cond, not, ◌&&◌, ◌||◌, List, [], ◌∷◌, ◌++◌, length, map, drop, Some, None, refl, sym, ap, subst, ◌∙◌, append_assoc, arith}
-use Rattle.std.specs.Prelude.{Option, filter, find, IsTrue, nat_lt, nat_le}
+use Rattle.std.specs.Prelude.{Option, filter, find, flat_map, IsTrue, nat_lt, nat_le}
 use Rattle.std.specs.List.{AllByRecursion, list_any, range_with_len}
 use Rattle.std.specs.Option.{option_or}
 use Rattle.std.proofs.lemmas.List.{append-nil, length-append, drop_at}
@@ -11,15 +11,17 @@ use Rattle.std.proofs.lemmas.Bool.{or_left, or_right, or_parts, and_from, and_pa
 use Rattle.std.proofs.lemmas.Nat.{mod_below}
 use Rattle.std_lemmas.proofs.AllOf.{all_left, all_right, all_both, all_filter, all_weaker, all_passed}
 use Rattle.std_lemmas.proofs.Lists.{map_same, filter_all}
-use Rattle.record_model.specs.State.{Content, content_at}
-use Rattle.log_records.specs.Log.{Entry, Version, version_at, slot_at, txn_of, is_of, is_on, is_loser, is_closed, is_closing, entries_of, updates_in, last_where, last_on, first_update, number_of, before_first, after_of, value_after, value_of}
-use Rattle.log_records.specs.Unfinished.{is_begin, losers, owed}
-use Rattle.log_records.specs.Sound.{LogicalImage, IsSound, Means, InTurn, IsOfOpenTransaction, IsOrderly, AreOrderly, IsLoserChain, Pairwise, HoldsOff, FitsLog, ShowsLast, IsInTable, before_block, from_block, last_known, active_in, commit_number, commit_numbers, commit_count}
+use Rattle.record_model.specs.State.{Content, content_at, length_of}
+use Rattle.log_records.specs.Log.{Entry, Version, version_at, slot_at, txn_of, is_of, is_on, is_loser, is_closed, is_closing, entries_of, updates_in, last_where, last_on, first_update, number_of, before_first, before_of, after_of, value_after, value_of, shown}
+use Rattle.log_records.specs.Unfinished.{is_begin, left_open, losers, open_updates, owed}
+use Rattle.log_records.specs.Room.{longest, open_length, put_back}
+use Rattle.log_records.specs.Sound.{LogicalImage, IsSound, Means, InTurn, IsOfOpenTransaction, IsOrderly, AreOrderly, IsLoserChain, Pairwise, HoldsOff, FitsLog, ShowsLast, IsInTable, HasRoomInPage, before_block, from_block, last_known, redone, active_in, commit_number, commit_numbers, commit_count}
 use Rattle.log_laws.specs.NewImage.{with_master, MayCheckpoint}
 use Rattle.log_laws.proofs.Lists.{all_find, any_find, find_passes, last_passes}
 use Rattle.log_laws.proofs.Values.{closed_push, value_same, value_closed, last_of_own, is_loser_with, is_number-Some}
 use Rattle.log_laws.proofs.Orders.{filter_none}
 use Rattle.log_laws.proofs.Parts.{begin_is, are_losers, commits_parts, all_made, filter_same, sum_same, pairwise_right, pairwise_within, InTurn-right, parts_at, all_below, in_order_filter, in_order_raise, last_of_both', drop_range}
+use Rattle.log_laws.proofs.Rooms.{flat_same, known_on, shows_itself, total_within}
 use Rattle.log_laws.proofs.Versions.{table_same}
 use Rattle.log_records.proofs.Values.{page_and_slot}
 use Rattle.log_records.proofs.Lists.{last_where-append, all_last}
@@ -207,6 +209,72 @@ module _ (p : LogicalImage) (kept : ℕ) (sound : IsSound p) (may : MayCheckpoin
   opens_kept acc [] b = tt
   opens_kept acc (e ∷ xs) b = (λ late other. absurd (let c = b.0 in omega (arith, c, late)), opens_kept (acc ++ e ∷ []) xs b.1)
 
+  -- What pages have room for: each version shows all, and what is left to be undone is the same.
+
+  shows_known : (number lsn : ℕ) → number < 32 * length p.pages → ShowsLast (slot_at p.pages number) (last_known p.log (version_at p.pages (number / 32)).lsn number)
+  shows_known number lsn within =
+      let fits = sound.versions_fit (number / 32) (let q = page_and_slot number in omega (arith, q, within)) in
+      subst (λ n. ShowsLast (slot_at p.pages number) (last_known p.log (version_at p.pages (number / 32)).lsn n)) (page_and_slot number) (fits.shows (number % 32) (mod_below number 32 (omega arith)))
+
+  all_known : (number lsn : ℕ) → (version_at p.pages (number / 32)).lsn ≤ lsn → last_known p.log lsn number ≡ last_on p.log number
+  all_known number lsn later =
+      known_on p.log lsn number
+      (all_weaker (λ e. (n : ℕ) → number_of e.rec ≡ Some n → e.lsn ≤ (version_at p.pages (n / 32)).lsn) (λ e. is_on number e ≡ true → e.lsn ≤ lsn)
+      (λ e known on. let k = known number (is_number-Some number (number_of e.rec) on) in omega (arith, k, later)) p.log may.flushed)
+
+  shows_all : (number lsn : ℕ) → number < 32 * length p.pages → (version_at p.pages (number / 32)).lsn ≤ lsn → ShowsLast (slot_at p.pages number) (last_known p.log lsn number)
+  shows_all number lsn within later =
+      subst (ShowsLast (slot_at p.pages number)) (all_known number (version_at p.pages (number / 32)).lsn (omega arith) ∙ sym (all_known number lsn later)) (shows_known number lsn within)
+
+  kept_shows : (slot : Content) (test : Entry → Bool) → ShowsLast slot (last_where test p.log) → ShowsLast slot (last_where test (from_block kept p.log))
+  kept_shows slot test shows = by (last_where test (from_block kept p.log)) (subst (ShowsLast slot) (last_parts test) shows) where
+    by : (o : Option Entry) → ShowsLast slot (option_or o (last_where test (before_block kept p.log))) → ShowsLast slot o
+    by None s = tt
+    by (Some e) s = s
+
+  -- whatever is redone, the slot stays
+  redone_stays : (number lsn : ℕ) → number < 32 * length p.pages → (version_at p.pages (number / 32)).lsn ≤ lsn → redone (with_master p kept) lsn number ≡ redone p (version_at p.pages (number / 32)).lsn number
+  redone_stays number lsn within later =
+      shows_itself (slot_at p.pages number) (last_known (from_block kept p.log) lsn number) (kept_shows (slot_at p.pages number) (λ e. is_on number e && nat_le e.lsn lsn) (shows_all number lsn within later))
+      ∙ sym (shows_itself (slot_at p.pages number) (last_known p.log (version_at p.pages (number / 32)).lsn number) (shows_known number lsn within))
+
+  shown_same : (number : ℕ) → number < 32 * length p.pages → shown (from_block kept p.log) p.pages number ≡ shown p.log p.pages number
+  shown_same number within =
+      let shows = subst (ShowsLast (slot_at p.pages number)) (all_known number (version_at p.pages (number / 32)).lsn (omega arith)) (shows_known number 0 within) in
+      shows_itself (slot_at p.pages number) (last_on (from_block kept p.log) number) (kept_shows (slot_at p.pages number) (is_on number) shows)
+      ∙ sym (shows_itself (slot_at p.pages number) (last_on p.log number) shows)
+
+  put_back_same : (number : ℕ) → put_back (from_block kept p.log) number ≡ put_back p.log number
+  put_back_same number =
+      ap (λ (us : List Entry). map (λ (u : Entry). before_of u.rec) (filter (is_on number) us))
+      (ap (flat_map (left_open (from_block kept p.log))) (sym losers_same)
+      ∙ flat_same (left_open (from_block kept p.log)) (left_open p.log) (losers p.log)
+      (all_weaker (λ t. IsTrue (is_loser p.log t)) (λ t. left_open (from_block kept p.log) t ≡ left_open p.log t) (λ t loser. ap (open_updates []) (sym (entries_kept t loser))) (losers p.log) (are_losers p.log)))
+
+  room_kept : (page : ℕ) → page < length p.pages → HasRoomInPage (with_master p kept) page
+  room_kept page exists = record {
+    redone_fits = λ lsn later.
+        let same = total_within page (λ number. length_of (redone (with_master p kept) lsn number)) (λ number. length_of (redone p (version_at p.pages page).lsn number))
+        (λ slot less. subst (λ q. length_of (redone (with_master p kept) lsn (32 * page + slot)) ≤ length_of (redone p (version_at p.pages q).lsn (32 * page + slot))) (page_is slot less)
+        (no_more (redone_stays (32 * page + slot) lsn (omega (arith, exists, less)) (subst (λ q. (version_at p.pages q).lsn ≤ lsn) (sym (page_is slot less)) later)))) in
+        let old = (sound.room_in_pages page exists).redone_fits (version_at p.pages page).lsn (omega arith) in
+        omega (arith, same, old);
+    open_fits =
+        let same = total_within page (open_length (from_block kept p.log) p.pages) (open_length p.log p.pages)
+        (λ slot less. same_length (shown_same (32 * page + slot) (omega (arith, exists, less))) (put_back_same (32 * page + slot))) in
+        let old = (sound.room_in_pages page exists).open_fits in
+        omega (arith, same, old);
+  }
+    where
+      page_is : (slot : ℕ) → slot < 32 → (32 * page + slot) / 32 ≡ page
+      page_is slot less = omega (arith, less)
+
+      no_more : {a b : Content} → a ≡ b → length_of a ≤ length_of b
+      no_more {a} {b} same = let e = ap length_of same in omega (arith, e)
+
+      same_length : {a b : Content} {us vs : List Content} → a ≡ b → us ≡ vs → longest (a ∷ us) ≤ longest (b ∷ vs)
+      same_length {a} {b} {us} {vs} first rest = let e : longest (a ∷ us) ≡ longest (b ∷ vs) = λ i. longest (first i ∷ rest i) in omega (arith, e)
+
   pub master_with_sound : IsSound (with_master p kept)
   master_with_sound = record {
     kept_before_redo = may.kept_in_log;
@@ -226,6 +294,7 @@ module _ (p : LogicalImage) (kept : ℕ) (sound : IsSound p) (may : MayCheckpoin
       run_on = run_on_kept;
       fit = let f = sound.commits.fit in omega (arith, f, count_same);
     };
+    room_in_pages = room_kept;
   }
 
   -- The table.

@@ -14,6 +14,7 @@ of_the_second_try = record {
   left = refl;
   to_undo = refl;
   blocks = refl;
+  needs = refl;
   chain = grind arith;
   reads = grind arith;
   of_open = grind arith;

@@ -19,6 +19,7 @@ use Rattle.log_laws.proofs.Values.{with}
 use Rattle.log_laws.proofs.Orderly.{begun_behind}
 use Rattle.log_laws.proofs.Follow.{table_behind, undoable_behind}
 use Rattle.log_laws.proofs.Parts.{commits_parts}
+use Rattle.log_laws.proofs.Rooms.{rooms_behind_all}
 use Rattle.log_laws.proofs.Orders.{InTurn-all, entries_in_order, in_order_to, in_order-append, all_from, none_passes, filter_none, InTurn-append_all, InTurn-weaker}
 use Rattle.log_records.proofs.Lists.{last_where-append}
 use Rattle.log_records.proofs.Entries.{in_order_from}
@@ -75,13 +76,17 @@ module _ (p : LogicalImage) (records : List LogRecord) (sound : IsSound p) (bloc
   undoable_sealed : GoesOn p records → IsUndoable (p.log ++ next_entries p records)
   undoable_sealed goes = undoable_behind_all p.master p.pages p.log (next_entries p records) undoable goes.follow
 
+  whole_in_order : IsInOrder (512 * p.master.kept) (p.log ++ next_entries p records) (512 * (p.hi + 1))
+  whole_in_order =
+      in_order-append (512 * p.master.kept) (512 * p.hi) (512 * (p.hi + 1)) p.log (next_entries p records) sound.in_order
+      (in_order_from (512 * p.hi + 2) (512 * p.hi) (next_entries p records) (512 * (p.hi + 1)) (omega arith) new_in_order)
+
   sealed_with : GoesOn p records → IsSound (sealed p records)
   sealed_with goes = record {
     kept_before_redo = sound.kept_before_redo;
     redo_before_end = let r = sound.redo_before_end in omega (arith, r);
     kept_is_live = let r = goes.room in omega (arith, r);
-    in_order = in_order-append (512 * p.master.kept) (512 * p.hi) (512 * (p.hi + 1)) p.log (next_entries p records) sound.in_order
-        (in_order_from (512 * p.hi + 2) (512 * p.hi) (next_entries p records) (512 * (p.hi + 1)) (omega arith) new_in_order);
+    in_order = whole_in_order;
     open_transactions = InTurn-append_all (IsOfOpenTransaction p.master) [] p.log (next_entries p records) sound.open_transactions
         (InTurn-weaker (Follows p.master p.pages) (IsOfOpenTransaction p.master) (λ earlier e f late other. f.of_open other) p.log (next_entries p records) goes.follow);
     begun = begun_behind p (next_entries p records) (512 * (p.hi + 1)) sound
@@ -94,6 +99,9 @@ module _ (p : LogicalImage) (records : List LogRecord) (sound : IsSound p) (bloc
     room_for_undo = goes.room;
     master_names_the_active = sound.master_names_the_active ∙ ap active_in (sym before_same);
     commits = goes.numbered;
+    room_in_pages = λ page exists.
+        let room = rooms_behind_all p p.log (next_entries p records) (512 * p.master.kept) (512 * (p.hi + 1)) page undoable whole_in_order goes.follow (sound.room_in_pages page exists) in
+        record { redone_fits = room.redone_fits; open_fits = room.open_fits };
   }
 
   -- the count rises by the block's commits

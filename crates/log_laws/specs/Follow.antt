@@ -1,6 +1,6 @@
 -- What may be put behind a log, and what that changes.
-use Rattle.std.specs.Prelude.{◌≡◌, ℕ, ◌+◌, ◌*◌, ◌==◌, Bool, true, false, List, [], ◌∷◌, ◌++◌, length, map, filter_map}
-use Rattle.std.specs.Prelude.{Option, Some, option_map, reverse, IsTrue}
+use Rattle.std.specs.Prelude.{◌≡◌, ℕ, ◌+◌, ◌*◌, ◌/◌, ◌==◌, Bool, true, false, List, [], ◌∷◌, ◌++◌, length, map}
+use Rattle.std.specs.Prelude.{filter_map, Option, Some, option_map, reverse, IsTrue}
 use Rattle.std.specs.List.{AllByRecursion, list_any, range_with_len}
 use Rattle.record_model.specs.State.{Content, Write, table_with}
 use Rattle.log_records.specs.declared.log_record.LogRecord.{LogRecord}
@@ -9,6 +9,7 @@ use Rattle.log_records.specs.Spelling.{AreBlock}
 use Rattle.log_records.specs.Log.{Entry, Version, shown, entries_from, txn_of, is_of, is_closed, entries_of}
 use Rattle.log_records.specs.Log.{is_loser, number_of, is_update, before_of, after_of}
 use Rattle.log_records.specs.Unfinished.{is_begin, left_open}
+use Rattle.log_records.specs.Room.{HasOpenRoom}
 use Rattle.log_records.specs.Sound.{Master, LogicalImage, InTurn, IsInTable, IsOpen, IsLoserChain, Pairwise, HoldsOff}
 use Rattle.log_records.specs.Sound.{HasRoom, AreNumbered, last_lsn}
 
@@ -42,6 +43,9 @@ pub record Follows (m : Master) (pages : List Version) (earlier : List Entry) (e
       → before_of e.rec ≡ shown earlier pages number
   -- an End comes last
   pub ends_undone : IsTrue (is_end e.rec) → IsUndone earlier (txn_of e)
+  -- with an Update its page has room, also for what undo may put back
+  pub room_in_page : (number : ℕ) → IsTrue (is_update e.rec) → number_of e.rec ≡ Some number
+      → HasOpenRoom (earlier ++ e ∷ []) pages (number / 32)
 
 -- The next block.
 

@@ -1,16 +1,17 @@
 -- A new version of a page, and a new master.
-use Rattle.std.specs.Prelude.{◌≡◌, ℕ, ◌*◌, ◌+◌, ◌/◌, ◌<◌, ◌≤◌, Some, None}
+use Rattle.std.specs.Prelude.{◌≡◌, ℕ, ◌*◌, ◌+◌, ◌/◌, ◌<◌, ◌≤◌, max, Some}
 use Rattle.std.specs.List.{AllByRecursion}
 use Rattle.record_model.specs.State.{content_at}
-use Rattle.log_records.specs.Log.{Version, version_at, last_on, number_of}
+use Rattle.log_records.specs.Log.{Version, version_at, number_of, shown_by}
 use Rattle.log_records.specs.Unfinished.{losers}
-use Rattle.log_records.specs.Sound.{LogicalImage, FitsLog, from_block, active_in, commit_count}
+use Rattle.log_records.specs.Sound.{LogicalImage, FitsLog, from_block, active_in, commit_count, last_known, redone}
 
--- a version fits the log, and is as the one before in each slot that no record stands on
+-- a version fits the log, and over it the same is redone as over the one before
 pub record Replaces (p : LogicalImage) (page : ℕ) (v : Version) : Type 0 where
   pub fits : FitsLog p page v
-  pub as_before : (slot : ℕ) → slot < 32 → last_on p.log (32 * page + slot) ≡ None
-      → content_at v.slots slot ≡ content_at (version_at p.pages page).slots slot
+  pub as_before : (lsn slot : ℕ) → v.lsn ≤ lsn → slot < 32
+      → shown_by (content_at v.slots slot) (last_known p.log lsn (32 * page + slot))
+      ≡ redone p (max lsn (version_at p.pages page).lsn) (32 * page + slot)
 
 -- a master that keeps the blocks from one on, and redo begins with the next block
 abbrev pub with_master : LogicalImage → ℕ → LogicalImage

@@ -5,6 +5,7 @@ use Rattle.log_records.specs.declared.log_record.LogRecord.{LogRecord}
 use Rattle.log_records.specs.declared.log_record.LogRecord.TheVariants.{Begin, Update, Clr, Commit}
 use Rattle.log_records.specs.Log.{Entry, log_from, is_loser, entries_of, table_of}
 use Rattle.log_records.specs.Unfinished.{pending, losers, left_open, owed}
+use Rattle.log_records.specs.Room.{open_length}
 use Rattle.log_records.specs.Log.{blank_versions}
 use Rattle.log_records.specs.Sound.{Master, IsLoserChain, IsOfOpenTransaction, InTurn, AreOrderly, active_in}
 use Rattle.log_records.specs.Sound.{before_block, from_block, commit_numbers, last_known}
@@ -63,6 +64,9 @@ pub record OfTheLoser : Type 0 where
   -- the last record on 5 that a version with the LSN 3 knows of
   pub known : last_known log 3 5 ≡ Some (record { lsn = 3; rec = Update 2 2 0 5 None (Some (10 ∷ 11 ∷ [])) })
   pub unknown : last_known log 2 5 ≡ None
+  -- undo may put 10 and 11 back on 5; on 33 nothing is left to be undone
+  pub needs : open_length log (blank_versions 2) 5 ≡ 2
+  pub needs_none : open_length log (blank_versions 2) 33 ≡ 0
 
 -- Block 2 is behind these: the second transaction writes on. It writes record 33 again, and 34, undoes the latter, and
 -- writes 33 once more, behind a CLR on the same page.
@@ -83,6 +87,7 @@ pub record OfTheSecondTry : Type 0 where
   pub left : map (λ e. e.lsn) (left_open longer 514) ≡ 1107 ∷ 1026 ∷ 542 ∷ 515 ∷ []
   pub to_undo : map (λ e. e.lsn) (pending longer) ≡ 515 ∷ 542 ∷ 1026 ∷ 1107 ∷ []
   pub blocks : owed longer ≡ 5
+  pub needs : open_length longer (blank_versions 2) 33 ≡ 1
   pub chain : IsLoserChain 514 (entries_of 514 longer)
   -- undoing reads two CLRs between its Updates, from the last record as from the last Update that is left
   pub reads : IsUndoChain longer 514 1107 (entry_at longer 1107 ∷ entry_at longer 1076 ∷ entry_at longer 1026

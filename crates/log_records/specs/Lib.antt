@@ -3,6 +3,7 @@ pub mod Writes
 pub mod Reading
 pub mod Log
 pub mod Unfinished
+pub mod Room
 pub mod Sound
 pub mod Laws
 pub mod Restart

@@ -3,13 +3,14 @@
 use Rattle.std.specs.Prelude.{◌≡◌, ℕ, ◌+◌, ◌-◌, ◌*◌, ◌/◌, ◌≤◌, ◌<◌, ◌==◌, Bool, false, ◌&&◌, ◌||◌, nat_lt, nat_le, List}
 use Rattle.std.specs.Prelude.{[], ◌∷◌, ◌++◌, drop, length, map, filter, filter_map, Option, Some, None, IsTrue, ⊤}
 use Rattle.std.specs.List.{list_any, range_with_len, AllByRecursion}
-use Rattle.record_model.specs.State.{Content, content_at}
+use Rattle.record_model.specs.State.{Content, content_at, length_of, page_room}
 use Rattle.log_records.specs.declared.log_record.LogRecord.{LogRecord}
 use Rattle.log_records.specs.declared.log_record.LogRecord.TheVariants.{Begin, Update, Clr, Commit}
 use Rattle.log_records.specs.Log.{Entry, Version, version_at, table_of, txn_of, entries_of, last_where, is_closed}
 use Rattle.log_records.specs.Log.{is_loser, number_of, is_on, is_update, before_of, after_of, last_on, slot_at}
 use Rattle.log_records.specs.Log.{shown_by}
 use Rattle.log_records.specs.Unfinished.{is_begin, prev_of, open_updates, losers, owed}
+use Rattle.log_records.specs.Room.{total_on, HasOpenRoom}
 
 -- a transaction that was active at a checkpoint: the LSNs of its Begin and of its last record
 pub record Active : Type 0 where
@@ -181,6 +182,13 @@ pub record AreNumbered (p : LogicalImage) : Type 0 where
 abbrev pub HasRoom : LogicalImage → Type 0
 HasRoom p = p.hi - p.master.kept + owed p.log ≤ p.blocks - 1
 
+-- A page has room for the values of its records: for what is redone up to each LSN that its version doesn't go beyond,
+-- and for all that undo may put back.
+pub record HasRoomInPage (p : LogicalImage) (page : ℕ) : Type 0 where
+  pub redone_fits : (lsn : ℕ) → (version_at p.pages page).lsn ≤ lsn
+      → total_on page (λ number. length_of (redone p lsn number)) ≤ page_room
+  pub open_fits : HasOpenRoom p.log p.pages page
+
 -- The records, versions and master of a logical image belong together: the part of soundness that speaks of lists.
 pub record IsSound (p : LogicalImage) : Type 0 where
   -- the kept blocks are there, and redo begins among them
@@ -201,6 +209,8 @@ pub record IsSound (p : LogicalImage) : Type 0 where
   -- the master names the transactions that were active at the redo block
   pub master_names_the_active : p.master.active ≡ active_in (before_block p.master.redo p.log)
   pub commits : AreNumbered p
+  -- redo and undo never overfill a page
+  pub room_in_pages : (page : ℕ) → page < length p.pages → HasRoomInPage p page
 
 -- The table that a logical image stands for, and how many commits made it.
 pub record Means (p : LogicalImage) (table : List Content) (count : ℕ) : Type 0 where

@@ -1,6 +1,8 @@
 pub mod StepLaws
 pub mod RefusalLaws
 pub mod SessionLaws
+pub mod PageLaws
+pub mod MarkLaws
 pub mod RunLaws
 pub mod SerialGets
 pub mod SerialLists

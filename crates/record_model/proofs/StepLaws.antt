@@ -37,30 +37,30 @@ with_length : (s : State) (n : ℕ) (session : Option Session) → length (slice
 with_length s n session = grind (arith, common_steps)
 
 effect_keeps : (s : State) (command : Command) → KeepsSizes s (effect s command)
-effect_keeps s (Begin n) = record { table = refl; sessions = with_length s n _; cap = refl }
-effect_keeps s (Read n number) = record { table = refl; sessions = with_length s n _; cap = refl }
-effect_keeps s (Write n number value) = record { table = refl; sessions = with_length s n _; cap = refl }
-effect_keeps s (Erase n number) = record { table = refl; sessions = with_length s n _; cap = refl }
-effect_keeps s (Scan n number count) = record { table = refl; sessions = with_length s n _; cap = refl }
-effect_keeps s (Commit n) = record { table = length_table_with s.table (writes_of (session_at s n)); sessions = with_length s n _; cap = refl }
-effect_keeps s (Abort n) = record { table = refl; sessions = with_length s n _; cap = refl }
-effect_keeps s (Mark n) = record { table = refl; sessions = with_length s n _; cap = refl }
-effect_keeps s (Back n standing) = record { table = refl; sessions = with_length s n _; cap = refl }
-effect_keeps s (Set number value) = record { table = length_table_with s.table ((number, Some value) ∷ []); sessions = refl; cap = refl }
-effect_keeps s _ = record { table = refl; sessions = refl; cap = refl }
+effect_keeps s (Begin n) = record { table = refl; sessions = with_length s n _; cap = refl; pages_fill = refl }
+effect_keeps s (Read n number) = record { table = refl; sessions = with_length s n _; cap = refl; pages_fill = refl }
+effect_keeps s (Write n number value) = record { table = refl; sessions = with_length s n _; cap = refl; pages_fill = refl }
+effect_keeps s (Erase n number) = record { table = refl; sessions = with_length s n _; cap = refl; pages_fill = refl }
+effect_keeps s (Scan n number count) = record { table = refl; sessions = with_length s n _; cap = refl; pages_fill = refl }
+effect_keeps s (Commit n) = record { table = length_table_with s.table (writes_of (session_at s n)); sessions = with_length s n _; cap = refl; pages_fill = refl }
+effect_keeps s (Abort n) = record { table = refl; sessions = with_length s n _; cap = refl; pages_fill = refl }
+effect_keeps s (Mark n) = record { table = refl; sessions = with_length s n _; cap = refl; pages_fill = refl }
+effect_keeps s (Back n standing) = record { table = refl; sessions = with_length s n _; cap = refl; pages_fill = refl }
+effect_keeps s (Set number value) = record { table = length_table_with s.table ((number, Some value) ∷ []); sessions = refl; cap = refl; pages_fill = refl }
+effect_keeps s _ = record { table = refl; sessions = refl; cap = refl; pages_fill = refl }
 
 outcome_keeps : (s : State) (command : Command) (listing : List CacheLine) (r : Option Reply) →
     KeepsSizes s (outcome s command listing r).after
-outcome_keeps s command listing (Some refused) = record { table = refl; sessions = refl; cap = refl }
+outcome_keeps s command listing (Some refused) = record { table = refl; sessions = refl; cap = refl; pages_fill = refl }
 outcome_keeps s command listing None =
     let kept = effect_keeps (ready s command) command in
     each_outcome (λ o. KeepsSizes s o.after) (ready s command) command listing (lacks_room (ready s command) command) (fills_page (ready s command) command)
-    (record { table = refl; sessions = refl; cap = refl })
-    (λ refused is. record { table = refl; sessions = refl; cap = refl })
-    (record { table = kept.table; sessions = kept.sessions; cap = kept.cap })
+    (record { table = refl; sessions = refl; cap = refl; pages_fill = refl })
+    (λ refused is. record { table = refl; sessions = refl; cap = refl; pages_fill = refl })
+    (record { table = kept.table; sessions = kept.sessions; cap = kept.cap; pages_fill = kept.pages_fill })
 
 pub sizes_stay : SizesStay
-sizes_stay s None listing = record { table = refl; sessions = refl; cap = refl }
+sizes_stay s None listing = record { table = refl; sessions = refl; cap = refl; pages_fill = refl }
 sizes_stay s (Some command) listing = outcome_keeps s command listing (refusal s command)
 
 -- Commits.

@@ -14,7 +14,8 @@ abbrev pub Write : Type 0
 Write = ℕ × Content
 
 -- an active session: how many log records were made before it, its writes that stand, the last one last, how many of
--- them stand in front of its mark, the record of each write that it ever made, dropped ones too, and the records it read
+-- them stand in front of its mark, the record of each write that it ever made, dropped ones too, and the records that
+-- it read
 pub record Session : Type 0 where
   pub born : ℕ
   pub writes : List Write

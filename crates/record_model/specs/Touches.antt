@@ -25,8 +25,8 @@ write_touch number = touch (page_of number) true
 abbrev pub takes_back_touches : List state.Write → List CacheOp
 takes_back_touches writes = map (λ write. write_touch write.0) (reverse writes)
 
--- the touches of a command that is accepted: an abort goes from the last write that stands to the first, and a back does
--- so with those that it drops
+-- the touches of a command that is accepted: an abort goes from the last write that stands to the first, and a back
+-- from the last that it drops
 abbrev pub record_touches : State → Command → List CacheOp
 record_touches s (Begin n) = []
 record_touches s (Read n number) = read_touch number ∷ []

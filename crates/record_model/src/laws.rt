@@ -1,5 +1,6 @@
 // Facts about the model. The functions do nothing: each states its law as a clause.
-ghost use Rattle.record_model.specs.Laws.{RefusalsAreTold, SizesStay, SessionsStaySound};
+ghost use Rattle.record_model.specs.Laws.{RefusalsAreTold, SizesStay, SessionsStaySound, BackToTheMark};
+ghost use Rattle.record_model.specs.Laws.{PagesStayFit, TableFits, SeenFits};
 ghost use Rattle.record_model.specs.Laws.{EachLineHasATurn, TurnsFollow};
 ghost use Rattle.record_model.specs.Serial.{GetsAreSerial, Serial};
 
@@ -16,6 +17,19 @@ pub fn sizes_stay()
 /// What a session's standing writes are of it has written, and its mark is among them: each line keeps that.
 pub fn sessions_stay_sound()
     ensures { SessionsStaySound }
+{}
+
+/// A back to a session's mark leaves standing what stood at the mark, whatever came in between.
+pub fn back_to_the_mark()
+    ensures { BackToTheMark }
+{}
+
+/// In no page do the records come to need more octets together than it has room for: each line keeps that. So the
+/// values of its records have room there, those of the table and those that any session sees.
+pub fn pages_stay_fit()
+    ensures stay { PagesStayFit }
+    ensures table { TableFits }
+    ensures seen { SeenFits }
 {}
 
 /// Where no line quits, each line of a run has its turn.

@@ -8,8 +8,8 @@ mod value;
 mod words;
 
 pub use laws::{
-    each_line_has_a_turn, gets_are_serial, refusals_are_told, serial_order, sessions_stay_sound,
-    sizes_stay, turns_follow,
+    back_to_the_mark, each_line_has_a_turn, gets_are_serial, pages_stay_fit, refusals_are_told,
+    serial_order, sessions_stay_sound, sizes_stay, turns_follow,
 };
 pub use lists::{Items, Listing};
 pub use rows::{

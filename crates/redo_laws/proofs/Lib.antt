@@ -19,4 +19,5 @@ pub mod WornLogs
 pub mod RingNumbers
 pub mod LeftNumbers
 pub mod Endings
+pub mod ShortRecords
 pub mod ShortContents

@@ -134,6 +134,7 @@ follows_moved newest versions versions' records e other same f = record {
   held_off = f.held_off;
   from_shown = λ number is on. absurd (true≢false (sym is ∙ other));
   ends_undone = f.ends_undone;
+  room_in_page = λ number is on. absurd (true≢false (sym is ∙ other));
 }
 
 pub may_moved : (log log' : LogStore) (pages pages' : PageStore) (old new : Image) (newest : Option Master) (records : List Entry) (e : Entry) → is_update e.rec ≡ false → pages'.flash.geometry ≡ pages.flash.geometry → blocks_to log' ≡ blocks_to log → log'.kept ≡ log.kept →

@@ -440,8 +440,8 @@ fn undo_updates<S: Site>(
 }
 
 /// Undoes the last Updates of a transaction that aren't compensated, so many: a CLR for each, the last one first. `txn`
-/// is the LSN of its Begin and `last` that of its last record. Answers the LSN of its last record then. It passes over
-/// CLRs, reads each record once, and none that stands before the last Update which it undoes.
+/// is the LSN of its Begin and `last` that of its last record. Answers the LSN of its last record then. It goes back as
+/// `undo_one` does: it passes over CLRs, and reads each record once.
 /// Where what it reads is no record of the transaction that undo may read, or log or page has no room for what it logs,
 /// it answers Foreign.
 pub fn undo_to<S: Site>(
@@ -525,6 +525,7 @@ pub fn undo_one<S: Site>(
         last,
         next: last,
     };
+    // No log has as many Updates.
     let _undone = match undo_updates(site, log, pages, first, u64::MAX) {
         Ok(at) => at,
         Err(stop) => return Err(stop),

@@ -50,7 +50,7 @@ BackEndsNothing = (run_with 4 (three_writes ++ Some (Back 0 None) ∷ [])).tail
 -- a mark asks nothing, and behind it is nothing to go back over
 abbrev pub MarksAskNothing : Type 0
 MarksAskNothing = (run_with 4 (three_writes ++ Some (Mark 0) ∷ Some (Back 0 None) ∷ [])).tail
-    ≡ record { next = 1; used = 80; waiting = 2 ∷ 1 ∷ 0 ∷ [] }
+    ≡ record { next = 1; used = 79; waiting = 2 ∷ 1 ∷ 0 ∷ [] }
 
 -- long values fill a block, and a checkpoint seals what is left
 abbrev pub long_value : List ℕ

@@ -62,7 +62,7 @@ returns-then-not-fits-clause-does g c s fits =
     let count = ap (λ (x : Geometry). x.blocks) c.touch.ensures.works.sizes in
     let holds = c.in-Ok.ensures.holds fits.newest fits.records s.table s.commits fits.holds in
     let fits_mid : Matches mid new s = touched_fits engine c.touch.new.self old new s fits (stays_honest old new c.touch.ensures.works.calls.preserves fits.honest) holds c.touch.ensures.made in
-    let may = may_write mid new s fits_mid entry number 0 c.args.after.now going.table c.requires.active less c.requires.may.free (omega (arith, made, c.requires.may.room)) (let kept = c.touch.ensures.works.kept in omega (arith, blocks, going.store.blocks, made, kept)) (omega (arith, going.cap, count)) in
+    let may = may_write mid new s fits_mid entry number 0 c.args.after.now c.requires.short going.table c.requires.active less c.requires.may.free (omega (arith, made, c.requires.may.room)) (let kept = c.touch.ensures.works.kept in omega (arith, blocks, going.store.blocks, made, kept)) (omega (arith, going.cap, count)) in
     absurd (true≢false (sym (c.fits.ensures.grows new fits.newest fits.records s.table s.commits entry.begin entry.last 0 holds may) ∙ c.if-not-fits.true))
 
 pub returns-then-not-fits-clause-performs : goal.returns-then-not-fits-clause-performs
@@ -97,7 +97,7 @@ returns-in-Ok-update g c =
       does = λ s fits.
           let holds = c.in-Ok.ensures.holds fits.newest fits.records s.table s.commits fits.holds in
           let fits_mid : Matches mid new s = touched_fits engine c.touch.new.self old new s fits (stays_honest old new c.touch.ensures.works.calls.preserves fits.honest) holds c.touch.ensures.made in
-          let may = may_write mid new s fits_mid entry number lsn after going.table c.requires.active less c.requires.may.free (omega (arith, made, room)) (let kept = c.touch.ensures.works.kept in omega (arith, blocks, going.store.blocks, made, kept)) (omega (arith, going.cap, count)) in
+          let may = may_write mid new s fits_mid entry number lsn after c.requires.short going.table c.requires.active less c.requires.may.free (omega (arith, made, room)) (let kept = c.touch.ensures.works.kept in omega (arith, blocks, going.store.blocks, made, kept)) (omega (arith, going.cap, count)) in
           does_of (omega arith)
           (write_fits mid _ new last s entry number lsn (shown_in c.touch.new.self new fits.records number) after fits_mid going.table c.requires.active
           (stays_honest old last (goes_in_sequence old new last c.touch.ensures.works.calls.preserves c.update.ensures.works.calls.preserves) fits.honest)

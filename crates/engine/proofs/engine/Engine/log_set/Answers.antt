@@ -10,6 +10,9 @@ use Rattle.record_model.specs.State.{content_at, Content, State}
 use Rattle.log_records.specs.Log.{Entry}
 use Rattle.log_store.specs.Representation.{end_of}
 use Rattle.redo_laws.specs.Holding.{blocks_to}
+use Rattle.image_meaning.specs.Meaning.{versions_on}
+use Rattle.image_meaning.proofs.ShortValues.{HaveShort, begun_short}
+use Rattle.redo_laws.proofs.ShortRecords.{records_are_short}
 use Rattle.buffer_pool.specs.Frames.{front_of}
 use Rattle.page_store.specs.declared.store.PageStore.{PageStore}
 use Rattle.redo_undo.specs.declared.store.TransactionStore.{TransactionStore}
@@ -65,11 +68,11 @@ module _ (g : Over) (c : In-Ok g) where
   begin_may : (s : State) (fits : Fits s) (txn : ℕ) → end_of c.touch.new.self.log ≤ txn → MayGrow c.touch.new.self touched fits.newest fits.records (begin_at txn)
   begin_may s fits txn behind = let made = c.touch.ensures.made in may_begin mid touched s (fits_mid s fits) txn behind (omega (arith, made, c.requires.may.room)) c.in-Ok.ensures.works.going.blocks cap
 
-  update_may : (s : State) (fits : Fits s) (txn : ℕ) → end_of c.touch.new.self.log ≤ txn → (store : TransactionStore) (site : Site) (lsn : ℕ) → sizes_of store ≡ sizes_of c.touch.new.self → store.log.kept ≡ c.touch.new.self.log.kept → blocks_to store.log ≤ blocks_to c.touch.new.self.log + 1 →
+  update_may : (s : State) (fits : Fits s) (txn : ℕ) → end_of c.touch.new.self.log ≤ txn → (store : TransactionStore) (site : Site) (lsn : ℕ) → HaveShort (fits.records ++ begin_at txn ∷ []) (versions_on (sizes_of store) site.image) → sizes_of store ≡ sizes_of c.touch.new.self → store.log.kept ≡ c.touch.new.self.log.kept → blocks_to store.log ≤ blocks_to c.touch.new.self.log + 1 →
       MayGrow store site fits.newest (fits.records ++ begin_at txn ∷ []) (update_at txn lsn c.args.number (shown_in store site (fits.records ++ begin_at txn ∷ []) c.args.number) c.args.after.now)
-  update_may s fits txn behind store site lsn same kept more =
+  update_may s fits txn behind store site lsn short same kept more =
       let made = c.touch.ensures.made in
-      may_update mid touched s c.args.number (fits_mid s fits) c.requires.going.table there (omega (arith, made, c.requires.may.room)) c.in-Ok.ensures.works.going.blocks cap c.requires.may.free txn behind store site lsn c.args.after.now same kept more
+      may_update mid touched s c.args.number (fits_mid s fits) c.requires.going.table there (omega (arith, made, c.requires.may.room)) c.in-Ok.ensures.works.going.blocks cap c.requires.may.free txn behind store site lsn c.args.after.now short c.requires.short same kept more
 
 -- And the transaction has begun.
 module _ (g : Over) (c : In-Ok-begin g) (s : State) (fits : Matches c.args.self.now (g.S.Site.state c.args.site.now) s) where
@@ -86,7 +89,7 @@ module _ (g : Over) (c : In-Ok-begin g) (s : State) (fits : Matches c.args.self.
   two = g.S.Site.state c.begin.new.site
 
   may : (lsn : ℕ) → MayGrow c.begin.new.self two fits.newest log (update_at c.in-Ok-begin.txn lsn c.args.number (shown_in c.begin.new.self two log c.args.number) c.args.after.now)
-  may lsn = update_may g touch s fits c.in-Ok-begin.txn c.in-Ok-begin.ensures.rises.0 c.begin.new.self two lsn c.begin.ensures.works.sizes c.begin.ensures.works.kept c.in-Ok-begin.ensures.works.blocks
+  may lsn = update_may g touch s fits c.in-Ok-begin.txn c.in-Ok-begin.ensures.rises.0 c.begin.new.self two lsn (records_are_short c.begin.new.self.log c.begin.new.self.pages two fits.newest log s.table s.commits holds.both) c.begin.ensures.works.sizes c.begin.ensures.works.kept c.in-Ok-begin.ensures.works.blocks
 
   there_before : content_at s.table c.args.number ≡ shown_in c.begin.new.self two log c.args.number
   there_before = set_there (mid g touch) (touched g touch) s c.args.number (fits_mid g touch s fits) c.requires.going.table (there g touch) c.requires.may.free c.in-Ok-begin.txn c.in-Ok-begin.ensures.rises.0 c.begin.new.self two c.begin.ensures.works.sizes holds
@@ -156,7 +159,8 @@ returns-then-not-fits-clause-keeps g c s fits =
     let store = c.touch.new.self in
     let one = touched g at in
     let begun = fits.records ++ begin_at (end_of store.log) ∷ [] in
-    let may = update_may g at s fits (end_of store.log) (omega arith) store one 0 refl refl (omega arith) in
+    let may = update_may g at s fits (end_of store.log) (omega arith) store one 0
+    (begun_short fits.records (versions_on (sizes_of store) one.image) (end_of store.log) (records_are_short store.log store.pages one fits.newest fits.records s.table s.commits (held g at s fits).both)) refl refl (omega arith) in
     absurd (true≢false (sym (c.fits.ensures.begins one fits.newest fits.records s.table s.commits (end_of store.log) 0 (held g at s fits) may) ∙ c.if-not-fits.true))
 
 pub returns-then-not-fits-clause-performs : goal.returns-then-not-fits-clause-performs
