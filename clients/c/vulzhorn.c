@@ -46,13 +46,11 @@ static const char *behind(const char *line, const char *word) {
 static bool read_value(const char *hex, vulzhorn_value *value) {
     static const char digits[] = "0123456789abcdef";
     size_t length = strspn(hex, digits);
-    *value = (vulzhorn_value){.there = true};
-    if (strcmp(hex, "-") == 0) return true;
-    if (hex[length] != '\0' || length % 2 != 0 || length / 2 > VULZHORN_VALUE_ROOM) return false;
-    for (; *hex != '\0'; hex += 2) {
-        long octet = (strchr(digits, hex[0]) - digits) * 16 + (strchr(digits, hex[1]) - digits);
-        value->octets[value->length++] = (unsigned char)octet;
-    }
+    bool is_hex = hex[length] == '\0' && length % 2 == 0 && length / 2 <= VULZHORN_VALUE_ROOM;
+    if (!is_hex && strcmp(hex, "-") != 0) return false;
+    *value = (vulzhorn_value){.there = true, .length = length / 2};
+    for (size_t i = 0; i < length; i++)
+        value->octets[i / 2] = (unsigned char)(value->octets[i / 2] * 16 + (strchr(digits, hex[i]) - digits));
     return true;
 }
 
@@ -66,18 +64,13 @@ static const char *spell(char hex[HEX_ROOM], const unsigned char *octets, size_t
 /* Takes the last line of a reply; answers whether it is one. */
 static bool read_reply(const char *line, vulzhorn_request *request) {
     static const char *const done[] = {"none", "ok", "committed ", "aborted", "end ", "open ", "ready "};
-    static const char *const refused[] = {
-        [VULZHORN_BUSY] = "busy ",
-        [VULZHORN_FULL] = "full ",
-        [VULZHORN_NO_RECORD] = "refused record",
-        [VULZHORN_TOO_LONG] = "refused long",
-        [VULZHORN_NO_SESSION] = "refused session",
-        [VULZHORN_REFUSED] = "refused "};
+    static const char *const refused[] = {/* in the order of the errors, from VULZHORN_BUSY to VULZHORN_REFUSED */
+        "busy ", "full ", "refused record", "refused long", "refused session", "refused "};
     const char *rest = behind(line, "value ");
     if (rest != NULL) return read_value(rest, &request->value);
     for (size_t i = 0; rest == NULL && i < sizeof done / sizeof *done; i++) rest = behind(line, done[i]);
-    for (int i = VULZHORN_BUSY; rest == NULL && i <= VULZHORN_REFUSED; i++)
-        if ((rest = behind(line, refused[i])) != NULL) request->error = (vulzhorn_error)i;
+    for (size_t i = 0; rest == NULL && i < sizeof refused / sizeof *refused; i++)
+        if ((rest = behind(line, refused[i])) != NULL) request->error = VULZHORN_BUSY + (vulzhorn_error)i;
     if (rest != NULL) request->number = strtoull(rest, NULL, 10);
     return rest != NULL;
 }
@@ -100,8 +93,7 @@ static vulzhorn_error of_status(int status, const char *said) {
     if (status == 9 && strstr(said, "these sizes ask for")) return VULZHORN_WRONG_SIZES;
     if (status == 9 && (strstr(said, "can't be opened") || strstr(said, "can't be made") || strstr(said, "is no file")))
         return VULZHORN_UNUSABLE;
-    bool is_known = status > 0 && status <= NOT_STARTED && errors[status] != VULZHORN_OK;
-    return is_known ? errors[status] : VULZHORN_ENDED;
+    return status > 0 && status <= NOT_STARTED && errors[status] != VULZHORN_OK ? errors[status] : VULZHORN_ENDED;
 }
 
 static void shut(int *end) {
