@@ -23,7 +23,8 @@ EXPORTED, IMPORTED = 4096, 100  # records and lines of one transaction, at most
 WORD = re.compile(r'"(?:[^"\\]|\\.)*"|\S+')
 EXPORT_LINE = re.compile(r"(\d{1,9}) ((?:[0-9a-fA-F]{2})+|-)\n?")
 HELP = json.loads(pkgutil.get_data("vulzhorn", "help.json") or "")
-COMMANDS: Dict[str, List[str]] = HELP["commands"]  # of each the words behind it, what it does, and an example
+# Of each command the words behind it, what it does, an example, and how what it answers is shown.
+COMMANDS: Dict[str, List[str]] = HELP["commands"]
 
 
 class Wrong(Exception):
@@ -44,11 +45,6 @@ def listed(items: List[Any]) -> str:
     """What a scan found, a record a line."""
     lines = [f"{number:7}  " + shown(value).replace("\n", "\n" + 9 * " ") for number, value in items]
     return "\n".join([*lines, f"{len(items)} records have a value"])
-
-
-# How what a command answers is shown; else it is what is shown, or `ok`.
-SHOWN: Dict[str, Callable[[Any], str]] = {
-    "get": shown, "read": shown, "list": listed, "set": "committed {}".format, "commit": "committed {}".format}
 
 
 def meaning(error: Exception) -> str:
@@ -78,8 +74,11 @@ def progress(whole: int) -> Iterator[Callable[[int], bool]]:
         print("\r\033[K" if is_seen else "", end="", flush=True)
 
 
+SHOWN: Dict[str, Callable[[Any], str]] = {"value": shown, "items": listed}
+
+
 class Shell(cmd.Cmd):
-    """A command is a method do_* of this class, or a method of Transaction, or else a line of the program's."""
+    """A command is a method do_* of this class, or one of the session's, or else a line of the program's."""
 
     def __init__(self, database: Database) -> None:
         super().__init__()
@@ -105,15 +104,15 @@ class Shell(cmd.Cmd):
         return self.status != 0 or words == ["quit"]
 
     def _called(self, name: str, *words: str) -> str:
-        form, _, example = COMMANDS[self._argument("COMMAND", name)]
+        form, _, example, how = COMMANDS[self._argument("COMMAND", name)]
         kinds = form.split()
         if not len([kind for kind in kinds if kind[0] != "["]) <= len(words) <= len(kinds):
             raise Wrong(f"the form is {' '.join([name, *kinds])}, for example {example}")
         arguments = [self._argument(kind.strip("[]"), word) for kind, word in zip(kinds, words)]
-        of_session = getattr(Transaction, "scan" if name == "list" else name, None)
-        call = getattr(self, f"do_{name.lstrip('.')}", of_session)
-        answer = call(*arguments) if call else self.database.submit(name, *arguments).result()
-        return SHOWN.get(name, lambda told: "ok" if told is None else told)(answer)
+        asked = arguments.pop(0) if kinds[:1] == ["SESSION"] else self.database
+        call = getattr(self, f"do_{name.lstrip('.')}", None) or getattr(asked, "scan" if name == "list" else name, None)
+        answer = call(*arguments) if call else asked.submit(name, *arguments).result()
+        return SHOWN.get(how, how.format)(answer)
 
     def _argument(self, kind: str, word: str) -> Any:
         """What a word of a line stands for."""
@@ -141,13 +140,13 @@ class Shell(cmd.Cmd):
         with self.database.transaction(0) as session:
             session.erase(record)
 
-    def do_scan(self, first: int, count: int) -> str:
-        return listed(self.database.scan(first, count, 0))
+    def do_scan(self, first: int, count: int) -> List[Any]:
+        return self.database.scan(first, count, 0)
 
-    def do_begin(self) -> str:
+    def do_begin(self) -> int:
         session = self.database.transaction(0)
         self.sessions[session.session] = session
-        return f"session {session.session} is open"
+        return session.session
 
     def do_stat(self) -> str:
         told = self.database.submit("stat").result()
@@ -207,7 +206,7 @@ class Shell(cmd.Cmd):
     def do_help(self, name: str = "") -> str:  # type: ignore[override]
         if name:
             return "{0} {1}\n{2}\nexample: {3}".format(name, *COMMANDS[name])
-        return "\n".join([*(f"{f'{it} {form}':28}{does}" for it, (form, does, _) in COMMANDS.items()), HELP["value"]])
+        return "\n".join([*(f"{f'{it} {form}':28}{does}" for it, (form, does, *_) in COMMANDS.items()), HELP["value"]])
 
     def do_quit(self) -> str:
         return f"sessions that are undone: {', '.join(map(str, self.sessions))}" if self.sessions else ""
