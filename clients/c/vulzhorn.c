@@ -18,8 +18,7 @@
 #include <sys/wait.h>
 #include <unistd.h>
 
-enum { LINE_MAX_OCTETS = 500, HEX_ROOM = 2 * VULZHORN_VALUE_ROOM + 1 };
-enum { SESSIONS = 8, OUT_ROOM = 65536, IN_ROOM = 65536, NOT_STARTED = 127 };
+enum { LINE_MAX_OCTETS = 500, HEX_ROOM = 2 * VULZHORN_VALUE_ROOM + 1, ROOM = 65536, SESSIONS = 8, NOT_STARTED = 127 };
 
 struct vulzhorn {
     pthread_mutex_t lock;
@@ -33,7 +32,7 @@ struct vulzhorn {
     uint64_t commits;
     atomic_uint taken; /* a bit for each session */
     size_t out_length, in_length;
-    char out[OUT_ROOM], in[IN_ROOM], said[4096];
+    char out[ROOM], in[ROOM], said[4096];
 };
 
 /* --- lines and replies */
@@ -138,7 +137,7 @@ static void hear(vulzhorn *db, const char *line) {
 }
 
 static void receive(vulzhorn *db) {
-    ssize_t got = read(db->from, db->in + db->in_length, IN_ROOM - db->in_length);
+    ssize_t got = read(db->from, db->in + db->in_length, ROOM - db->in_length);
     if (got < 0 && (errno == EINTR || errno == EAGAIN || errno == EWOULDBLOCK)) return;
     if (got <= 0) {
         finish(db);
@@ -152,7 +151,7 @@ static void receive(vulzhorn *db) {
     }
     db->in_length = (size_t)(end - line);
     memmove(db->in, line, db->in_length);
-    if (db->in_length == IN_ROOM) kill(db->process, SIGKILL); /* no line is so long */
+    if (db->in_length == ROOM) kill(db->process, SIGKILL); /* no line is so long */
 }
 
 /* Writes the whole lines that there is room for. Where the program has ended `receive` finds it. */
@@ -193,7 +192,7 @@ static vulzhorn_request *submit(vulzhorn *db, vulzhorn_request *request, const c
     va_end(words);
     bool is_short = length < sizeof line;
     pthread_mutex_lock(&db->lock);
-    while (is_short && db->ended == VULZHORN_OK && db->out_length + length > OUT_ROOM) step(db);
+    while (is_short && db->ended == VULZHORN_OK && db->out_length + length > ROOM) step(db);
     request->error = is_short ? db->ended : VULZHORN_TOO_LONG;
     request->answered = request->error != VULZHORN_OK;
     if (!request->answered) {

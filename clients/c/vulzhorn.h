@@ -68,7 +68,6 @@ typedef struct vulzhorn_request {
 } vulzhorn_request;
 
 typedef struct vulzhorn vulzhorn;
-
 vulzhorn_error vulzhorn_open(const char *folder, const vulzhorn_options *options, vulzhorn **db);
 void vulzhorn_close(vulzhorn *db);
 uint64_t vulzhorn_commits(const vulzhorn *db);
