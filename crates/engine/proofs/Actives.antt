@@ -10,14 +10,14 @@ use Rattle.log_records.specs.declared.log_record.LogRecord.TheVariants.{Begin}
 use Rattle.log_records.specs.Log.{Entry, is_of, entries_of}
 use Rattle.log_records.specs.Unfinished.{left_open, open_by, open_updates}
 use Rattle.log_laws.specs.Follow.{IsActive, IsFresh}
-use Rattle.log_laws.proofs.Losers.{active_begun, active_stays, loser_stays}
+use Rattle.log_laws.proofs.Losers.{active_begun, active_stays, entries_other, entries_own, loser_stays}
 use Rattle.log_laws.proofs.Appends.{fresh_entries}
 use Rattle.log_laws.proofs.Owing.{left_push, owed_begin}
 use Rattle.txn_table.specs.declared.active.Active.{Active}
 use Rattle.txn_table.specs.Entries.{entry_of, ChangesOnly}
 use Rattle.txn_table.specs.Entries as entries
 use Rattle.image_meaning.specs.Meaning.{master_of}
-use Rattle.engine.specs.Representation.{IsUnderWay, RunOn, SessionIs, SessionsAre}
+use Rattle.engine.specs.Representation.{IsUnderWay, RunOn, SessionIs, SessionsAre, updated}
 
 -- what is active in one is in the other
 pub none_active : (newest : Option Master) (records : List Entry) (active : List Active) (s : State) → SessionsAre newest records active s → (n : ℕ) → entry_of active n ≡ None → session_at s n ≡ None
@@ -51,6 +51,8 @@ others_stay newest kept records e (Some entry) (Some session) other is = record 
   is_active = active_stays (master_of newest) records e entry.begin entry.last session.writes is.is_active (other entry refl);
   born = is.born;
   count = is.count;
+  mark = is.mark;
+  wrote = is.wrote ∙ ap updated (sym (entries_other records e entry.begin (other entry refl)));
   runs_on = subst RunOn (sym (left_push records e entry.begin ∙ ap (λ (b : Bool). cond b (open_by (left_open records entry.begin) e e.rec) (left_open records entry.begin)) (other entry refl))) is.runs_on;
 }
 
@@ -64,11 +66,11 @@ not_fresh newest kept records entry session lsn under fresh same =
 
 -- a session begins
 pub begun : (newest : Option Master) (records : List Entry) (old new : List Active) (s : State) (n lsn made : ℕ) (entry : Active) → SessionsAre newest records old s → n < 8 → entry_of old n ≡ None → ChangesOnly old new n (Some entry) → entries.owed new ≡ entries.owed old + 1 →
-    IsFresh lsn records → 512 * (master_of newest).redo ≤ lsn → entry.begin ≡ lsn → entry.last ≡ lsn → entry.born + s.kept ≡ s.made → entry.writes ≡ 0 →
-    SessionsAre newest (records ++ record { lsn = lsn; rec = Begin } ∷ []) new (making 1 (with_session s n (Some (record { born = s.made; writes = []; reads = [] }))))
-begun newest records old new s n lsn made entry are small none changes owes fresh late begin last born writes =
+    IsFresh lsn records → 512 * (master_of newest).redo ≤ lsn → entry.begin ≡ lsn → entry.last ≡ lsn → entry.born + s.kept ≡ s.made → entry.writes ≡ 0 → entry.mark ≡ 0 →
+    SessionsAre newest (records ++ record { lsn = lsn; rec = Begin } ∷ []) new (making 1 (with_session s n (Some (record { born = s.made; writes = []; mark = 0; wrote = []; reads = [] }))))
+begun newest records old new s n lsn made entry are small none changes owes fresh late begin last born writes mark =
     let e : Entry = record { lsn = lsn; rec = Begin } in
-    let session : Session = record { born = s.made; writes = []; reads = [] } in
+    let session : Session = record { born = s.made; writes = []; mark = 0; wrote = []; reads = [] } in
     record {
       count = length-set s.sessions n (Some session) ∙ are.count;
       each = λ m. ⊎_elim
@@ -79,6 +81,8 @@ begun newest records old new s n lsn made entry are small none changes owes fres
             is_active = subst (λ (t : ℕ). IsActive (master_of newest) (records ++ e ∷ []) t entry.last []) (sym begin) (subst (λ (l : ℕ). IsActive (master_of newest) (records ++ e ∷ []) lsn l []) (sym last) (active_begun (master_of newest) records lsn fresh late));
             born = born;
             count = writes;
+            mark = mark;
+            wrote = sym (ap (λ (t : ℕ). updated (entries_of t (records ++ e ∷ []))) begin ∙ ap updated (entries_own records e lsn (eq-eqb lsn lsn refl) ∙ ap (λ (l : List Entry). l ++ e ∷ []) (fresh_entries lsn records fresh)));
             runs_on = subst RunOn (sym (ap (left_open (records ++ e ∷ [])) begin ∙ none_left)) tt;
           }))))
           (λ differ. subst (λ (a : Option Active). SessionIs newest s.kept (records ++ e ∷ []) a (slice_index_or (slice_set s.sessions n (Some session)) m None)) (sym (changes.others m differ))

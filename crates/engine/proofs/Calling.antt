@@ -1,7 +1,7 @@
 -- Calls one after the other, each known by its record.
 use Rattle.redo_laws.proofs.CallsInSequence.{nothing_happens}
 use Rattle.std.proofs.Common.{◌≡◌, inl, inr, ◌+◌, ◌≤◌, List, [], ◌∷◌, ◌++◌, Bool, true, None, refl, sym, subst, ap, ◌∙◌, arith, ⊎_elim, ℕ}
-use Rattle.std.specs.Prelude.{Result, Ok, Err, OnOk, IfOk, IsErrOf, IsTrue, if◌then◌else◌}
+use Rattle.std.specs.Prelude.{Option, Result, Ok, Err, OnOk, IfOk, IsErrOf, IsTrue, if◌then◌else◌}
 use Rattle.site.specs.declared.outside.Dev.{Dev}
 use Rattle.site.specs.declared.outside.Stop.{Stop}
 use Rattle.site.specs.declared.outside.Stop.TheVariants.{Device, Worn, Memory}
@@ -12,7 +12,7 @@ use Rattle.site.specs.Calls.{Preserves, FaultRose, IsUnchanged}
 use Rattle.site.specs.Faults.{Faults, faults_in, after_work, WorkFaults}
 use Rattle.site.proofs.Laws.{holds_now, leaves_weaker, stays_honest, fault_since, goes_in_sequence}
 use Rattle.record_model.specs.State.{Content, State, Write, table_with}
-use Rattle.record_model.specs.Step.{Outcome, refusal, asks_for_checkpoint, lacks_room, making, committed}
+use Rattle.record_model.specs.Step.{Outcome, refusal, asks_for_checkpoint, fills_page, lacks_room, making, committed}
 use Rattle.record_model.specs.Touches.{CacheOp, flush, command_touches}
 use Rattle.record_model.specs.declared.words.Command.{Command}
 use Rattle.record_model.specs.declared.words.Reply.{Reply}
@@ -38,6 +38,7 @@ use Rattle.engine.proofs.RingCounts.{counts, count_failed, count_answered, count
 use Rattle.engine.proofs.Replies.{none_made, made_as_asked, step_behind, touches_behind, touched, way}
 use Rattle.site.proofs.Working.{calls_nothing, calls_then, calls_failed, calls_answered, calls_refused}
 use Rattle.site.specs.Work.{Calls}
+use Rattle.redo_undo.specs.declared.store.TransactionStore.{TransactionStore}
 use Rattle.redo_undo.specs.StoreCalls.{KeepsInvariant, Keeps}
 use Rattle.redo_laws.proofs.Endings.{ends_behind, ends_failed, ends_leaving, ends_no_memory, ends_ok, leaves_late}
 use Rattle.redo_undo.proofs.NextUnits.{next_then, next_failed, next_answered, next_nothing, next_refused}
@@ -62,7 +63,9 @@ calls_behind {r = r} {before = before} {between = between} {now = now} goes same
 
 -- Log and pages, on every site.
 
--- Log and pages, on an honest site.
+-- a call that stops is a call of any number of records
+pub works_sooner : {T : Type 0} {stop : Stop} {old new : TransactionStore} {before now : Site} {n : ℕ} (k : ℕ) → KeepsInvariant {T = T} (Err stop) old new before now n → KeepsInvariant {T = T} (Err stop) old new before now k
+works_sooner k first = record { calls = first.calls; going = tt; made = tt; blocks = tt; rises = tt; kept = first.kept; sizes = first.sizes; stops = first.stops; next = first.next }
 
 -- How a call ends on an honest site.
 
@@ -210,16 +213,16 @@ refused_as P {engine = engine} {site = site} {s = s} command {r = r} is fits goi
 
 -- A command that no test refuses, behind the checkpoint that is made where it asks for one.
 module _ {s : State} (command : Command) {asks : Bool} (known : asks ≡ asks_for_checkpoint s command) (passes : refusal s command ≡ None) (R : Outcome → Snapshot → Type 0) where
-  pub first_then : {A : Type 0} {a : A} {r : Result Reply Stop} {old mid new : Engine} {before between now : Site} {P Q : Snapshot → Type 0} (lacks : Bool) → lacks_room (checkpointed_if asks s) command ≡ lacks → IsTrue before.honest →
-      ((x : Snapshot) → P x → R (way (checkpointed_if asks s) command lacks) x) → (LeavesOnly before between P → (x : Snapshot) → Q x → R (way (checkpointed_if asks s) command lacks) x) →
+  pub first_then : {A : Type 0} {a : A} {r : Result Reply Stop} {old mid new : Engine} {before between now : Site} {P Q : Snapshot → Type 0} (lacks : Bool) → lacks_room (checkpointed_if asks s) command ≡ lacks → (filled : Option Reply) → fills_page (checkpointed_if asks s) command ≡ filled →
+      IsTrue before.honest → ((x : Snapshot) → P x → R (way (checkpointed_if asks s) command lacks filled) x) → (LeavesOnly before between P → (x : Snapshot) → Q x → R (way (checkpointed_if asks s) command lacks filled) x) →
       KeepsUnread {T = A} (Ok a) old mid before between → CommandEffect {T = A} (Ok a) old mid before between s (checkpointed_if asks s) P (if asks then 1 else 0) →
       StepsMachine {T = A} (Ok a) (if asks then checkpoint_works else []) old.store.pages mid.store.pages before between →
-      CommandEffect r mid new between now (checkpointed_if asks s) (way (checkpointed_if asks s) command lacks).after Q 0 → IfOk r (λ reply. reply ≡ (way (checkpointed_if asks s) command lacks).reply) → StepsMachine r (touched s command lacks) mid.store.pages new.store.pages between now →
+      CommandEffect r mid new between now (checkpointed_if asks s) (way (checkpointed_if asks s) command lacks filled).after Q 0 → IfOk r (λ reply. reply ≡ (way (checkpointed_if asks s) command lacks filled).reply) → StepsMachine r (touched s command lacks filled) mid.store.pages new.store.pages between now →
       CommandContract r old new before now s (run s command) (command_touches s command) (R (run s command)) (checkpoints_by s command)
-  first_then {a = a} {r = r} {old = old} {mid = mid} {new = new} {before = before} {between = between} {now = now} lacks is honest early late serves does asked second reply touches =
+  first_then {a = a} {r = r} {old = old} {mid = mid} {new = new} {before = before} {between = between} {now = now} lacks is filled fills honest early late serves does asked second reply touches =
       subst (λ (b : Bool). CommandContract r old new before now s (run s command) (command_touches s command) (R (run s command)) (if b then 1 else 0)) (made_as_asked s command known passes)
-      (answered_as R (step_behind s command known passes ∙ ap (way (checkpointed_if asks s) command) is, (touches_behind s command known passes ∙ ap (λ (l : Bool). (if asks then flush ∷ [] else []) ++ touched s command l) is, tt {0})) (does_then honest (omega arith) early late serves does second) reply
-      (asks_then a r (if asks then checkpoint_works else []) (touched s command lacks) old.store.pages mid.store.pages new.store.pages before between now asked touches))
+      (answered_as R (step_behind s command known passes ∙ (λ i. way (checkpointed_if asks s) command (is i) (fills i)), (touches_behind s command known passes ∙ (λ i. (if asks then flush ∷ [] else []) ++ touched s command (is i) (fills i)), tt {0})) (does_then honest (omega arith) early late serves does second) reply
+      (asks_then a r (if asks then checkpoint_works else []) (touched s command lacks filled) old.store.pages mid.store.pages new.store.pages before between now asked touches))
 
   -- that fails
   pub first_failed : {A : Type 0} {stop : Stop} {old mid : Engine} {before now : Site} {P : Snapshot → Type 0} → Invariant old before → ((x : Snapshot) → P x → R (run s command) x) →
@@ -229,7 +232,7 @@ module _ {s : State} (command : Command) {asks : Bool} (known : asks ≡ asks_fo
       let nothing : run s command ≡ run s command = refl in
       subst (λ (b : Bool). CommandContract (Err stop) old mid before now s (run s command) (command_touches s command) (R (run s command)) (if b then 1 else 0)) (made_as_asked s command known passes)
       (answered_as R (nothing, (touches_behind s command known passes, tt {0})) (does_failed (run_makes s command) (does_weaker early does)) tt
-      (asks_stopped {A = A} {B = Reply} stop (if asks then checkpoint_works else []) (touched s command (lacks_room (checkpointed_if asks s) command)) old.store.pages mid.store.pages before now (has_group going) asked))
+      (asks_stopped {A = A} {B = Reply} stop (if asks then checkpoint_works else []) (touched s command (lacks_room (checkpointed_if asks s) command) (fills_page (checkpointed_if asks s) command)) old.store.pages mid.store.pages before now (has_group going) asked))
 
 -- What a crash leaves of a call behind one that left the table.
 

@@ -8,17 +8,18 @@ use Rattle.std.proofs.lemmas.Bool.{ne_eqb, eq-eqb, cases_eq}
 use Rattle.record_model.specs.State.{Content, Session, State, Write, session_at}
 use Rattle.record_model.specs.Step.{making, with_session, having_written}
 use Rattle.log_records.specs.declared.log_record.LogRecord.TheVariants.{Update}
-use Rattle.log_records.specs.Log.{Entry, txn_of, is_loser, is_closing, is_on, after_of}
+use Rattle.log_records.specs.Log.{Entry, entries_of, txn_of, is_loser, is_closing, is_on, after_of}
 use Rattle.log_records.specs.Unfinished.{left_open}
 use Rattle.log_laws.specs.Follow.{IsActive, CanBeUndone}
-use Rattle.log_laws.proofs.Losers.{active_writes, active_owes, loser_stays, loser_is_closed}
+use Rattle.log_laws.proofs.Losers.{active_writes, active_owes, entries_own, loser_stays, loser_is_closed}
 use Rattle.log_laws.proofs.Owing.{left_push, owed_update, owed_closing}
 use Rattle.txn_table.specs.declared.active.Active.{Active}
 use Rattle.txn_table.specs.Entries.{entry_of, ChangesOnly, after_write}
 use Rattle.txn_table.specs.Entries as entries
 use Rattle.image_meaning.specs.Meaning.{master_of}
-use Rattle.engine.specs.Representation.{RunOn, SessionIs, SessionsAre}
+use Rattle.engine.specs.Representation.{RunOn, SessionIs, SessionsAre, updated}
 use Rattle.engine.proofs.Actives.{some_active, others_stay}
+use Rattle.engine.proofs.Updated.{updated_more}
 
 -- another session's transaction is another one
 other_txn : (newest : Option Master) (records : List Entry) (active : List Active) (s : State) → SessionsAre newest records active s → (n m : ℕ) (own other : Active) → entry_of active n ≡ Some own → entry_of active m ≡ Some other → m ≢ n → own.begin ≢ other.begin
@@ -46,6 +47,8 @@ wrote_more newest records old new s n lsn page slot entry before after are small
             is_active = active_writes (master_of newest) records lsn entry.begin entry.last page slot session.writes before after under.is_active undone;
             born = under.born;
             count = omega (arith, under.count, length-append session.writes (write ∷ []));
+            mark = under.mark;
+            wrote = ap (λ (l : List ℕ). l ++ 32 * page + slot ∷ []) under.wrote ∙ sym (ap updated (entries_own records e entry.begin (eq-eqb entry.begin entry.begin refl)) ∙ updated_more (entries_of entry.begin records) e);
             runs_on = subst RunOn (sym one_left) ((λ number on x found. known x (ap (λ (k : ℕ). find (is_on k) (left_open records entry.begin)) (same_Some (32 * page + slot) number on) ∙ found)), under.runs_on);
           }))))
           (λ differ. subst (λ (a : Option Active). SessionIs newest s.kept (records ++ e ∷ []) a (slice_index_or (slice_set s.sessions n now) m None)) (sym (changes.others m differ))

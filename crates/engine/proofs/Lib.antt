@@ -4,6 +4,7 @@ pub mod Changes
 pub mod Calling
 pub mod Performing
 pub mod Undoing
+pub mod Updated
 pub mod RestartedRings
 pub mod Checkpoints
 pub mod Commits
@@ -12,6 +13,7 @@ pub mod Locks
 pub mod Meanings
 pub mod Moments
 pub mod Namings
+pub mod NeverFull
 pub mod Openings
 pub mod Queues
 pub mod Recovers

@@ -3,15 +3,15 @@ use Rattle.std.proofs.Common.{◌≡◌, ◌≢◌, ℕ, ◌==◌, ◌<◌, ◌&
 use Rattle.std.specs.Prelude.{slice_set, slice_index_or, length}
 use Rattle.std.specs.List.{list_any}
 use Rattle.std.proofs.lemmas.Bool.{cases_eq, eq-eqb, ne_eqb}
-use Rattle.record_model.specs.State.{Session, State, Write, session_at, writes_of, reads_of}
+use Rattle.record_model.specs.State.{Session, State, session_at, wrote_of, reads_of}
 use Rattle.lock_table.specs.declared.lock.Lock.{Lock}
 use Rattle.lock_table.specs.Locks.{ReleasesAll}
 use Rattle.lock_table.specs.Locks as locks
 use Rattle.engine.specs.Representation.{LocksAre}
 
-pub locks_stay : (held : List Lock) (s s' : State) → ((n : ℕ) → writes_of (session_at s' n) ≡ writes_of (session_at s n)) → ((n : ℕ) → reads_of (session_at s' n) ≡ reads_of (session_at s n)) → LocksAre held s → LocksAre held s'
-locks_stay held s s' writes reads are = record {
-  written = λ n r. are.written n r ∙ sym (ap (λ (ws : List Write). list_any (λ write. write.0 == r) ws) (writes n));
+pub locks_stay : (held : List Lock) (s s' : State) → ((n : ℕ) → wrote_of (session_at s' n) ≡ wrote_of (session_at s n)) → ((n : ℕ) → reads_of (session_at s' n) ≡ reads_of (session_at s n)) → LocksAre held s → LocksAre held s'
+locks_stay held s s' wrote reads are = record {
+  written = λ n r. are.written n r ∙ sym (ap (λ (ws : List ℕ). list_any (λ wrote. wrote == r) ws) (wrote n));
   reads = λ n r. are.reads n r ∙ sym (ap (λ (rs : List ℕ). list_any (λ read. read == r) rs) (reads n));
 }
 
@@ -27,8 +27,8 @@ at_set of xs n o was small was_is same m = ⊎_elim
 pub released : (old new : List Lock) (s s' : State) (n : ℕ) → n < length s.sessions → s'.sessions ≡ slice_set s.sessions n None → ReleasesAll old new n → LocksAre old s → LocksAre new s'
 released old new s s' n small sessions all are = record {
   written = λ m r. ⊎_elim
-      (λ (same : m ≡ n). all.written m r ∙ ap (λ (b : Bool). not b && locks.has_written old m r) (eq-eqb m n same) ∙ sym (ap (λ (o : Option Session). list_any (λ write. write.0 == r) (writes_of o)) (gone m same)))
-      (λ differ. all.written m r ∙ ap (λ (b : Bool). not b && locks.has_written old m r) (ne_eqb m n differ) ∙ are.written m r ∙ sym (ap (λ (o : Option Session). list_any (λ write. write.0 == r) (writes_of o)) (other m differ)))
+      (λ (same : m ≡ n). all.written m r ∙ ap (λ (b : Bool). not b && locks.has_written old m r) (eq-eqb m n same) ∙ sym (ap (λ (o : Option Session). list_any (λ wrote. wrote == r) (wrote_of o)) (gone m same)))
+      (λ differ. all.written m r ∙ ap (λ (b : Bool). not b && locks.has_written old m r) (ne_eqb m n differ) ∙ are.written m r ∙ sym (ap (λ (o : Option Session). list_any (λ wrote. wrote == r) (wrote_of o)) (other m differ)))
       (cases_eq m n);
   reads = λ m r. ⊎_elim
       (λ (same : m ≡ n). all.reads m r ∙ ap (λ (b : Bool). not b && locks.has_read old m r) (eq-eqb m n same) ∙ sym (ap (λ (o : Option Session). list_any (λ read. read == r) (reads_of o)) (gone m same)))

@@ -8,7 +8,7 @@ use Rattle.std.proofs.lemmas.List.FromFn.{length-map-range_with_len}
 use Rattle.std.proofs.lemmas.Option.{none-some, same_Some}
 use Rattle.std.proofs.lemmas.Bool.{cases_eq, and_from, ne_eqb}
 use Rattle.site.specs.State.{State as Site}
-use Rattle.record_model.specs.State.{Content, Session, State, Write, writes_of, content_at, seen, last_write}
+use Rattle.record_model.specs.State.{Content, Session, State, Write, writes_of, wrote_of, content_at, seen, last_write}
 use Rattle.record_model.specs.State as model
 use Rattle.log_records.specs.Log.{Entry, is_closed, table_of, value_of}
 use Rattle.log_laws.specs.Follow.{IsFree, IsFreeFor, IsUndoable, IsFresh}
@@ -32,6 +32,7 @@ use Rattle.engine.specs.Invariant.{sizes_of}
 use Rattle.redo_undo.specs.Stores.{Represents, shown_in}
 use Rattle.engine.specs.Representation.{Matches, SessionsAre, LocksAre}
 use Rattle.engine.proofs.Actives.{some_active}
+use Rattle.engine.proofs.Updated.{updated_is}
 use Rattle.txn_table.proofs.Owing.{entry_is}
 
 -- Locks.
@@ -129,8 +130,9 @@ writer newest records active s are t number lives written =
       at = found.2;
       begin = found.3;
       has_written =
-          ap (λ (o : Option Session). list_any (λ write. write.0 == number) (writes_of o)) session.is
-          ∙ ap (λ (ws : List Write). list_any (λ write. write.0 == number) ws) session.under_way.is_active.writes_are
+          ap (λ (o : Option Session). list_any (λ wrote. wrote == number) (wrote_of o)) session.is
+          ∙ ap (λ (ws : List ℕ). list_any (λ wrote. wrote == number) ws) session.under_way.wrote
+          ∙ updated_is records found.1.begin number session.under_way.is_active.chain
           ∙ ap (λ (k : ℕ). follow.has_written records k number) found.3
           ∙ written;
     }

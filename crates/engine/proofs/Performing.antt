@@ -1,6 +1,6 @@
 -- What commands make of the machine that mirrors the database.
 use Rattle.std.proofs.Common.{◌≡◌, ℕ, ◌+◌, Bool, false, List, [], ◌∷◌, ◌++◌, flat_map, append_assoc, Some, None, sym, ap, ◌∙◌, arith, ◌*◌, ◌<◌, ◌≤◌, ◌-◌, ◌==◌, true≢false, IsTrue}
-use Rattle.std.specs.Prelude.{Result, Ok, Err, if◌then◌else◌}
+use Rattle.std.specs.Prelude.{Option, Result, Ok, Err, if◌then◌else◌}
 use Rattle.std.specs.List.{range_with_len, list_any}
 use Rattle.std.proofs.lemmas.Grind.{flat_map-append}
 use Rattle.site.specs.declared.outside.Dev.{Dev}
@@ -9,8 +9,9 @@ use Rattle.site.specs.declared.outside.Stop.TheVariants.{Worn, Memory}
 use Rattle.site.specs.State.{Image, State as Site}
 use Rattle.site.proofs.Working.{no_error}
 use Rattle.record_model.specs.declared.words.Command.{Command}
+use Rattle.record_model.specs.declared.words.Reply.{Reply}
 use Rattle.record_model.specs.State.{State, Content, Write, content_at, seen}
-use Rattle.record_model.specs.Step.{asks_for_checkpoint, lacks_room, refusal}
+use Rattle.record_model.specs.Step.{asks_for_checkpoint, fills_page, lacks_room, refusal}
 use Rattle.ring_machine.specs.Machine.{RingOp}
 use Rattle.ring_machine.specs.Commands.{reads, saves, command_work}
 use Rattle.ring_machine.specs.Performing.{Performs}
@@ -59,12 +60,12 @@ store_then same one two = performs_then one (performs_by (sym same) two)
 
 -- A command that no test refuses, behind the checkpoint that is made where it asks for one.
 module _ (s : State) (command : Command) {asks : Bool} (known : asks ≡ asks_for_checkpoint s command) (passes : refusal s command ≡ None) where
-  pub performs_first : (lacks : Bool) → lacks_room (checkpointed_if asks s) command ≡ lacks → {A B : Type 0} {a : A} {result : Result B Stop} {old mid new : TransactionStore} {before between now : Image} → rules mid.pages ≡ rules old.pages →
-      PerformsOver {T = A} (Ok a) (if asks then saves else []) old mid before between → PerformsOver result (worked s command lacks) mid new between now → PerformsOver result (command_work s command) old new before now
-  performs_first lacks is same first second = performs_as (work_behind s command known passes ∙ ap (λ (l : Bool). (if asks then saves else []) ++ worked s command l) is) (store_then same first second)
+  pub performs_first : (lacks : Bool) → lacks_room (checkpointed_if asks s) command ≡ lacks → (filled : Option Reply) → fills_page (checkpointed_if asks s) command ≡ filled → {A B : Type 0} {a : A} {result : Result B Stop} {old mid new : TransactionStore} {before between now : Image} → rules mid.pages ≡ rules old.pages →
+      PerformsOver {T = A} (Ok a) (if asks then saves else []) old mid before between → PerformsOver result (worked s command lacks filled) mid new between now → PerformsOver result (command_work s command) old new before now
+  performs_first lacks is filled fills same first second = performs_as (work_behind s command known passes ∙ (λ i. (if asks then saves else []) ++ worked s command (is i) (fills i))) (store_then same first second)
 
   pub performs_unmade : {A B : Type 0} {stop : Stop} {old mid : TransactionStore} {before now : Image} → PerformsOver {T = A} (Err stop) (if asks then saves else []) old mid before now → PerformsOver {T = B} (Err stop) (command_work s command) old mid before now
-  performs_unmade first = performs_as (work_behind s command known passes) (performs_stopped (worked s command (lacks_room (checkpointed_if asks s) command)) first)
+  performs_unmade first = performs_as (work_behind s command known passes) (performs_stopped (worked s command (lacks_room (checkpointed_if asks s) command) (fills_page (checkpointed_if asks s) command)) first)
 
 -- A scan, record by record.
 

@@ -1,7 +1,7 @@
 -- What the model answers, test by test.
 use Rattle.checkpoint.specs.declared.master.Master.{Master}
-use Rattle.std.proofs.Common.{◌≡◌, ℕ, ◌+◌, ◌*◌, ◌/◌, ◌<◌, ◌≤◌, Bool, true, false, not, ◌&&◌, true≢false, List, [], ◌∷◌, ◌++◌, length, sum_by, filter_map, Option, None, Some, refl, sym, ap, ◌∙◌, arith}
-use Rattle.std.specs.Prelude.{option_map, slice_index_or, nat_le, nat_lt, is_none, IsSome, if◌then◌else◌}
+use Rattle.std.proofs.Common.{◌≡◌, ℕ, ◌+◌, ◌*◌, ◌/◌, ◌<◌, ◌≤◌, Bool, true, false, not, ◌&&◌, true≢false, List, [], ◌∷◌, ◌++◌, length, map, sum_by, filter_map, Option, None, Some, refl, sym, ap, ◌∙◌, arith}
+use Rattle.std.specs.Prelude.{option_map, slice_index_or, nat_le, nat_lt, is_none, is_some, IsSome, if◌then◌else◌}
 use Rattle.std.specs.Option.{option_map_or}
 use Rattle.std.specs.List.{range_with_len}
 use Rattle.std.proofs.Math.Bool.{and-true, and-false}
@@ -16,11 +16,11 @@ use Rattle.record_model.specs.declared.words.Reply.{Reply}
 use Rattle.record_model.specs.declared.words.Reply.TheVariants as reply
 use Rattle.record_model.specs.State.{Session, State, session_at, used, is_due}
 use Rattle.record_model.specs.State as model
-use Rattle.record_model.specs.Touches.{CacheOp, flush, command_touches, record_touches}
-use Rattle.record_model.specs.Step.{Outcome, refusal, outcome, effect, answer, full, lacks_room, asks_for_checkpoint, makes_checkpoint, is_accepted, ready, wants_active, wants_record, wants_short, refuse_if, may_write, may_read}
+use Rattle.record_model.specs.Touches.{CacheOp, flush, command_touches, record_touches, tested_touches}
+use Rattle.record_model.specs.Step.{Outcome, carried_through, refusal, outcome, fills_page, full, lacks_room, asks_for_checkpoint, makes_checkpoint, ready, wants_active, wants_record, wants_short, refuse_if, may_write, may_read}
 use Rattle.log_records.specs.Log.{Entry}
-use Rattle.ring_machine.specs.Machine.{RingOp}
-use Rattle.ring_machine.specs.Commands.{saves, command_work, record_work}
+use Rattle.ring_machine.specs.Machine.{RingOp, cached}
+use Rattle.ring_machine.specs.Commands.{saves, command_work, page_work, record_work}
 use Rattle.txn_table.specs.declared.active.Active.{Active}
 use Rattle.txn_table.specs.Entries.{IsTable, entry_of}
 use Rattle.txn_table.specs.Entries as entries
@@ -32,22 +32,35 @@ use Rattle.lock_table.specs.Locks as locks
 use Rattle.engine.proofs.Meanings.{same_size, busy_write_is, busy_read_is}
 use Rattle.txn_table.proofs.Owing.{owed_at, owed_one, owed_is}
 
-abbrev pub way : State → Command → Bool → Outcome
-way s command lacks = if lacks then record { after = s; reply = full s } else record { after = effect s command; reply = answer s command [] }
+-- What a command leaves and answers behind its first tests, by whether the log lacks room and by what the test of its page
+-- gives.
+abbrev pub way : State → Command → Bool → Option Reply → Outcome
+way s command lacks filled = if lacks then record { after = s; reply = full s } else carried_through s command [] filled
 
--- what it asks of the cache and the log then
-abbrev pub touched : State → Command → Bool → List CacheOp
-touched s command lacks = if not lacks then record_touches s command else []
+-- and what it asks of the cache and the log then
+abbrev pub touched : State → Command → Bool → Option Reply → List CacheOp
+touched s command lacks filled =
+    if not lacks && is_none filled then record_touches s command else (if not lacks && is_some filled then tested_touches command else [])
 
-abbrev pub worked : State → Command → Bool → List RingOp
-worked s command lacks = if not lacks then record_work s command else []
+abbrev pub worked : State → Command → Bool → Option Reply → List RingOp
+worked s command lacks filled =
+    if not lacks && is_none filled then record_work s command else (if not lacks && is_some filled then map cached (tested_touches command) else [])
 
 -- and what it asks with its checkpoint, by its refusal
+abbrev passes_both : State → Command → Option Reply → Bool
+passes_both s command o = is_none o && not (lacks_room (ready s command) command)
+
 abbrev all_touches : State → Command → Option Reply → List CacheOp
-all_touches s command o = (if asks_for_checkpoint s command && is_none o then flush ∷ [] else []) ++ (if is_none o && not (lacks_room (ready s command) command) then record_touches s command else [])
+all_touches s command o =
+    (if asks_for_checkpoint s command && is_none o then flush ∷ [] else [])
+    ++ (if passes_both s command o && is_none (fills_page (ready s command) command) then record_touches s command
+    else (if passes_both s command o && is_some (fills_page (ready s command) command) then tested_touches command else []))
 
 abbrev all_work : State → Command → Option Reply → List RingOp
-all_work s command o = (if asks_for_checkpoint s command && is_none o then saves else []) ++ (if is_none o && not (lacks_room (ready s command) command) then record_work s command else [])
+all_work s command o =
+    (if asks_for_checkpoint s command && is_none o then saves else [])
+    ++ (if passes_both s command o && is_none (fills_page (ready s command) command) then record_work s command
+    else (if passes_both s command o && is_some (fills_page (ready s command) command) then map cached (tested_touches command) else []))
 
 -- a test refuses it
 pub refused : (s : State) (command : Command) (r : Reply) → refusal s command ≡ Some r → IsRefusedWith s command r
@@ -61,7 +74,7 @@ refused s command r is =
 pub none_made : {s : State} (command : Command) {r : Reply} → IsRefusedWith s command r → makes_checkpoint s command ≡ false
 none_made {s = s} command is = by (makes_checkpoint s command) is.1.1
   where
-    by : (b : Bool) → (if b then saves else []) ++ (if is_accepted s command then record_work s command else []) ≡ [] → b ≡ false
+    by : (b : Bool) → (if b then saves else []) ++ page_work s command ≡ [] → b ≡ false
     by true none = absurd cc
     by false none = refl
 
@@ -70,29 +83,34 @@ module _ (s : State) (command : Command) {asks : Bool} (known : asks ≡ asks_fo
   pub made_as_asked : asks ≡ makes_checkpoint s command
   made_as_asked = known ∙ sym (ap (λ (o : Option Reply). asks_for_checkpoint s command && is_none o) passes ∙ and-true (asks_for_checkpoint s command))
 
-  pub step_behind : run s command ≡ way (checkpointed_if asks s) command (lacks_room (checkpointed_if asks s) command)
-  step_behind = ap (outcome s command []) passes ∙ ap (λ (b : Bool). way (checkpointed_if b s) command (lacks_room (checkpointed_if b s) command)) (sym known)
+  pub step_behind : run s command ≡ way (checkpointed_if asks s) command (lacks_room (checkpointed_if asks s) command) (fills_page (checkpointed_if asks s) command)
+  step_behind = ap (outcome s command []) passes ∙ ap (λ (b : Bool). way (checkpointed_if b s) command (lacks_room (checkpointed_if b s) command) (fills_page (checkpointed_if b s) command)) (sym known)
 
-  pub touches_behind : command_touches s command ≡ (if asks then flush ∷ [] else []) ++ touched s command (lacks_room (checkpointed_if asks s) command)
+  pub touches_behind : command_touches s command ≡ (if asks then flush ∷ [] else []) ++ touched s command (lacks_room (checkpointed_if asks s) command) (fills_page (checkpointed_if asks s) command)
   touches_behind =
       ap (all_touches s command) passes
-      ∙ ap (λ (b : Bool). (if b then flush ∷ [] else []) ++ touched s command (lacks_room (ready s command) command)) (and-true (asks_for_checkpoint s command))
-      ∙ ap (λ (b : Bool). (if b then flush ∷ [] else []) ++ touched s command (lacks_room (checkpointed_if b s) command)) (sym known)
+      ∙ ap (λ (b : Bool). (if b then flush ∷ [] else []) ++ touched s command (lacks_room (ready s command) command) (fills_page (ready s command) command)) (and-true (asks_for_checkpoint s command))
+      ∙ ap (λ (b : Bool). (if b then flush ∷ [] else []) ++ touched s command (lacks_room (checkpointed_if b s) command) (fills_page (checkpointed_if b s) command)) (sym known)
 
-  pub work_behind : command_work s command ≡ (if asks then saves else []) ++ worked s command (lacks_room (checkpointed_if asks s) command)
+  pub work_behind : command_work s command ≡ (if asks then saves else []) ++ worked s command (lacks_room (checkpointed_if asks s) command) (fills_page (checkpointed_if asks s) command)
   work_behind =
       ap (all_work s command) passes
-      ∙ ap (λ (b : Bool). (if b then saves else []) ++ worked s command (lacks_room (ready s command) command)) (and-true (asks_for_checkpoint s command))
-      ∙ ap (λ (b : Bool). (if b then saves else []) ++ worked s command (lacks_room (checkpointed_if b s) command)) (sym known)
+      ∙ ap (λ (b : Bool). (if b then saves else []) ++ worked s command (lacks_room (ready s command) command) (fills_page (ready s command) command)) (and-true (asks_for_checkpoint s command))
+      ∙ ap (λ (b : Bool). (if b then saves else []) ++ worked s command (lacks_room (checkpointed_if b s) command) (fills_page (checkpointed_if b s) command)) (sym known)
 
 -- where it asks for none
 pub no_room : (s : State) (command : Command) → asks_for_checkpoint s command ≡ false → refusal s command ≡ None → lacks_room s command ≡ true → IsRefusedWith s command (full s)
 no_room s command plain none lacks =
-    (step_behind s command (sym plain) none ∙ ap (way s command) lacks, (touches_behind s command (sym plain) none ∙ ap (touched s command) lacks, work_behind s command (sym plain) none ∙ ap (worked s command) lacks))
+    let o = fills_page s command in (
+      step_behind s command (sym plain) none ∙ ap (λ (b : Bool). way s command b o) lacks,
+      (touches_behind s command (sym plain) none ∙ ap (λ (b : Bool). touched s command b o) lacks, work_behind s command (sym plain) none ∙ ap (λ (b : Bool). worked s command b o) lacks),
+    )
 
-pub carried_out : (s : State) (command : Command) → asks_for_checkpoint s command ≡ false → refusal s command ≡ None → lacks_room s command ≡ false → IsCarriedOut s command
-carried_out s command plain none has =
-    (step_behind s command (sym plain) none ∙ ap (way s command) has, (touches_behind s command (sym plain) none ∙ ap (touched s command) has, work_behind s command (sym plain) none ∙ ap (worked s command) has))
+pub carried_out : (s : State) (command : Command) → asks_for_checkpoint s command ≡ false → refusal s command ≡ None → lacks_room s command ≡ false → fills_page s command ≡ None → IsCarriedOut s command
+carried_out s command plain none has fits = (
+  step_behind s command (sym plain) none ∙ (λ i. way s command (has i) (fits i)),
+  (touches_behind s command (sym plain) none ∙ (λ i. touched s command (has i) (fits i)), work_behind s command (sym plain) none ∙ (λ i. worked s command (has i) (fits i))),
+)
 
 pub due_is : (engine : Engine) (site : Site) (s : State) → Matches engine site s → nat_le (engine.cap / 2) engine.store.made ≡ is_due s
 due_is engine site s fits =

@@ -16,7 +16,7 @@ use Rattle.image_changes.proofs.Counting.{calls_then, calls_unchanged}
 use Rattle.record_model.specs.State.{Content, State}
 use Rattle.record_model.specs.declared.words.Command.{Command}
 use Rattle.record_model.specs.declared.words.Reply.{Reply}
-use Rattle.record_model.specs.Step.{refusal, outcome, ready, lacks_room}
+use Rattle.record_model.specs.Step.{refusal, outcome, fills_page, ready, lacks_room}
 use Rattle.log_records.specs.declared.log_record.LogRecord.{LogRecord}
 use Rattle.log_records.specs.Log.{Entry}
 use Rattle.log_records.specs.Unfinished.{owed}
@@ -89,13 +89,14 @@ count_nothing {E = E} x engine site s after fits going quiet few =
 pub run_makes : (s : State) (command : Command) → s.made ≤ (run s command).after.made
 run_makes s command = by (refusal s command)
   where
-    either : (lacks : Bool) → s.made ≤ (way (ready s command) command lacks).after.made
-    either true = omega arith
-    either false = effect_makes (ready s command) command
+    either : (lacks : Bool) (filled : Option Reply) → s.made ≤ (way (ready s command) command lacks filled).after.made
+    either true filled = omega arith
+    either false (Some r) = omega arith
+    either false None = effect_makes (ready s command) command
 
     by : (o : Option Reply) → s.made ≤ (outcome s command [] o).after.made
     by (Some r) = omega arith
-    by None = either (lacks_room (ready s command) command)
+    by None = either (lacks_room (ready s command) command) (fills_page (ready s command) command)
 
 -- A restart.
 

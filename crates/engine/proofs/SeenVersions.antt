@@ -4,7 +4,7 @@ use Rattle.std.specs.Prelude.{unwrap_or}
 use Rattle.std.specs.List.{list_any}
 use Rattle.std.proofs.lemmas.Option.{none-some, same_Some}
 use Rattle.site.specs.State.{State as Site, Image}
-use Rattle.record_model.specs.State.{Content, Session, State, Write, content_at, has_written, last_write, seen, session_at, writes_of}
+use Rattle.record_model.specs.State.{Content, Session, State, Write, content_at, has_written, last_write, seen, session_at, writes_of, wrote_of}
 use Rattle.log_records.specs.Log.{Entry, Version, is_closed, is_on, last_where, entries_of, slot_at, txn_of, shown}
 use Rattle.log_laws.specs.Follow as follow
 use Rattle.log_laws.specs.Follow.{IsFree, IsFreeFor, IsUndoable}
@@ -30,6 +30,7 @@ use Rattle.engine.specs.Representation.{Matches, SessionIs}
 use Rattle.engine.specs.Invariant.{sizes_of}
 use Rattle.engine.specs.SeenVersions.{WhereItFits}
 use Rattle.engine.proofs.Actives.{some_active}
+use Rattle.engine.proofs.Updated.{updated_is}
 use Rattle.engine.proofs.Meanings.{undoable, value_is, writer}
 
 -- Two unfinished transactions that have written a number are one.
@@ -48,7 +49,7 @@ one_writer records t number undo lives written other open' wrote =
     sym theirs.2 ∙ ap txn_of (same_Some theirs.0 own.0 (sym theirs.1 ∙ own.1)) ∙ own.2
 
 -- A session that has written has an entry.
-entry_with : (newest : Option Master) (kept : ℕ) (records : List Entry) (number : ℕ) (o : Option Active) (p : Option Session) → SessionIs newest kept records o p → list_any (λ (write : Write). write.0 == number) (writes_of p) ≡ true →
+entry_with : (newest : Option Master) (kept : ℕ) (records : List Entry) (number : ℕ) (o : Option Active) (p : Option Session) → SessionIs newest kept records o p → list_any (λ (wrote : ℕ). wrote == number) (wrote_of p) ≡ true →
     (own : Active) × (o ≡ Some own)
 entry_with newest kept records number None None is written = absurd (true≢false (sym written))
 entry_with newest kept records number None (Some session) is written = absurd is
@@ -69,8 +70,9 @@ module _ (engine : Engine) (site : Site) (s : State) (fits : Matches engine site
       let session = some_active fits.newest fits.records engine.active s fits.sessions n own entry.1 in
       let under = session.under_way.is_active in
       let written : follow.has_written fits.records own.begin number ≡ true =
-      sym (ap (λ (o : Option Session). list_any (λ (write : Write). write.0 == number) (writes_of o)) session.is
-      ∙ ap (λ (ws : List Write). list_any (λ (write : Write). write.0 == number) ws) under.writes_are) ∙ wrote in
+      sym (ap (λ (o : Option Session). list_any (λ (wrote : ℕ). wrote == number) (wrote_of o)) session.is
+      ∙ ap (λ (ws : List ℕ). list_any (λ (wrote : ℕ). wrote == number) ws) session.under_way.wrote
+      ∙ updated_is fits.records own.begin number under.chain) ∙ wrote in
       shown_is_seen fits.records versions own.begin number undo under.lives.not_closed (one_writer fits.records own.begin number undo under.lives.not_closed written)
       ∙ ap (λ (x : Content). unwrap_or (last_write (follow.writes_in own.begin fits.records) number) x) (sym (value_is engine site s fits number less))
       ∙ ap (λ (ws : List Write). unwrap_or (last_write ws number) (content_at s.table number)) (sym under.writes_are)

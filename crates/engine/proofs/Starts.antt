@@ -7,7 +7,7 @@ use Rattle.std.specs.List.{list_any}
 use Rattle.std.proofs.lemmas.Option.{none-some}
 use Rattle.site.specs.declared.geometry.Geometry.{Geometry}
 use Rattle.site.specs.State.{State as Site, Image}
-use Rattle.record_model.specs.State.{Session, State, writes_of, reads_of}
+use Rattle.record_model.specs.State.{Session, State, wrote_of, reads_of}
 use Rattle.log_records.specs.Log.{Entry, is_loser}
 use Rattle.log_records.specs.Unfinished.{owed}
 use Rattle.lock_table.specs.declared.lock.Lock.{Lock}
@@ -44,7 +44,7 @@ idle newest records s closed none is = record {
 
 unlocked : (s : State) → s.sessions ≡ replicate 8 None → LocksAre [] s
 unlocked s is = record {
-  written = λ n r. sym (ap (λ (o : Option Session). list_any (λ write. write.0 == r) (writes_of o)) (nobody n s.sessions is));
+  written = λ n r. sym (ap (λ (o : Option Session). list_any (λ wrote. wrote == r) (wrote_of o)) (nobody n s.sessions is));
   reads = λ n r. sym (ap (λ (o : Option Session). list_any (λ read. read == r) (reads_of o)) (nobody n s.sessions is));
 }
 

@@ -9,7 +9,7 @@ use Rattle.std.specs.List.{list_any, range_with_len}
 use Rattle.std.proofs.lemmas.Bool.{cases_eq, eq-eqb, ne_eqb}
 use Rattle.std.proofs.lemmas.Option.{none-some}
 use Rattle.site.specs.State.{State as Site}
-use Rattle.record_model.specs.State.{Content, Session, State, Write, session_at, writes_of, reads_of, content_at, last_write, seen}
+use Rattle.record_model.specs.State.{Content, Session, State, Write, session_at, writes_of, wrote_of, reads_of, content_at, last_write, seen}
 use Rattle.record_model.specs.State as model
 use Rattle.record_model.specs.Step.{having_written, having_read}
 use Rattle.log_records.specs.Log.{Entry, is_on, shown}
@@ -60,14 +60,14 @@ added_write old new s n number after session small is adds are = record {
       (λ (same : m ≡ n).
       adds.written m r
       ∙ (λ i. are.written m r i || (eq-eqb n m (sym same) i && and-true (number == r) i))
-      ∙ ap (λ (o : Option Session). list_any (λ write. write.0 == r) (writes_of o) || (number == r)) (ap (session_at s) same ∙ is)
-      ∙ sym (any_more (λ (write : Write). write.0 == r) session.writes (number, after))
-      ∙ sym (ap (λ (o : Option Session). list_any (λ write. write.0 == r) (writes_of o)) (own m same)))
+      ∙ ap (λ (o : Option Session). list_any (λ wrote. wrote == r) (wrote_of o) || (number == r)) (ap (session_at s) same ∙ is)
+      ∙ sym (any_more (λ (wrote : ℕ). wrote == r) session.wrote number)
+      ∙ sym (ap (λ (o : Option Session). list_any (λ wrote. wrote == r) (wrote_of o)) (own m same)))
       (λ differ.
       adds.written m r
       ∙ (λ i. are.written m r i || (ne_eqb n m (λ e. differ (sym e)) i && (number == r && true)))
       ∙ or-false (model.has_written s m r)
-      ∙ sym (ap (λ (o : Option Session). list_any (λ write. write.0 == r) (writes_of o)) (get_or-set_other s.sessions n m now None differ)))
+      ∙ sym (ap (λ (o : Option Session). list_any (λ wrote. wrote == r) (wrote_of o)) (get_or-set_other s.sessions n m now None differ)))
       (cases_eq m n);
   reads = λ m r.
       adds.reads m r ∙ none_more_written (locks.has_read old m r) (n == m) (number == r) ∙ are.reads m r
@@ -98,7 +98,7 @@ added_read old new s n number session small is adds are = record {
       (cases_eq m n);
   written = λ m r.
       adds.written m r ∙ none_more_written (locks.has_written old m r) (n == m) (number == r) ∙ are.written m r
-      ∙ sym (ap (λ (ws : List Write). list_any (λ write. write.0 == r) ws) (at_set writes_of s.sessions n now (Some session) small is (ap (λ (o : Option Session). writes_of (option_map (having_read (number ∷ [])) o)) is) m));
+      ∙ sym (ap (λ (ws : List ℕ). list_any (λ wrote. wrote == r) ws) (at_set wrote_of s.sessions n now (Some session) small is (ap (λ (o : Option Session). wrote_of (option_map (having_read (number ∷ [])) o)) is) m));
 }
   where
     now : Option Session
@@ -194,7 +194,7 @@ read_more newest records active s n number entry are small at =
           (λ (same : m ≡ n). subst (λ (k : ℕ). SessionIs newest s.kept records (entry_of active k) (slice_index_or (slice_set s.sessions n now) k None)) (sym same)
           (subst (λ (a : Option Active). SessionIs newest s.kept records a (slice_index_or (slice_set s.sessions n now) n None)) (sym at)
           (subst (λ (o : Option Session). SessionIs newest s.kept records (Some entry) o) (sym (get_or-set_same s.sessions n now None (omega (arith, small, are.count)) ∙ ap (option_map (having_read (number ∷ []))) found.is))
-          (record { is_active = under.is_active; born = under.born; count = under.count; runs_on = under.runs_on }))))
+          (record { is_active = under.is_active; born = under.born; count = under.count; mark = under.mark; wrote = under.wrote; runs_on = under.runs_on }))))
           (λ differ. subst (λ (o : Option Session). SessionIs newest s.kept records (entry_of active m) o) (sym (get_or-set_other s.sessions n m now None differ)) (are.each m))
           (cases_eq m n);
       all = are.all;

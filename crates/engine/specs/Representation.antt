@@ -1,17 +1,17 @@
 -- The database of an honest site, and the model's state.
-use Rattle.std.specs.Prelude.{◌≡◌, ℕ, ◌+◌, ◌<◌, List, [], ◌∷◌, length, find, Option, Some, None, option_map, IsTrue, ⊤}
+use Rattle.std.specs.Prelude.{◌≡◌, ℕ, ◌+◌, ◌<◌, List, [], ◌∷◌, length, filter_map, find, Option, Some, None, option_map, IsTrue, ⊤}
 use Rattle.std.specs.Prelude.{Bool, if◌then◌else◌}
 use Rattle.site.specs.State.{State as Site}
 use Rattle.record_model.specs.State.{Session, State, Write, session_at, kept_by_checkpoint}
 use Rattle.record_model.specs.State as model
 use Rattle.record_model.specs.declared.words.Command.{Command}
 use Rattle.record_model.specs.Step.{Outcome, step, refusal, effect, answer, making, with_session, having_written}
-use Rattle.record_model.specs.Step.{having_read}
+use Rattle.record_model.specs.Step.{having_marked, having_read}
 use Rattle.record_model.specs.Touches.{command_touches, record_touches}
 use Rattle.ring_machine.specs.Commands.{command_work, record_work}
 use Rattle.record_model.specs.declared.words.Reply.{Reply}
 use Rattle.record_model.specs.declared.words.Reply.TheVariants as reply
-use Rattle.log_records.specs.Log.{Entry, is_loser, is_on, number_of, before_of, after_of}
+use Rattle.log_records.specs.Log.{Entry, entries_of, updates_in, is_loser, is_on, number_of, before_of, after_of}
 use Rattle.log_laws.specs.Follow.{IsActive}
 use Rattle.checkpoint.specs.declared.master.Master.{Master}
 use Rattle.image_meaning.specs.Meaning.{master_of}
@@ -31,13 +31,20 @@ RunOn [] = ⊤
 RunOn (u ∷ earlier) = ((number : ℕ) → number_of u.rec ≡ Some number → (e : Entry)
     → find (is_on number) earlier ≡ Some e → before_of u.rec ≡ after_of e.rec) × RunOn earlier
 
--- a session's transaction: it is open, was never undone, and has made the session's writes; records are counted from
--- the oldest kept one on
+-- the record of each Update of these entries
+abbrev pub updated : List Entry → List ℕ
+updated entries = filter_map (λ u. number_of u.rec) (updates_in entries)
+
+-- a session's transaction: it is open, and the session's writes are those of its Updates that stand; records are counted
+-- from the oldest kept one on
 pub record IsUnderWay (newest : Option Master) (kept : ℕ) (records : List Entry) (entry : Active)
     (session : Session) : Type 0 where
   pub is_active : IsActive (master_of newest) records entry.begin entry.last session.writes
   pub born : entry.born + kept ≡ session.born
   pub count : entry.writes ≡ length session.writes
+  pub mark : entry.mark ≡ session.mark
+  -- it has written the record of each Update, of those too that no longer stand
+  pub wrote : session.wrote ≡ updated (entries_of entry.begin records)
   pub runs_on : RunOn (unfinished.left_open records entry.begin)
 
 -- a session is active in both or in neither
@@ -89,6 +96,10 @@ checkpointed_if wanted s = record s { kept = if wanted then kept_by_checkpoint s
 -- a session has made one write more
 abbrev pub with_write : State → ℕ → Write → State
 with_write s n write = making 1 (with_session s n (option_map (having_written write) (session_at s n)))
+
+-- a session sets its mark, and goes back
+abbrev pub with_mark : State → ℕ → State
+with_mark s n = with_session s n (option_map having_marked (session_at s n))
 
 -- a session has read a record
 abbrev pub with_read : State → ℕ → ℕ → State

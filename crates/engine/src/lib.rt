@@ -6,6 +6,7 @@
 mod checkpointing;
 mod engine;
 mod laws;
+mod marking;
 mod reading;
 mod restart;
 mod scan;

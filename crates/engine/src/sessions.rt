@@ -1,6 +1,7 @@
 // How the table of active sessions changes, and with it what they owe the log.
 ghost use Rattle.std.specs.Prelude.{◌≡◌, ◌+◌, ◌^◌, ◌<◌, ◌≤◌, ℕ, map, All, Some, None, option_map};
-ghost use Rattle.txn_table.specs.Entries.{IsTable, entry_of, ChangesOnly, after_write, counted_from, owed};
+ghost use Rattle.txn_table.specs.Entries.{IsTable, entry_of, ChangesOnly, after_write, after_mark, after_undone};
+ghost use Rattle.txn_table.specs.Entries.{counted_from, owed};
 ghost use Rattle.txn_table.specs.declared.active.Active.{Active};
 ghost use Rattle.checkpoint.specs.Actives.{Ascend};
 
@@ -12,6 +13,7 @@ pub fn add(active: &mut TxnTable, entry: Active)
     requires session { entry.session < 8 }
     requires absent { entry_of active.old entry.session ≡ None }
     requires writes { entry.writes ≤ 2 ^ 32 }
+    requires mark { entry.mark ≤ entry.writes }
     ensures entry { ChangesOnly active.old active.new entry.session (Some entry) }
     ensures owed { owed active.new ≡ owed active.old + (entry.writes + 1) }
     ensures table { IsTable active.new }
@@ -31,6 +33,31 @@ pub fn wrote(active: &mut TxnTable, entry: Active, lsn: u64)
 {
     let _before = active.len();
     active.wrote(entry.session, lsn);
+    let _after = active.len();
+}
+
+/// A session sets its mark behind its writes that stand.
+pub fn mark(active: &mut TxnTable, entry: Active)
+    requires active { entry_of active.old entry.session ≡ Some entry }
+    ensures entry { ChangesOnly active.old active.new entry.session (Some (after_mark entry)) }
+    ensures owed { owed active.new ≡ owed active.old }
+    ensures table { IsTable active.new }
+{
+    let _before = active.len();
+    active.mark(entry.session);
+    let _after = active.len();
+}
+
+/// So many of a session's writes, the last ones, were undone: it owes so many fewer records.
+pub fn undone(active: &mut TxnTable, entry: Active, count: u64, lsn: u64)
+    requires active { entry_of active.old entry.session ≡ Some entry }
+    requires count { count ≤ entry.writes }
+    ensures entry { ChangesOnly active.old active.new entry.session (Some (after_undone entry count lsn)) }
+    ensures owed { owed active.new + count ≡ owed active.old }
+    ensures table { IsTable active.new }
+{
+    let _before = active.len();
+    active.undone(entry.session, count, lsn);
     let _after = active.len();
 }
 

@@ -7,7 +7,7 @@ ghost use Rattle.record_model.specs.declared.words.Command.{Command};
 ghost use Rattle.record_model.specs.declared.words.Why.{Why};
 ghost use Rattle.record_model.specs.declared.words.Reply.{Reply};
 ghost use Rattle.record_model.specs.State.{State, content_at};
-ghost use Rattle.ring_machine.specs.Commands.{begins, writes, command_work};
+ghost use Rattle.ring_machine.specs.Commands.{reads, begins, changes, command_work};
 ghost use Rattle.ring_machine.specs.Commands.{commits as commits_work};
 ghost use Rattle.redo_undo.specs.Mirroring.{PerformsStore};
 ghost use Rattle.byte_fields.specs.declared.TheConstants.{VALUE_MAX};
@@ -31,8 +31,9 @@ use record_model::{Octets, Reply, Why};
 use site::{Site, Stop};
 
 impl Engine {
-    // Logs the Begin of a transaction that sets one record, and its Update, and changes the record's page. Answers the
-    // transaction. Where the page has no room for the value it answers Foreign, and logs no Update.
+    // Brings a record's page to the front, logs the Begin of a transaction that sets the record, and its Update, and
+    // changes the page. Answers the transaction. Where the page has no room for the value it answers Foreign, and logs
+    // nothing.
     fn log_set<S: Site>(
         &mut self,
         site: &mut S,
@@ -51,7 +52,7 @@ impl Engine {
             → Keeps result self.old.store self.new.store (S.state site.old) (S.state site.new)
             (LeavesTable (sizes_of self.old.store) s.table s.commits (S.state site.old).told) 2 0 }
         ensures performs { (s : State) → Matches self.old (S.state site.old) s
-            → PerformsStore result (begins ++ writes number (content_at s.table number) after.now)
+            → PerformsStore result (reads number ++ begins ++ changes number (content_at s.table number) after.now)
             self.old.store self.new.store (S.state site.old) (S.state site.new) }
 
         // Of every site.
@@ -61,10 +62,6 @@ impl Engine {
         ensures asks { StepsMachine result (one_change (number / 32)) self.old.store.pages self.new.store.pages
             (S.state site.old) (S.state site.new) }
     {
-        let txn = match self.store.begin(site) {
-            Ok(txn) => txn,
-            Err(stop) => return Err(stop),
-        };
         match self.store.touch(site, number) {
             Ok(()) => {}
             Err(stop) => return Err(stop),
@@ -72,6 +69,10 @@ impl Engine {
         if !self.store.fits(number, after) {
             return Err(Stop::Foreign);
         }
+        let txn = match self.store.begin(site) {
+            Ok(txn) => txn,
+            Err(stop) => return Err(stop),
+        };
         match self.store.update(site, txn, txn, number, after) {
             Ok(_) => Ok(txn),
             Err(stop) => Err(stop),
@@ -98,7 +99,8 @@ impl Engine {
             (LeavesEither (sizes_of self.old.store) s (making 3 (committed s ((number, after.now) ∷ [])))
             (S.state site.old).told) 0 }
         ensures performs { (s : State) → Matches self.old (S.state site.old) s
-            → PerformsStore result ((begins ++ writes number (content_at s.table number) after.now) ++ commits_work)
+            → PerformsStore result
+            (reads number ++ begins ++ changes number (content_at s.table number) after.now ++ commits_work)
             self.old.store self.new.store (S.state site.old) (S.state site.new) }
 
         // Of every site.

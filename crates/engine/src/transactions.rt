@@ -129,6 +129,7 @@ impl Engine {
                 last: begin,
                 born,
                 writes: 0,
+                mark: 0,
             },
         );
         Ok(Reply::Done)

@@ -81,8 +81,8 @@ impl Engine {
         }
     }
 
-    // The entry of an active session.
-    fn entry(&self, session: u32) -> Active
+    /// The entry of an active session.
+    pub(crate) fn entry(&self, session: u32) -> Active
         requires { IsSome (entry_of self.now.active session) }
         ensures { entry_of self.now.active session ≡ Some result }
     {

@@ -32,6 +32,10 @@ enum Ask {
     Erase(u32, u32),
     Commit(u32),
     Abort(u32),
+    Mark(u32),
+    Back(u32),
+    // A session goes back to so many writes.
+    BackTo(u32, u32),
     Get(u32),
     Set(u32, u8),
     Checkpoint,
@@ -48,6 +52,8 @@ enum Answer {
     Done,
     Nothing,
     Aborted,
+    // So many writes were dropped.
+    Back(u64),
     Checked,
     Committed(u64),
     // The record has this octet alone, or this one and then 119 times the other.
@@ -89,6 +95,7 @@ fn is_answer(reply: &Reply, answer: Answer) -> bool {
         (Reply::Done, Answer::Done) => true,
         (Reply::Nothing, Answer::Nothing) => true,
         (Reply::Aborted, Answer::Aborted) => true,
+        (Reply::Back(count), Answer::Back(wanted)) => *count == wanted,
         (Reply::Checked, Answer::Checked) => true,
         (Reply::Committed(number), Answer::Committed(wanted)) => *number == wanted,
         (Reply::Value(value), Answer::Found(octet)) => value.as_slice() == [octet].as_slice(),
@@ -115,6 +122,9 @@ fn call<S: Site>(engine: &mut Engine, site: &mut S, ask: Ask) -> Result<Reply, S
         Ask::Erase(session, number) => engine.erase(site, session, number),
         Ask::Commit(session) => engine.commit(site, session),
         Ask::Abort(session) => engine.abort(site, session),
+        Ask::Mark(session) => Ok(engine.mark(session)),
+        Ask::Back(session) => engine.back(site, session, None),
+        Ask::BackTo(session, standing) => engine.back(site, session, Some(standing)),
         Ask::Get(number) => engine.get(site, number),
         Ask::Set(number, value) => engine.set(site, number, &octet(value)),
         Ask::SetLong(number, value) => engine.set(site, number, &long(value)),
@@ -278,6 +288,68 @@ const UNDOING: &[(Ask, Answer)] = &[
         }),
     ),
     (Ask::Set(0, 0xaa), Answer::Committed(1)),
+];
+
+const MARKED: &[(Ask, Answer)] = &[
+    (Ask::Begin(0), Answer::Done),
+    (Ask::Write(0, 1, 0xaa), Answer::Done),
+    (Ask::Mark(0), Answer::Done),
+    (Ask::Write(0, 1, 0xbb), Answer::Done),
+    (Ask::Write(0, 2, 0xcc), Answer::Done),
+    (Ask::Back(0), Answer::Back(2)),
+    (Ask::Read(0, 1), Answer::Found(0xaa)),
+    (Ask::Read(0, 2), Answer::Nothing),
+    (Ask::Get(2), Answer::Busy(0)),
+    (Ask::Commit(0), Answer::Committed(1)),
+    (Ask::Get(1), Answer::Found(0xaa)),
+    (Ask::Get(2), Answer::Nothing),
+];
+
+// A mark that stood behind the writes that are left falls to them.
+const BACK_TO: &[(Ask, Answer)] = &[
+    (Ask::Begin(0), Answer::Done),
+    (Ask::Write(0, 1, 0xaa), Answer::Done),
+    (Ask::Write(0, 1, 0xbb), Answer::Done),
+    (Ask::Mark(0), Answer::Done),
+    (Ask::Write(0, 1, 0xcc), Answer::Done),
+    (Ask::BackTo(0, 4), Answer::Refused(Why::BadMark)),
+    (Ask::BackTo(0, 3), Answer::Back(0)),
+    (Ask::BackTo(0, 1), Answer::Back(2)),
+    (Ask::Read(0, 1), Answer::Found(0xaa)),
+    (Ask::Write(0, 1, 0xdd), Answer::Done),
+    (Ask::Back(0), Answer::Back(1)),
+    (Ask::Read(0, 1), Answer::Found(0xaa)),
+    (Ask::BackTo(0, 0), Answer::Back(1)),
+    (Ask::Read(0, 1), Answer::Nothing),
+    (Ask::Get(1), Answer::Busy(0)),
+    (Ask::Abort(0), Answer::Aborted),
+    (Ask::Get(1), Answer::Nothing),
+    (Ask::Mark(0), Answer::Refused(Why::BadSession)),
+    (Ask::Back(0), Answer::Refused(Why::BadSession)),
+];
+
+const BACK_TO_THE_BEGIN: &[(Ask, Answer)] = &[
+    (Ask::Begin(0), Answer::Done),
+    (Ask::Write(0, 1, 0xaa), Answer::Done),
+    (Ask::Write(0, 1, 0xaa), Answer::Done),
+    (Ask::Write(0, 1, 0xaa), Answer::Done),
+    (Ask::Write(0, 1, 0xaa), Answer::Done),
+    (Ask::Write(0, 1, 0xaa), Answer::Done),
+    (Ask::Write(0, 1, 0xaa), Answer::Done),
+    (Ask::Back(0), Answer::Back(6)),
+    (
+        Ask::Stat,
+        Answer::Stat(Stat {
+            commits: 0,
+            used: 13,
+            owed: 1,
+            cap: 15,
+            active: 1,
+        }),
+    ),
+    (Ask::Write(0, 1, 0xaa), Answer::Full(13, 1)),
+    (Ask::Back(0), Answer::Back(0)),
+    (Ask::Commit(0), Answer::Committed(1)),
 ];
 
 const CHECKPOINTS: &[(Ask, Answer)] = &[
@@ -490,7 +562,7 @@ fn devices_of_no_sizes_are_foreign(rt: HostRuntime) {
 }
 
 // The tests by their names, with the sizes of the devices.
-const TESTS: [(&str, Geometry, &[(Ask, Answer)]); 8] = [
+const TESTS: [(&str, Geometry, &[(Ask, Answer)]); 11] = [
     (
         "a_pending_write_is_seen_by_its_session_alone",
         STANDARD,
@@ -500,6 +572,13 @@ const TESTS: [(&str, Geometry, &[(Ask, Answer)]); 8] = [
     ("an_erased_record_has_nothing", STANDARD, ERASED),
     ("what_may_not_be_is_refused", STANDARD, REFUSED),
     ("undoing_has_room", SMALL, UNDOING),
+    ("what_is_behind_the_mark_is_dropped", STANDARD, MARKED),
+    ("a_session_goes_back_to_a_number", STANDARD, BACK_TO),
+    (
+        "writes_that_are_dropped_are_owed_no_more",
+        SMALL,
+        BACK_TO_THE_BEGIN,
+    ),
     ("a_checkpoint_lets_records_go", STANDARD, CHECKPOINTS),
     ("each_session_has_room_to_end", SMALL, EACH_SESSION),
     (

@@ -1,14 +1,15 @@
 -- What an unfinished transaction has on a record of the table.
 use Rattle.std.proofs.lemmas.Grind.{common_steps}
-use Rattle.std.proofs.Common.{◌≡◌, ℕ, ◌+◌, ◌*◌, ◌⊎◌, inl, inr, ⊎_elim, Bool, true, false, cond, ◌||◌, List, [], ◌∷◌, ◌++◌, length, drop, Some, None, refl, sym, ap, subst, ◌∙◌, append_assoc, arith}
-use Rattle.std.specs.Prelude.{Option, find, IsTrue, ⊤}
+use Rattle.std.proofs.Common.{◌≡◌, ℕ, ◌+◌, ◌*◌, ◌⊎◌, inl, inr, ⊎_elim, Bool, true, false, true≢false, cond, ◌||◌, List, [], ◌∷◌, ◌++◌, length, drop, Some, None, refl, sym, ap, subst, ◌∙◌, append_assoc, arith}
+use Rattle.std.specs.Prelude.{Option, option_map, unwrap_or, find, IsTrue, ⊤}
 use Rattle.std.specs.List.{list_any}
 use Rattle.std.specs.Option.{option_or}
 use Rattle.std.proofs.lemmas.List.{append-nil}
 use Rattle.std.proofs.lemmas.List.Elements.{filter-append}
 use Rattle.std.proofs.lemmas.List.Folds.{list_any-append, find-append}
-use Rattle.std.proofs.lemmas.Bool.{or_left, or_right, or_cases, eqb-true}
+use Rattle.std.proofs.lemmas.Bool.{or_left, or_right, or_cases, or_parts, eqb-true}
 use Rattle.std_lemmas.proofs.Options.{option_or_none}
+use Rattle.record_model.specs.State.{Content}
 use Rattle.log_records.specs.declared.log_record.LogRecord.{LogRecord}
 use Rattle.log_records.specs.declared.log_record.LogRecord.TheVariants.{Begin, Update, Clr, Commit, End}
 use Rattle.log_records.specs.Log.{Entry, is_on, number_of, is_update, updates_in, last_where, last_on, before_of, before_first, after_of}
@@ -72,38 +73,72 @@ update_of_chain number t entries x chain e =
     (ap (λ (l : List Entry). list_any (is_on number) (updates_in l)) chain.begins
     ∙ any_of_chain number (record { lsn = t; rec = Begin } ∷ []) (drop 1 entries) chain.continues (sym (ap (list_any (is_on number)) chain.begins) ∙ last_any (is_on number) entries x e))
 
--- The first Update on a number, the last record there, and the first Update there that is left to be undone.
-abbrev Agrees : Option Entry → Option Entry → Option Entry → Type 0
-Agrees None None None = ⊤
-Agrees (Some f) (Some x) None = after_of x.rec ≡ before_of f.rec
-Agrees (Some f) (Some x) (Some o) = before_of o.rec ≡ before_of f.rec
-Agrees _ _ _ = ⊥
+-- so it has something where it has an Update
+pub any_in_chain : (number t : ℕ) (entries : List Entry) → IsLoserChain t entries → list_any (is_on number) entries ≡ list_any (is_on number) (updates_in entries)
+any_in_chain number t entries chain = by (list_any (is_on number) entries) (list_any (is_on number) (updates_in entries)) refl refl
+  where
+    there : list_any (is_on number) entries ≡ true → list_any (is_on number) (updates_in entries) ≡ true
+    there on =
+        ap (λ (l : List Entry). list_any (is_on number) (updates_in l)) chain.begins
+        ∙ any_of_chain number (record { lsn = t; rec = Begin } ∷ []) (drop 1 entries) chain.continues (sym (ap (list_any (is_on number)) chain.begins) ∙ on)
 
-abbrev AgreesAt : ℕ → List Entry → Type 0
-AgreesAt number entries = Agrees (find (is_on number) (updates_in entries)) (last_where (is_on number) entries) (last_where (is_on number) (open_updates [] entries))
+    here : (xs : List Entry) → list_any (is_on number) (updates_in xs) ≡ true → list_any (is_on number) xs ≡ true
+    here [] on = on
+    here (x ∷ xs) on = grind (arith, or_left, or_right, or_cases, (here xs))
 
-update_step : (f x o : Option Entry) (e : Entry) (b : Bool) → Agrees f x o → (b ≡ true → ShowsLast (before_of e.rec) x) → Agrees (option_or f (cond b (Some e) None)) (option_or (cond b (Some e) None) x) (option_or o (cond b (Some e) None))
-update_step None None None e true h n = refl
-update_step None None None e false h n = tt
-update_step (Some f) (Some x) (Some o) e true h n = h
-update_step (Some f) (Some x) (Some o) e false h n = h
-update_step (Some f) (Some x) None e true h n = n refl ∙ h
-update_step (Some f) (Some x) None e false h n = h
-update_step None (Some x) o e b h n = absurd h
-update_step None None (Some o) e b h n = absurd h
-update_step (Some f) None o e b h n = absurd h
+    by : (a b : Bool) → list_any (is_on number) entries ≡ a → list_any (is_on number) (updates_in entries) ≡ b → list_any (is_on number) entries ≡ list_any (is_on number) (updates_in entries)
+    by true b any updates = any ∙ sym (there any)
+    by false true any updates = here entries updates ∙ sym updates
+    by false false any updates = any ∙ sym updates
 
-clr_step : (f x o : Option Entry) (e u : Entry) (b : Bool) → after_of e.rec ≡ before_of u.rec → Agrees f x (option_or o (cond b (Some u) None)) → Agrees f (option_or (cond b (Some e) None) x) o
-clr_step f x None e u false p h = h
-clr_step f x (Some o) e u false p h = h
-clr_step (Some f) (Some x) None e u true p h = p ∙ h
-clr_step (Some f) (Some x) (Some o) e u true p h = h
-clr_step None None None e u true p h = absurd h
-clr_step None None (Some o) e u true p h = absurd h
-clr_step None (Some x) None e u true p h = absurd h
-clr_step None (Some x) (Some o) e u true p h = absurd h
-clr_step (Some f) None None e u true p h = absurd h
-clr_step (Some f) None (Some o) e u true p h = absurd h
+-- What Updates, the last one first, leave on a number where this stood before them; and each begins with what those
+-- before it leave.
+abbrev pub top_on : ℕ → Content → List Entry → Content
+top_on number first us = unwrap_or (option_map (λ (u : Entry). after_of u.rec) (find (is_on number) us)) first
+
+abbrev pub RunsFrom : ℕ → Content → List Entry → Type 0
+RunsFrom number first [] = ⊤
+RunsFrom number first (u ∷ us) = (is_on number u ≡ true → before_of u.rec ≡ top_on number first us) × RunsFrom number first us
+
+pub none_on : (number : ℕ) (first : Content) (us : List Entry) → list_any (is_on number) us ≡ false → (top_on number first us ≡ first) × RunsFrom number first us
+none_on number first [] none = (refl, tt)
+none_on number first (u ∷ us) none =
+    let parts = or_parts (is_on number u) (list_any (is_on number) us) none in
+    let rest = none_on number first us parts.1 in
+    (ap (λ (b : Bool). unwrap_or (option_map (λ (u : Entry). after_of u.rec) (cond b (Some u) (find (is_on number) us))) first) parts.0 ∙ rest.0, ((λ on. absurd (true≢false (sym on ∙ parts.0))), rest.1))
+
+-- The first Update on a number, the last record there, and the Updates that are left to be undone: these begin with what
+-- stood before the first one, and the last record leaves what they leave.
+abbrev pub Runs : ℕ → Option Entry → Option Entry → List Entry → Type 0
+Runs number None None us = list_any (is_on number) us ≡ false
+Runs number (Some f) (Some x) us = RunsFrom number (before_of f.rec) us × (after_of x.rec ≡ top_on number (before_of f.rec) us)
+Runs number _ _ us = ⊥
+
+abbrev pub RunsAt : ℕ → List Entry → Type 0
+RunsAt number entries = Runs number (find (is_on number) (updates_in entries)) (last_where (is_on number) entries) (open_updates [] entries)
+
+top_more : (number : ℕ) (first : Content) (e : Entry) (us : List Entry) (b : Bool) → is_on number e ≡ b → top_on number first (e ∷ us) ≡ cond b (after_of e.rec) (top_on number first us)
+top_more number first e us true on = ap (λ (b : Bool). unwrap_or (option_map (λ (u : Entry). after_of u.rec) (cond b (Some e) (find (is_on number) us))) first) on
+top_more number first e us false on = ap (λ (b : Bool). unwrap_or (option_map (λ (u : Entry). after_of u.rec) (cond b (Some e) (find (is_on number) us))) first) on
+
+update_step : (number : ℕ) (f x : Option Entry) (e : Entry) (us : List Entry) (b : Bool) → is_on number e ≡ b → Runs number f x us → (b ≡ true → ShowsLast (before_of e.rec) x) →
+    Runs number (option_or f (cond b (Some e) None)) (option_or (cond b (Some e) None) x) (e ∷ us)
+update_step number None None e us true on h n =
+    let none = none_on number (before_of e.rec) us h in
+    (((λ there. sym none.0), none.1), sym (top_more number (before_of e.rec) e us true on))
+update_step number None None e us false on h n = ap (λ (b : Bool). b || list_any (is_on number) us) on ∙ h
+update_step number (Some f) (Some x) e us true on h n = (((λ there. n refl ∙ h.1), h.0), sym (top_more number (before_of f.rec) e us true on))
+update_step number (Some f) (Some x) e us false on h n = (((λ there. absurd (true≢false (sym there ∙ on))), h.0), h.1 ∙ sym (top_more number (before_of f.rec) e us false on))
+update_step number None (Some x) e us b on h n = absurd h
+update_step number (Some f) None e us b on h n = absurd h
+
+clr_step : (number : ℕ) (f x : Option Entry) (e u : Entry) (us : List Entry) (b : Bool) → is_on number u ≡ b → after_of e.rec ≡ before_of u.rec → Runs number f x (u ∷ us) → Runs number f (option_or (cond b (Some e) None) x) us
+clr_step number None None e u us true on p h = absurd (true≢false (sym on ∙ (or_parts (is_on number u) (list_any (is_on number) us) h).0))
+clr_step number None None e u us false on p h = (or_parts (is_on number u) (list_any (is_on number) us) h).1
+clr_step number (Some f) (Some x) e u us true on p h = (h.0.1, p ∙ h.0.0 on)
+clr_step number (Some f) (Some x) e u us false on p h = (h.0.1, h.1 ∙ top_more number (before_of f.rec) u us false on)
+clr_step number None (Some x) e u us b on p h = absurd h
+clr_step number (Some f) None e u us b on p h = absurd h
 
 pub none_any : (test : Entry → Bool) (xs : List Entry) → last_where test xs ≡ None → list_any test xs ≡ false
 none_any test [] h = refl
@@ -115,9 +150,9 @@ none_any test (x ∷ xs) h =
     by_test true h = absurd (grind arith)
     by_test false h = refl
 
-agrees_more : (number : ℕ) (earlier : List Entry) (e : Entry) → Continues earlier e → AgreesAt number earlier → AgreesAt number (with_entry earlier e)
-agrees_more number earlier e c h =
-    subst (λ (us : List Entry). Agrees (find (is_on number) (updates_in (with_entry earlier e))) (last_where (is_on number) (with_entry earlier e)) (last_where (is_on number) us)) (sym (open_append [] earlier (e ∷ [])))
+runs_more : (number : ℕ) (earlier : List Entry) (e : Entry) → Continues earlier e → RunsAt number earlier → RunsAt number (with_entry earlier e)
+runs_more number earlier e c h =
+    subst (λ (us : List Entry). Runs number (find (is_on number) (updates_in (with_entry earlier e))) (last_where (is_on number) (with_entry earlier e)) us) (sym (open_append [] earlier (e ∷ [])))
     (by_rec e.lsn e.rec (open_updates [] earlier) c.undoes c.begins_there h)
   where
     first : List Entry → Option Entry
@@ -128,28 +163,30 @@ agrees_more number earlier e c h =
 
     by_rec : (lsn : ℕ) (rec : LogRecord) (us : List Entry) → Undoes us rec →
         ((n : ℕ) → IsTrue (is_update rec) → number_of rec ≡ Some n → ShowsLast (before_of rec) (last_on earlier n)) →
-        Agrees (first earlier) (last earlier) (last us) →
-        Agrees (first (earlier ++ record { lsn = lsn; rec = rec } ∷ [])) (last (earlier ++ record { lsn = lsn; rec = rec } ∷ [])) (last (open_by us (record { lsn = lsn; rec = rec }) rec))
+        Runs number (first earlier) (last earlier) us →
+        Runs number (first (earlier ++ record { lsn = lsn; rec = rec } ∷ [])) (last (earlier ++ record { lsn = lsn; rec = rec } ∷ [])) (open_by us (record { lsn = lsn; rec = rec }) rec)
     by_rec lsn (Update txn prev page slot before after) us u begins k = grind (arith, common_steps, last_where-append, one, filter-append, find-append, update_step, eqb-true)
     by_rec lsn (Clr txn prev undo_next page slot after) (v ∷ us) u begins k = grind (arith, common_steps, last_where-append, one, filter-append, find-append, clr_step, puts_back, same_number, option_or_none)
     by_rec lsn _ _ u begins k = absurd u
 
-agrees_all : (number : ℕ) (earlier entries : List Entry) → InTurn Continues earlier entries → AgreesAt number earlier → AgreesAt number (earlier ++ entries)
-agrees_all number earlier [] c h = subst (AgreesAt number) (sym (append-nil earlier)) h
-agrees_all number earlier (e ∷ entries) c h = subst (AgreesAt number) (append_assoc earlier (e ∷ []) entries) (agrees_all number (with_entry earlier e) entries c.1 (agrees_more number earlier e c.0 h))
+runs_all : (number : ℕ) (earlier entries : List Entry) → InTurn Continues earlier entries → RunsAt number earlier → RunsAt number (earlier ++ entries)
+runs_all number earlier [] c h = subst (RunsAt number) (sym (append-nil earlier)) h
+runs_all number earlier (e ∷ entries) c h = subst (RunsAt number) (append_assoc earlier (e ∷ []) entries) (runs_all number (with_entry earlier e) entries c.1 (runs_more number earlier e c.0 h))
+
+pub runs_in_chain : (number t : ℕ) (entries : List Entry) → IsLoserChain t entries → RunsAt number entries
+runs_in_chain number t entries chain = subst (RunsAt number) (sym chain.begins) (runs_all number (record { lsn = t; rec = Begin } ∷ []) (drop 1 entries) chain.continues refl)
 
 -- where nothing is left to be undone, what stands last on a record is what stood before
 pub undone_by_chain : (number t : ℕ) (entries : List Entry) (x : Entry) → IsLoserChain t entries → open_updates [] entries ≡ [] → last_where (is_on number) entries ≡ Some x →
     after_of x.rec ≡ before_first (find (is_on number) (updates_in entries))
 undone_by_chain number t entries x chain none e =
     by_first (find (is_on number) (updates_in entries))
-    (subst (λ (o : Option Entry). Agrees (find (is_on number) (updates_in entries)) (Some x) o) (ap (last_where (is_on number)) none)
-    (subst (λ (o : Option Entry). Agrees (find (is_on number) (updates_in entries)) o (last_where (is_on number) (open_updates [] entries))) e
-    (subst (AgreesAt number) (sym chain.begins) (agrees_all number (record { lsn = t; rec = Begin } ∷ []) (drop 1 entries) chain.continues tt))))
+    (subst (λ (us : List Entry). Runs number (find (is_on number) (updates_in entries)) (Some x) us) none
+    (subst (λ (o : Option Entry). Runs number (find (is_on number) (updates_in entries)) o (open_updates [] entries)) e (runs_in_chain number t entries chain)))
   where
-    by_first : (o : Option Entry) → Agrees o (Some x) None → after_of x.rec ≡ before_first o
+    by_first : (o : Option Entry) → Runs number o (Some x) [] → after_of x.rec ≡ before_first o
     by_first None h = absurd h
-    by_first (Some f) h = h
+    by_first (Some f) h = h.1
 
 -- each CLR takes away one Update
 left_count : (earlier entries : List Entry) → InTurn Continues earlier entries → length (open_updates (open_updates [] earlier) entries) + length (clrs_in entries) ≡ length (open_updates [] earlier) + length (updates_in entries)

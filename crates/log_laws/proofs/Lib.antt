@@ -11,6 +11,8 @@ pub mod Appends
 pub mod Owing
 pub mod PendingCounts
 pub mod Shown
+pub mod Standing
+pub mod StandingTables
 pub mod Orderly
 pub mod Tails
 pub mod Losers

@@ -1,10 +1,10 @@
 -- Transactions at work, and transactions that are undone.
 use Rattle.std.proofs.lemmas.Grind.{common_steps}
 use Rattle.std.proofs.Common.{◌≡◌, ℕ, ◌+◌, ◌*◌, ◌<◌, ◌≤◌, ⊎_elim, Bool, true, false, cond, not, ◌&&◌, ◌||◌, List, [], ◌∷◌, ◌++◌, length, map, drop, Some, refl, sym, ap, subst, ◌∙◌, arith}
-use Rattle.std.specs.Prelude.{filter, filter_map, IsTrue, ◌==◌, nat_lt}
+use Rattle.std.specs.Prelude.{filter, IsTrue, ◌==◌, nat_lt}
 use Rattle.std.specs.List.{AllByRecursion, list_any}
 use Rattle.std.proofs.lemmas.List.{append-nil}
-use Rattle.std.proofs.lemmas.List.Elements.{filter-append, filter_map-append}
+use Rattle.std.proofs.lemmas.List.Elements.{filter-append}
 use Rattle.std.proofs.lemmas.List.Folds.{list_any-append}
 use Rattle.std.proofs.lemmas.Bool.{and_from, and_parts, and_left, and_right, or_left, or_right, or_parts, or_cases, cases_Bool, eqb-true, eq-eqb, le-leb, le-ltb, not-true, not_from_false}
 use Rattle.std.proofs.lemmas.Option.{same_Some}
@@ -15,9 +15,9 @@ use Rattle.record_model.specs.State.{Content, Write}
 use Rattle.log_records.specs.declared.log_record.LogRecord.{LogRecord}
 use Rattle.log_records.specs.declared.log_record.LogRecord.TheVariants.{Begin, Update, Clr}
 use Rattle.log_records.specs.Log.{Entry, Version, txn_of, is_of, is_on, is_update, is_closing, is_closed, is_loser, entries_of, updates_in, first_update, shown}
-use Rattle.log_records.specs.Unfinished.{is_begin, is_clr, clrs_in, open_by, open_updates, left_open, losers, owed_by}
+use Rattle.log_records.specs.Unfinished.{is_begin, open_by, open_updates, left_open, losers, owed_by}
 use Rattle.log_records.specs.Sound.{Active, Master, LogicalImage, IsOpen, IsInTable, is_known, before_block, from_block, last_lsn, last_number}
-use Rattle.log_laws.specs.Follow.{Follows, CanBeUndone, IsActive, IsFresh, IsFreeFor, IsUndoable, next_entries, write_of}
+use Rattle.log_laws.specs.Follow.{Follows, CanBeUndone, IsActive, IsFresh, IsFreeFor, IsUndoable, next_entries}
 use Rattle.log_laws.specs.Tail.{Carries, whole, next_lsn}
 use Rattle.log_laws.proofs.Lists.{any_find, some_or_none}
 use Rattle.log_laws.proofs.Values.{with, closed_same, closed_by, last_is_own, update_of}
@@ -25,7 +25,8 @@ use Rattle.log_laws.proofs.Chains.{any_open, none_any}
 use Rattle.log_laws.proofs.Orders.{filter_none, all_from, entries_in_order}
 use Rattle.log_laws.proofs.Parts.{parts_at}
 use Rattle.log_laws.proofs.Appends.{begins, chain_start, fresh_entries, fresh_open, update_follows, clr_follows, free_off, has_written_is}
-use Rattle.log_laws.proofs.Owing.{left_is_written}
+use Rattle.log_laws.proofs.Owing.{left_push}
+use Rattle.log_laws.proofs.Standing.{writes_of, writes_more, standing_count}
 use Rattle.log_laws.proofs.Tails.{whole_in_order, whole_is_undoable}
 
 -- The records of a transaction.
@@ -77,17 +78,16 @@ active_writes m log lsn t last page slot writes before after a undone =
     record {
       lives = open_more m log e t a.lives (and_right (t == t) false refl);
       chain = undone (loser_goes_on log e refl a.lives.not_closed);
-      no_clrs = ap clrs_in entries ∙ filter-append (λ x. is_clr x.rec) (entries_of t log) (e ∷ []) ∙ ap (λ (l : List Entry). l ++ []) a.no_clrs;
       last_is = sym (ap last_lsn entries ∙ last_number_of 0 (entries_of t log) e);
       writes_are = ap (λ (l : List Write). l ++ (32 * page + slot, after) ∷ []) a.writes_are
-          ∙ sym (ap (λ (l : List Entry). filter_map (λ e. write_of e.rec) l) entries ∙ filter_map-append (λ e. write_of e.rec) (entries_of t log) (e ∷ []));
+          ∙ sym (ap writes_of (left_push log e t ∙ ap (λ (b : Bool). cond b (e ∷ left_open log t) (left_open log t)) (eq-eqb t t refl)) ∙ writes_more e (left_open log t));
     }
 
 pub active_stays : (m : Master) (log : List Entry) (e : Entry) (t last : ℕ) (writes : List Write) → IsActive m log t last writes → is_of t e ≡ false → IsActive m (with log e) t last writes
 active_stays m log e t last writes a h = grind (arith, common_steps, entries_other, open_more, and_left)
 
 pub active_owes : (m : Master) (log : List Entry) (t last : ℕ) (writes : List Write) → IsActive m log t last writes → owed_by log t ≡ length writes + 1
-active_owes m log t last writes a = ap (λ n. n + 1) (left_is_written log t a.chain a.no_clrs ∙ sym (ap length a.writes_are))
+active_owes m log t last writes a = ap (λ n. n + 1) (sym (ap length a.writes_are ∙ standing_count log t))
 
 -- Which transactions are unfinished.
 

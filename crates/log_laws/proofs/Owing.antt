@@ -1,7 +1,7 @@
 -- What undo may take, record by record.
 use Rattle.std.proofs.lemmas.Grind.{common_steps}
-use Rattle.std.proofs.Common.{◌≡◌, ℕ, suc, ◌+◌, ◌<◌, Bool, true, false, cond, not, ◌&&◌, List, [], ◌∷◌, length, refl, sym, ap, subst, ◌∙◌, arith}
-use Rattle.std.specs.Prelude.{drop, filter_map, sum_by, IsTrue, ◌==◌}
+use Rattle.std.proofs.Common.{◌≡◌, ℕ, ◌+◌, ◌<◌, Bool, true, false, cond, not, ◌&&◌, List, [], ◌∷◌, length, refl, sym, ap, subst, ◌∙◌, arith}
+use Rattle.std.specs.Prelude.{drop, sum_by, IsTrue, ◌==◌}
 use Rattle.std.specs.List.{AllByRecursion}
 use Rattle.std.proofs.lemmas.List.Elements.{filter-append}
 use Rattle.std.proofs.lemmas.Bool.{and_from, and_left, and_right, eqb-true, eq-eqb, ne_eqb}
@@ -15,12 +15,11 @@ use Rattle.log_records.specs.Sound.{IsLoserChain, Undoes, Continues}
 use Rattle.log_laws.proofs.Chains.{open_append}
 use Rattle.log_laws.proofs.Values.{with, closed_same, closed_by}
 use Rattle.log_laws.proofs.Orders.{InTurn-all}
-use Rattle.log_laws.specs.Follow.{IsFresh, write_of, writes_in}
+use Rattle.log_laws.specs.Follow.{IsFresh}
 use Rattle.log_laws.proofs.Appends.{fresh_entries, fresh_open}
-use Rattle.log_laws.proofs.Chains.{left_of_chain}
 use Rattle.log_laws.proofs.Parts.{are_losers}
-use Rattle.log_records.specs.Log.{is_loser, updates_in}
-use Rattle.log_records.specs.Unfinished.{losers, clrs_in}
+use Rattle.log_records.specs.Log.{is_loser}
+use Rattle.log_records.specs.Unfinished.{losers}
 
 -- An unfinished transaction has one Begin.
 
@@ -221,22 +220,5 @@ no_losers log (t ∷ ts) h a = absurd (let never = sym (h t) ∙ a.0 in grind ar
 
 pub owed_none : (log : List Entry) → ((t : ℕ) → is_loser log t ≡ false) → owed log ≡ 0
 owed_none log h = ap (sum_by (owed_by log)) (no_losers log (losers log) h (are_losers log))
-
--- What a transaction has written that was never undone is left to be undone.
-
-writes_count : (entries : List Entry) → clrs_in entries ≡ [] → length (filter_map (λ e. write_of e.rec) entries) ≡ length (updates_in entries)
-writes_count [] h = refl
-writes_count (e ∷ entries) h = by_rec e.lsn e.rec h (writes_count entries)
-  where
-    by_rec : (lsn : ℕ) (rec : LogRecord) → clrs_in (record { lsn = lsn; rec = rec } ∷ entries) ≡ [] → (clrs_in entries ≡ [] → length (filter_map (λ e. write_of e.rec) entries) ≡ length (updates_in entries)) →
-        length (filter_map (λ e. write_of e.rec) (record { lsn = lsn; rec = rec } ∷ entries)) ≡ length (updates_in (record { lsn = lsn; rec = rec } ∷ entries))
-    by_rec lsn Begin h f = f h
-    by_rec lsn (Commit txn number) h f = f h
-    by_rec lsn (End txn) h f = f h
-    by_rec lsn (Clr txn prev undo_next page slot after) h f = absurd (let l = ap length h in omega (arith, l))
-    by_rec lsn (Update txn prev page slot before after) h f = ap suc (f h)
-
-pub left_is_written : (log : List Entry) (t : ℕ) → IsLoserChain t (entries_of t log) → clrs_in (entries_of t log) ≡ [] → length (left_open log t) ≡ length (writes_in t log)
-left_is_written log t chain none = grind (arith, common_steps, left_of_chain, writes_count)
 
 -- No block is empty.

@@ -1,5 +1,5 @@
 -- One step of undo.
-use Rattle.std.proofs.Common.{◌≡◌, ℕ, ◌+◌, ◌*◌, ◌<◌, ◌≤◌, Bool, true, false, cond, not, List, [], ◌∷◌, ◌++◌, length, drop, refl, sym, ap, subst, ◌∙◌, arith}
+use Rattle.std.proofs.Common.{◌≡◌, ℕ, ◌+◌, ◌*◌, ◌<◌, ◌≤◌, true, false, cond, not, List, [], ◌∷◌, ◌++◌, length, drop, refl, sym, ap, subst, ◌∙◌, arith}
 use Rattle.std.specs.Prelude.{find, ◌==◌}
 use Rattle.std.specs.List.{AllByRecursion, list_any}
 use Rattle.std.specs.Option.{option_or}
@@ -18,7 +18,8 @@ use Rattle.log_laws.specs.UndoLaws.{IsLink, IsUndoChain, goes_back}
 use Rattle.log_laws.specs.UndoSteps.{IsToUndo}
 use Rattle.log_laws.proofs.Values.{with}
 use Rattle.log_laws.proofs.Appends.{end_follows}
-use Rattle.log_laws.proofs.Owing.{left_is_written}
+use Rattle.log_laws.proofs.Chains.{left_of_chain}
+use Rattle.log_laws.proofs.Standing.{standing_count}
 use Rattle.log_laws.proofs.Losers.{any_of_those, clr_of_last_follows, last_more, left_keep, loser_goes_on, loser_is_not_closed, loser_is_known}
 use Rattle.log_laws.proofs.OpenUpdates.{left_after_clr}
 use Rattle.log_laws.proofs.Tails.{whole_in_table, whole_is_undoable}
@@ -155,31 +156,14 @@ module _ (p : LogicalImage) (tail : List LogRecord) (x : Unfinished) (c : Carrie
       none_left [] h = refl
       none_left (u ∷ us) h = absurd (omega (arith, h))
 
--- A transaction that was never undone: its Updates are read, and nothing else.
-
-all_are_updates : (entries : List Entry) → length entries ≤ length (updates_in entries) → updates_in entries ≡ entries
-all_are_updates [] h = refl
-all_are_updates (e ∷ entries) h = by (is_update e.rec) h (all_are_updates entries) (updates_few entries)
-  where
-    updates_few : (xs : List Entry) → length (updates_in xs) ≤ length xs
-    updates_few [] = omega arith
-    updates_few (y ∷ ys) = grind (arith, (updates_few ys))
-
-    by : (b : Bool) → length (e ∷ entries) ≤ length (cond b (e ∷ updates_in entries) (updates_in entries)) → (length entries ≤ length (updates_in entries) → updates_in entries ≡ entries) →
-        length (updates_in entries) ≤ length entries → cond b (e ∷ updates_in entries) (updates_in entries) ≡ e ∷ entries
-    by true h f few = ap (λ (l : List Entry). e ∷ l) (f (omega (arith, h)))
-    by false h f few = absurd (omega (arith, h, few))
-
+-- Undoing an active transaction begins with its last record, and reads no more records than it has Updates.
 pub active_is_unfinished : (m : Master) (from to : ℕ) (log : List Entry) (t last : ℕ) (writes : List Write) → IsInOrder from log to → IsActive m log t last writes →
-    IsUnfinished log (record { txn = t; last = last; next = last; remaining = length writes; chain = left_open log t })
+    (chain : List Entry) × IsUnfinished log (record { txn = t; last = last; next = last; remaining = length writes; chain = chain }) × (length chain ≤ length (updates_in (entries_of t log)))
 active_is_unfinished m from to log t last writes order a =
     let begun : is_loser log t ≡ true = and_from (list_any (is_of t) log) (not (is_closed log t))
     (any_of_those (is_of t) (is_of t) log (ap (list_any (is_of t)) a.chain.begins ∙ or_left (t == t) (list_any (is_of t) (drop 1 (entries_of t log))) (eq-eqb t t refl)))
     (not_from_false (is_closed log t) a.lives.not_closed) in
-    let found = unfinished_from_last from to log t order a.chain last (length writes) begun a.last_is (ap length a.writes_are ∙ sym (left_is_written log t a.chain a.no_clrs)) in
-    let is = found.1 in
+    let found = unfinished_from_last from to log t order a.chain last (length writes) begun a.last_is (ap length a.writes_are ∙ standing_count log t) in
     let few = found.2 in
-    let none = ap length a.no_clrs in
-    let many = ap length is.left_is in
-    let same : found.0 ≡ left_open log t = sym (all_are_updates found.0 (omega (arith, few, none, many))) ∙ is.left_is in
-    subst (λ (l : List Entry). IsUnfinished log (record { txn = t; last = last; next = last; remaining = length writes; chain = l })) same is
+    let many = left_of_chain t (entries_of t log) a.chain in
+    (found.0, found.1, omega (arith, few, many))

@@ -1,6 +1,6 @@
 -- What may be put behind a log, and what that changes.
 use Rattle.std.specs.Prelude.{◌≡◌, ℕ, ◌+◌, ◌*◌, ◌==◌, Bool, true, false, List, [], ◌∷◌, ◌++◌, length, map, filter_map}
-use Rattle.std.specs.Prelude.{Option, Some, option_map, IsTrue}
+use Rattle.std.specs.Prelude.{Option, Some, option_map, reverse, IsTrue}
 use Rattle.std.specs.List.{AllByRecursion, list_any, range_with_len}
 use Rattle.record_model.specs.State.{Content, Write, table_with}
 use Rattle.log_records.specs.declared.log_record.LogRecord.{LogRecord}
@@ -8,7 +8,7 @@ use Rattle.log_records.specs.declared.log_record.LogRecord.TheVariants.{Commit, 
 use Rattle.log_records.specs.Spelling.{AreBlock}
 use Rattle.log_records.specs.Log.{Entry, Version, shown, entries_from, txn_of, is_of, is_closed, entries_of}
 use Rattle.log_records.specs.Log.{is_loser, number_of, is_update, before_of, after_of}
-use Rattle.log_records.specs.Unfinished.{is_begin, clrs_in, left_open}
+use Rattle.log_records.specs.Unfinished.{is_begin, left_open}
 use Rattle.log_records.specs.Sound.{Master, LogicalImage, InTurn, IsInTable, IsOpen, IsLoserChain, Pairwise, HoldsOff}
 use Rattle.log_records.specs.Sound.{HasRoom, AreNumbered, last_lsn}
 
@@ -97,10 +97,13 @@ IsFree log number = (s : ℕ) → is_closed log s ≡ false → has_written log 
 abbrev pub shown_table : List Entry → List Version → List Content
 shown_table log pages = map (shown log pages) (range_with_len 0 (32 * length pages))
 
--- An open transaction that was never undone, the LSN of its last record, and what it has written.
+-- the writes of a transaction that stand, in order: those of its Updates that are left to be undone
+abbrev pub standing_in : ℕ → List Entry → List Write
+standing_in t log = filter_map (λ e. write_of e.rec) (reverse (left_open log t))
+
+-- An open transaction, the LSN of its last record, and its writes that stand.
 pub record IsActive (m : Master) (log : List Entry) (t last : ℕ) (writes : List Write) : Type 0 where
   pub lives : IsOpen m log t
   pub chain : IsLoserChain t (entries_of t log)
-  pub no_clrs : clrs_in (entries_of t log) ≡ []
   pub last_is : last ≡ last_lsn (entries_of t log)
-  pub writes_are : writes ≡ writes_in t log
+  pub writes_are : writes ≡ standing_in t log

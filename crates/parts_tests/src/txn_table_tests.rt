@@ -10,6 +10,10 @@ enum Step {
     Begin(u32, u32),
     // It writes, and this is its last record then.
     Wrote(u32, u64),
+    // It sets its mark.
+    Mark(u32),
+    // So many of its writes are undone, and this is its last record then.
+    Undone(u32, u64, u64),
     // It ends.
     End(u32),
     // Records are counted from the first one of the oldest session on.
@@ -19,6 +23,8 @@ enum Step {
     // A session is active with this last record, and began after so many records; or it isn't.
     Has(u32, u64, u64),
     Absent(u32),
+    // So many writes of a session stand, and its mark is behind so many.
+    Counts(u32, u64, u64),
     // The session at this place.
     At(usize, u32),
     // How many records came before the oldest session, and its Begin; or there is none.
@@ -37,6 +43,7 @@ fn begin(table: &mut TxnTable, session: u32, made: u32) -> bool {
         last: 512 * made,
         born: made,
         writes: 0,
+        mark: 0,
     });
     true
 }
@@ -49,6 +56,25 @@ fn wrote(table: &mut TxnTable, session: u32, last: u64) -> bool {
         return false;
     }
     table.wrote(session, last);
+    true
+}
+
+fn mark(table: &mut TxnTable, session: u32) -> bool {
+    if table.find(session).is_none() {
+        return false;
+    }
+    table.mark(session);
+    true
+}
+
+fn undone(table: &mut TxnTable, session: u32, count: u64, last: u64) -> bool {
+    let Some(entry) = table.find(session) else {
+        return false;
+    };
+    if entry.writes < count {
+        return false;
+    }
+    table.undone(session, count, last);
     true
 }
 
@@ -78,11 +104,22 @@ fn has(table: &TxnTable, session: u32, last: u64, born: u64) -> bool {
     }
 }
 
+// Whether so many writes of a session stand, with its mark behind so many.
+fn counts(table: &TxnTable, session: u32, writes: u64, mark: u64) -> bool {
+    match table.find(session) {
+        Some(entry) => entry.writes == writes && entry.mark == mark,
+        None => false,
+    }
+}
+
 // Makes a call, or looks, and answers whether that is as the row says.
 fn holds(table: &mut TxnTable, step: Step) -> bool {
     match step {
         Step::Begin(session, made) => begin(table, session, made),
         Step::Wrote(session, last) => wrote(table, session, last),
+        Step::Mark(session) => mark(table, session),
+        Step::Undone(session, count, last) => undone(table, session, count, last),
+        Step::Counts(session, writes, at) => counts(table, session, writes, at),
         Step::End(session) => end(table, session),
         Step::Count => count_from_oldest(table),
         Step::Owed(owed, len) => {
@@ -155,11 +192,39 @@ const COUNTED: &[Step] = &[
     Step::Oldest(0, 1536),
 ];
 
+// Three writes, with the mark behind the second of them, and one of another session. The last one is undone: the mark
+// stays. Then another one is: the mark falls with it, and a write behind it leaves it there.
+const MARKED: &[Step] = &[
+    Step::Begin(0, 0),
+    Step::Begin(1, 1),
+    Step::Wrote(0, 1024),
+    Step::Counts(0, 1, 0),
+    Step::Wrote(0, 1536),
+    Step::Mark(0),
+    Step::Wrote(0, 2048),
+    Step::Wrote(1, 2560),
+    Step::Counts(0, 3, 2),
+    Step::Owed(6, 2),
+    Step::Undone(0, 1, 3072),
+    Step::Counts(0, 2, 2),
+    Step::Has(0, 3072, 0),
+    Step::Undone(0, 1, 3584),
+    Step::Counts(0, 1, 1),
+    Step::Has(0, 3584, 0),
+    Step::Owed(4, 2),
+    Step::Wrote(0, 4096),
+    Step::Counts(0, 2, 1),
+    Step::Has(0, 4096, 0),
+    Step::Counts(1, 1, 0),
+    Step::Has(1, 2560, 1),
+];
+
 // The tests by their names.
-const TESTS: [(&str, &[Step]); 3] = [
+const TESTS: [(&str, &[Step]); 4] = [
     ("six_writes_owe_seven", SIX_WRITES),
     ("seven_sessions_owe_seven", SEVEN_SESSIONS),
     ("records_are_counted_from_the_oldest", COUNTED),
+    ("undone_writes_lower_the_mark", MARKED),
 ];
 
 #[test]

@@ -1,5 +1,5 @@
 -- A reply tells whether the command was carried out.
-use Rattle.std.proofs.Common.{arith, ◌≡◌, ℕ, ◌+◌, ◌-◌, Bool, true, false, List, [], ◌∷◌, Option, Some, None, refl, ap, sym}
+use Rattle.std.proofs.Common.{◌≡◌, ℕ, ◌+◌, ◌-◌, Bool, true, false, List, [], ◌∷◌, Option, Some, None, refl, ap, sym}
 use Rattle.std.specs.Prelude.{not, ◌&&◌, is_none, option_map, map, if◌then◌else◌}
 use Rattle.std.specs.List.{AllByRecursion, range_with_len}
 use Rattle.record_model.specs.declared.words.Command.{Command}
@@ -10,7 +10,7 @@ use Rattle.record_model.specs.declared.words.Why.TheVariants.{BadSession, NoReco
 use Rattle.record_model.specs.declared.words.Reply.{Reply}
 use Rattle.record_model.specs.declared.words.Reply.TheVariants as reply
 use Rattle.record_model.specs.State.{Content, State, seen, content_at, busy_read, busy_write}
-use Rattle.record_model.specs.Step.{outcome, carried_through, full, effect, fills_page, lacks_room, refusal, first_refusal, refuse_if, wants_active, wants_record, wants_short, wants_standing, may_read, may_write, ready, answer, found}
+use Rattle.record_model.specs.Step.{outcome, carried_through, full, fills_page, lacks_room, refusal, first_refusal, refuse_if, wants_active, wants_record, wants_short, wants_standing, may_read, may_write, ready, answer, found}
 use Rattle.record_model.specs.Laws.{is_refused, RefusalsAreTold}
 
 -- a test's reply is a refusal

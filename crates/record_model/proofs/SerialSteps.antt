@@ -13,7 +13,7 @@ use Rattle.record_model.specs.declared.words.Reply.{Reply}
 use Rattle.record_model.specs.declared.words.Reply.TheVariants as reply
 use Rattle.record_model.specs.State.{Content, Session, State, content_at, last_write, writes_of, seen}
 use Rattle.record_model.specs.State as state
-use Rattle.record_model.specs.Step.{Outcome, step, refuse_if, wants_record, wants_short, wants_standing, answer, found, item, having_read, having_written, having_marked, going_back, left_standing, dropped}
+use Rattle.record_model.specs.Step.{Outcome, step, refuse_if, wants_record, wants_short, wants_standing, answer, found, item, having_read, having_written, having_marked, going_back, dropped}
 use Rattle.record_model.specs.Run.{Line, Turn, line_step, turn, turns, replies, left_by, listings_after, is_quit}
 use Rattle.record_model.specs.Serial.{lines_of, opened_alone}
 use Rattle.record_model.proofs.RunLaws.{turns-append}

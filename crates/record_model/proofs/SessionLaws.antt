@@ -1,7 +1,7 @@
 -- What holds of an active session at each moment.
 use Rattle.std.proofs.lemmas.Grind.{common_steps}
-use Rattle.std.proofs.Common.{◌≡◌, ℕ, zero, suc, ◌+◌, ◌≤◌, Bool, true, false, List, [], ◌∷◌, ◌++◌, length, Option, Some, None, inl, inr, refl, ap, sym, ◌∙◌, subst, arith}
-use Rattle.std.specs.Prelude.{◌==◌, ◌||◌, ◌⊎◌, slice_index_or, slice_set, take, option_map}
+use Rattle.std.proofs.Common.{◌≡◌, ℕ, zero, suc, Bool, true, List, [], ◌∷◌, Option, Some, None, inl, inr, refl, sym, ◌∙◌, subst, arith}
+use Rattle.std.specs.Prelude.{◌⊎◌, slice_index_or, slice_set, take, option_map}
 use Rattle.std.specs.List.{list_any}
 use Rattle.record_model.specs.declared.words.Command.{Command}
 use Rattle.record_model.specs.declared.words.Command.TheVariants.{Begin, Read, Write, Erase, Scan, Commit, Abort, Mark, Back}
@@ -9,8 +9,7 @@ use Rattle.record_model.specs.declared.words.CacheLine.{CacheLine}
 use Rattle.record_model.specs.declared.words.Reply.{Reply}
 use Rattle.record_model.specs.State.{Session, State}
 use Rattle.record_model.specs.State as state
-use Rattle.record_model.specs.Step.{Outcome, outcome, refusal, ready, lacks_room, fills_page, effect, having_read, having_written, having_marked, going_back, left_standing}
-use Rattle.record_model.specs.Run.{Line, line_step}
+use Rattle.record_model.specs.Step.{outcome, refusal, ready, lacks_room, fills_page, effect, having_read, having_written, having_marked, going_back, left_standing}
 use Rattle.record_model.specs.Laws.{IsSoundSession, AreSound, SessionsStaySound}
 use Rattle.record_model.proofs.StepLaws.{each_outcome}
 

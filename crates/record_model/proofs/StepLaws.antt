@@ -12,7 +12,7 @@ use Rattle.record_model.specs.declared.words.Reply.{Reply}
 use Rattle.record_model.specs.declared.words.Reply.TheVariants as reply
 use Rattle.record_model.specs.State.{kept_by_checkpoint, Content, Session, State, table_with, session_at, writes_of, busy_read, busy_write}
 use Rattle.record_model.specs.State as state
-use Rattle.record_model.specs.Step.{lacks_room, asks_for_checkpoint, Outcome, outcome, carried_through, full, fills_page, refusal, first_refusal, refuse_if, wants_active, wants_record, wants_short, wants_standing, wants_page_room, may_read, may_write, ready, effect, answer, found}
+use Rattle.record_model.specs.Step.{lacks_room, asks_for_checkpoint, Outcome, outcome, carried_through, full, fills_page, refusal, first_refusal, refuse_if, wants_active, wants_record, wants_short, wants_standing, may_read, may_write, ready, effect, answer, found}
 use Rattle.record_model.specs.Run.{is_committed}
 use Rattle.record_model.specs.Laws.{IsCountedIn, KeepsSizes, SizesStay}
 use Rattle.record_model.specs.Run.{Line, line_step}

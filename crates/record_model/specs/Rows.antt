@@ -3,10 +3,10 @@ use Rattle.std.specs.Prelude.{◌≡◌, ℕ, ◌*◌, List, [], ◌∷◌, ◌+
 use Rattle.std.specs.Prelude.{true, false, Some, None}
 use Rattle.std.specs.List.{range_with_len}
 use Rattle.record_model.specs.declared.words.Command.TheVariants.{Begin, Read, Write, Erase, Scan, Commit, Abort, Get}
-use Rattle.record_model.specs.declared.words.Command.TheVariants.{Set, Checkpoint, Stat, Quit}
+use Rattle.record_model.specs.declared.words.Command.TheVariants.{Set, Checkpoint, Stat, Quit, Mark, Back}
 use Rattle.record_model.specs.declared.words.Reply.{Reply}
 use Rattle.record_model.specs.declared.words.Reply.TheVariants as reply
-use Rattle.record_model.specs.declared.words.Why.TheVariants.{BadLine, BadSession, NoRecord, TooLong}
+use Rattle.record_model.specs.declared.words.Why.TheVariants.{BadLine, BadSession, NoRecord, TooLong, BadMark}
 use Rattle.record_model.specs.declared.words.Item.{Item}
 use Rattle.record_model.specs.State.{Content, State, opened}
 use Rattle.record_model.specs.Run.{Line, Turn, turns, replies, acknowledged, asked_for, after_commits}
@@ -131,6 +131,87 @@ CheckpointOnDemand =
     ≡ reply.Committed 1 ∷ reply.Done ∷ reply.Done ∷ reply.Checked
     ∷ reply.Stat (record { commits = 1; used = 2; owed = 2; cap = 15; active = 1 }) ∷ []
 
+-- Marks. What is written behind a mark is dropped, and stays locked; what is written in front of it is committed.
+abbrev pub one_marker : List Line
+one_marker =
+    Some (Begin 0) ∷ Some (Write 0 1 aa) ∷ Some (Mark 0) ∷ Some (Write 0 1 (187 ∷ [])) ∷ Some (Write 0 2 (204 ∷ []))
+    ∷ Some (Back 0 None) ∷ Some (Read 0 1) ∷ Some (Read 0 2) ∷ Some (Get 2) ∷ Some (Commit 0) ∷ Some (Get 1)
+    ∷ Some (Get 2) ∷ []
+
+abbrev pub BackToAMark : Type 0
+BackToAMark =
+    answers 63 one_marker
+    ≡ replicate 5 reply.Done ++ reply.Back 2 ∷ reply.Value aa ∷ reply.Nothing ∷ reply.Busy 0 ∷ reply.Committed 1
+    ∷ reply.Value aa ∷ reply.Nothing ∷ []
+
+-- a session that set no mark has it at its begin, and what is taken back makes as many log records as it had made
+abbrev pub BackMakesRecords : Type 0
+BackMakesRecords =
+    answers 15 (Some (Begin 0) ∷ replicate 6 (Some (Write 0 1 aa)) ++ Some (Back 0 None) ∷ Some Stat
+    ∷ Some (Write 0 1 aa) ∷ Some (Back 0 None) ∷ Some (Commit 0) ∷ [])
+    ≡ replicate 7 reply.Done ++ reply.Back 6
+    ∷ reply.Stat (record { commits = 0; used = 13; owed = 1; cap = 15; active = 1 }) ∷ reply.Full 13 1 15
+    ∷ reply.Back 0 ∷ reply.Committed 1 ∷ []
+
+-- a mark counts what stands, not what was dropped, and a back to it leaves it where it is
+abbrev pub MarkCountsWhatStands : Type 0
+MarkCountsWhatStands =
+    answers 63 (Some (Begin 0) ∷ Some (Write 0 1 aa) ∷ Some (Write 0 2 aa) ∷ Some (Back 0 None) ∷ Some (Write 0 1 [])
+    ∷ Some (Mark 0) ∷ Some (Write 0 2 aa) ∷ Some (Write 0 3 aa) ∷ Some (Back 0 None) ∷ Some (Write 0 4 aa)
+    ∷ Some (Back 0 None) ∷ Some (Commit 0) ∷ Some (Begin 1) ∷ Some (Scan 1 0 8) ∷ [])
+    ≡ replicate 3 reply.Done ++ reply.Back 2 ∷ replicate 4 reply.Done ++ reply.Back 2 ∷ reply.Done ∷ reply.Back 1
+    ∷ reply.Committed 1 ∷ reply.Done ∷ reply.Items (record { number = 1; value = [] } ∷ []) ∷ []
+
+-- of four writes the mark stands behind the third; so many stay as are asked for, and a mark behind them falls to there
+abbrev pub BackToANumber : Type 0
+BackToANumber =
+    answers 63 (Some (Mark 0) ∷ Some (Back 0 (Some 0)) ∷ Some (Begin 0) ∷ Some (Write 0 1 aa) ∷ Some (Write 0 2 aa)
+    ∷ Some (Write 0 3 aa) ∷ Some (Mark 0) ∷ Some (Erase 0 1) ∷ Some (Back 0 (Some 5)) ∷ Some (Back 0 (Some 4))
+    ∷ Some (Back 0 (Some 2)) ∷ Some (Back 0 None) ∷ Some (Back 0 (Some 3)) ∷ Some (Write 0 4 aa) ∷ Some (Back 0 None)
+    ∷ Some (Scan 0 0 8) ∷ Some (Abort 0) ∷ Some (Scan 0 0 8) ∷ Some (Get 1) ∷ [])
+    ≡ reply.Refused BadSession ∷ reply.Refused BadSession ∷ replicate 6 reply.Done ++ reply.Refused BadMark
+    ∷ reply.Back 0 ∷ reply.Back 2 ∷ reply.Back 0 ∷ reply.Refused BadMark ∷ reply.Done ∷ reply.Back 1
+    ∷ reply.Items (record { number = 1; value = aa } ∷ record { number = 2; value = aa } ∷ []) ∷ reply.Aborted
+    ∷ reply.Refused BadSession ∷ reply.Nothing ∷ []
+
+-- Full pages. Of two pages the first has 3,852 octets: 19 values of 200, and one of 52.
+abbrev pub much : List Content
+much = replicate 19 (Some (replicate 200 90)) ++ None ∷ Some (replicate 52 90) ∷ replicate 43 None
+
+abbrev pub answers_with_much : ℕ → List Line → List Reply
+answers_with_much cap lines = replies (turns (opened much 0 0 cap) lines [])
+
+-- a page can be full to its last octet; other pages have room, and a shorter value makes some
+abbrev pub FullToTheLastOctet : Type 0
+FullToTheLastOctet =
+    answers_with_much 63 (Some (Set 19 (replicate 101 90)) ∷ Some (Set 19 (replicate 100 90)) ∷ Some (Set 21 aa)
+    ∷ Some (Set 21 []) ∷ Some (Set 32 aa) ∷ Some (Set 0 aa) ∷ Some (Set 21 aa) ∷ [])
+    ≡ reply.PageFull 0 3953 ∷ reply.Committed 1 ∷ reply.PageFull 0 3953 ∷ reply.Committed 2 ∷ reply.Committed 3
+    ∷ reply.Committed 4 ∷ reply.Committed 5 ∷ []
+
+-- room that a session makes is there when it commits, since it may abort
+abbrev pub RoomAtTheCommit : Type 0
+RoomAtTheCommit =
+    answers_with_much 63 (Some (Begin 0) ∷ Some (Write 0 0 aa) ∷ Some (Set 19 (replicate 120 90)) ∷ Some (Commit 0)
+    ∷ Some (Set 19 (replicate 120 90)) ∷ [])
+    ≡ reply.Done ∷ reply.Done ∷ reply.PageFull 0 3972 ∷ reply.Committed 1 ∷ reply.Committed 2 ∷ []
+
+-- what a session wrote takes up room also where it has written less there since, and until it takes it back
+abbrev pub RoomForPendingWrites : Type 0
+RoomForPendingWrites =
+    answers_with_much 63 (Some (Begin 0) ∷ Some (Write 0 19 (replicate 100 90)) ∷ Some (Erase 0 19) ∷ Some (Begin 1)
+    ∷ Some (Write 1 21 aa) ∷ Some (Set 21 aa) ∷ Some (Back 0 (Some 1)) ∷ Some (Set 21 aa) ∷ Some (Back 0 (Some 0))
+    ∷ Some (Write 1 21 aa) ∷ Some (Write 0 19 (replicate 100 90)) ∷ Some (Write 0 19 (replicate 99 90)) ∷ [])
+    ≡ replicate 4 reply.Done ++ reply.PageFull 0 3953 ∷ reply.PageFull 0 3953 ∷ reply.Back 1 ∷ reply.PageFull 0 3953
+    ∷ reply.Back 1 ∷ reply.Done ∷ reply.PageFull 0 3953 ∷ reply.Done ∷ []
+
+-- a log that has no room is told of first
+abbrev pub FullLogFirst : Type 0
+FullLogFirst =
+    answers_with_much 5 (Some (Begin 0) ∷ Some (Write 0 19 (replicate 101 90)) ∷ Some (Write 0 19 aa)
+    ∷ Some (Write 0 19 (replicate 101 90)) ∷ Some (Set 600 (replicate 101 90)) ∷ [])
+    ≡ reply.Done ∷ reply.PageFull 0 3953 ∷ reply.Done ∷ reply.Full 2 2 5 ∷ reply.Refused NoRecord ∷ []
+
 -- What a run asks of the cache.
 abbrev pub TouchesOfTwoReaders : Type 0
 TouchesOfTwoReaders =
@@ -145,6 +226,20 @@ TouchesOfAnAbort =
     ∷ Some (Write 0 1 aa) ∷ Some (Abort 0) ∷ Some (Set 511 aa) ∷ []) [])
     ≡ touch 1 true ∷ touch 2 true ∷ touch 0 true ∷ touch 0 true ∷ touch 2 true ∷ touch 1 true ∷ flush
     ∷ touch 15 true ∷ []
+
+-- a back touches the pages of what it drops, an abort those of what stands, both from the last write back
+abbrev pub TouchesOfABack : Type 0
+TouchesOfABack =
+    run_touches (turns (fresh 63) (Some (Begin 0) ∷ Some (Write 0 33 aa) ∷ Some (Mark 0) ∷ Some (Write 0 64 aa)
+    ∷ Some (Write 0 96 aa) ∷ Some (Back 0 None) ∷ Some (Back 0 (Some 9)) ∷ Some (Abort 0) ∷ []) [])
+    ≡ touch 1 true ∷ touch 2 true ∷ touch 3 true ∷ touch 3 true ∷ touch 2 true ∷ touch 1 true ∷ []
+
+-- a write that its page has no room for touches it without a change, behind the checkpoint that a set makes
+abbrev pub TouchesOfAFullPage : Type 0
+TouchesOfAFullPage =
+    run_touches (turns (opened much 0 12 15) (Some (Set 19 (replicate 101 90)) ∷ Some (Begin 0)
+    ∷ Some (Write 0 19 (replicate 101 90)) ∷ Some (Write 0 64 aa) ∷ []) [])
+    ≡ flush ∷ touch 0 false ∷ touch 0 false ∷ []
 
 -- What may be left of a run. The opening was told, the text of the first line, which was no commit, and half of that of
 -- the second. The second and the third were commits.
@@ -267,3 +362,20 @@ ReadingAlone =
     × (alone_after 3 reading
     ≡ reply.Done ∷ reply.Value aa ∷ reply.Done ∷ reply.Value (204 ∷ []) ∷ reply.Items new_items
     ∷ reply.Committed 4 ∷ [])
+
+-- A transaction has taken back a write, and another session has made its page full since. Alone it answers as among the
+-- others, since no page is full there; with the test of pages it wouldn't.
+abbrev pub made_full : List Turn
+made_full = turns (opened much 0 0 63) (Some (Begin 0) ∷ Some (Write 0 19 (replicate 100 90)) ∷ Some (Back 0 None)
+    ∷ Some (Set 21 (replicate 100 90)) ∷ Some (Write 0 33 aa) ∷ Some (Commit 0) ∷ []) []
+
+abbrev pub taking_back : List Turn
+taking_back = since_begin 0 (reverse made_full)
+
+abbrev pub TakingBackAlone : Type 0
+TakingBackAlone =
+    (replies taking_back ≡ reply.Done ∷ reply.Done ∷ reply.Back 1 ∷ reply.Done ∷ reply.Committed 2 ∷ [])
+    × (replies (turns (opened_alone (after_commits much made_full 1) 1 20) (lines_of taking_back) [])
+    ≡ reply.Done ∷ reply.Done ∷ reply.Back 1 ∷ reply.Done ∷ reply.Committed 2 ∷ [])
+    × (replies (turns (opened (after_commits much made_full 1) 1 0 20) (lines_of taking_back) [])
+    ≡ reply.Done ∷ reply.PageFull 0 4052 ∷ reply.Back 0 ∷ reply.Done ∷ reply.Committed 2 ∷ [])

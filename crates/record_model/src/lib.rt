@@ -13,8 +13,8 @@ pub use laws::{
 };
 pub use lists::{Items, Listing};
 pub use rows::{
-    rows_of_faulty_steps, rows_of_ranges, rows_of_serial_order, rows_of_sessions,
-    rows_of_the_budget, rows_of_touches, rows_of_values,
+    rows_of_faulty_steps, rows_of_full_pages, rows_of_marks, rows_of_ranges, rows_of_serial_order,
+    rows_of_sessions, rows_of_the_budget, rows_of_touches, rows_of_values,
 };
 pub use value::Octets;
 pub use words::{CacheLine, Command, Item, Reply, Stat, Why};

@@ -4,10 +4,14 @@ ghost use Rattle.record_model.specs.Rows.{LongestValue, LastRecord, WriteKeepsRe
 ghost use Rattle.record_model.specs.Rows.{SessionsRefused, ScanAmongWrites, ErasedBeforeCommit, QuitEnds};
 ghost use Rattle.record_model.specs.Rows.{CheckpointMakesRoom, HundredSets, EightSessions};
 ghost use Rattle.record_model.specs.Rows.{RoomFromTheStart, CheckpointOnDemand};
+ghost use Rattle.record_model.specs.Rows.{BackToAMark, BackMakesRecords, MarkCountsWhatStands, BackToANumber};
+ghost use Rattle.record_model.specs.Rows.{FullToTheLastOctet, RoomAtTheCommit, RoomForPendingWrites, FullLogFirst};
 ghost use Rattle.record_model.specs.Rows.{TouchesOfTwoReaders, TouchesOfAnAbort};
+ghost use Rattle.record_model.specs.Rows.{TouchesOfABack, TouchesOfAFullPage};
 ghost use Rattle.record_model.specs.Rows.{AcknowledgedNone, AskedForOne, AcknowledgedOne, AskedForTwo, AskedForNone};
 ghost use Rattle.record_model.specs.Rows.{AskedForAll, SecondTransaction, AnsweredAmongOthers, AnsweredAlone};
 ghost use Rattle.record_model.specs.Rows.{ThreeSessions, ScanningAlone, WritingAlone, ReadingAlone};
+ghost use Rattle.record_model.specs.Rows.{TakingBackAlone};
 ghost use Rattle.record_model.specs.Faults.{ReadLocksKeepWritersOff, ReadsDifferWithoutLocks, ScanLocksItsRange};
 ghost use Rattle.record_model.specs.Faults.{ScansDifferWithFewLocks, GetKeptOff, GetSeesWhatIsNotThere};
 
@@ -36,10 +40,28 @@ pub fn rows_of_the_budget()
     ensures checkpoint_on_demand { CheckpointOnDemand }
 {}
 
-/// What two runs ask of the page cache.
+/// Marks, and what sessions take back.
+pub fn rows_of_marks()
+    ensures back_to_a_mark { BackToAMark }
+    ensures back_makes_records { BackMakesRecords }
+    ensures mark_counts_what_stands { MarkCountsWhatStands }
+    ensures back_to_a_number { BackToANumber }
+{}
+
+/// Pages that are full, and which writes they have room for.
+pub fn rows_of_full_pages()
+    ensures full_to_the_last_octet { FullToTheLastOctet }
+    ensures room_at_the_commit { RoomAtTheCommit }
+    ensures room_for_pending_writes { RoomForPendingWrites }
+    ensures full_log_first { FullLogFirst }
+{}
+
+/// What runs ask of the page cache.
 pub fn rows_of_touches()
     ensures touches_of_two_readers { TouchesOfTwoReaders }
     ensures touches_of_an_abort { TouchesOfAnAbort }
+    ensures touches_of_a_back { TouchesOfABack }
+    ensures touches_of_a_full_page { TouchesOfAFullPage }
 {}
 
 /// Which commits may be left where a run was cut off.
@@ -52,7 +74,7 @@ pub fn rows_of_ranges()
     ensures asked_for_all { AskedForAll }
 {}
 
-/// Transactions among others, and alone: of two sessions, and of three.
+/// Transactions among others, and alone: of two sessions, of three, and of one whose page another session makes full.
 pub fn rows_of_serial_order()
     ensures second_transaction { SecondTransaction }
     ensures answered_among_others { AnsweredAmongOthers }
@@ -61,6 +83,7 @@ pub fn rows_of_serial_order()
     ensures scanning_alone { ScanningAlone }
     ensures writing_alone { WritingAlone }
     ensures reading_alone { ReadingAlone }
+    ensures taking_back_alone { TakingBackAlone }
 {}
 
 /// What the locks are for: with a step that takes no read locks, whose scans lock only what they find, or whose `get`

@@ -19,3 +19,4 @@ pub mod WornLogs
 pub mod RingNumbers
 pub mod LeftNumbers
 pub mod Endings
+pub mod ShortContents

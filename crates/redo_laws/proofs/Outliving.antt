@@ -4,10 +4,10 @@ use Rattle.image_meaning.specs.Meaning.{master_of}
 use Rattle.checkpoint.specs.declared.master.Master.{Master}
 use Rattle.record_model.specs.State.{Write}
 use Rattle.std.proofs.Common.{◌≡◌, ℕ, ◌==◌, ◌||◌, ◌&&◌, not, Bool, true, false, true≢false, List, [], ◌∷◌, map, refl, sym, ap, subst, ◌∙◌}
-use Rattle.std.specs.Prelude.{filter_map, Option, Some}
+use Rattle.std.specs.Prelude.{filter_map, reverse, Option, Some}
 use Rattle.std.specs.List.{list_any}
 use Rattle.log_records.specs.Log.{is_of, is_closed, Entry, is_loser}
-use Rattle.log_records.specs.Unfinished.{clrs_in, is_begin}
+use Rattle.log_records.specs.Unfinished.{is_begin, open_updates}
 use Rattle.log_records.specs.Sound.{Active, IsLoserChain, from_block, last_lsn}
 use Rattle.log_laws.specs.Follow.{write_of, IsActive}
 use Rattle.checkpoint.specs.declared.pairs.Pair.{Pair}
@@ -31,7 +31,6 @@ active_outlives newest m records kept t last writes keeps are loser active =
         not_closed = not_closed_of (list_any (is_of t) kept) (is_closed kept t) (keeps.losers t ∙ loser);
       };
       chain = subst (IsLoserChain t) (sym same) active.chain;
-      no_clrs = ap clrs_in same ∙ active.no_clrs;
       last_is = active.last_is ∙ ap last_lsn (sym same);
-      writes_are = active.writes_are ∙ ap (filter_map (λ e. write_of e.rec)) (sym same);
+      writes_are = active.writes_are ∙ ap (λ (l : List Entry). filter_map (λ e. write_of e.rec) (reverse (open_updates [] l))) (sym same);
     }

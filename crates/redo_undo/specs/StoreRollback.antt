@@ -1,8 +1,8 @@
 -- What undoing a session's transaction leaves.
-use Rattle.std.specs.Prelude.{◌≡◌, ◌≢◌, ℕ, ◌+◌, false, List, Option}
+use Rattle.std.specs.Prelude.{◌≡◌, ◌≢◌, ℕ, ◌+◌, ◌-◌, false, List, length, take, drop, Option}
 use Rattle.site.specs.State.{State}
 use Rattle.record_model.specs.State.{Content, Write}
-use Rattle.log_records.specs.Log.{Entry, is_loser}
+use Rattle.log_records.specs.Log.{Entry, is_loser, entries_of, updates_in}
 use Rattle.log_records.specs.Unfinished.{left_open, owed}
 use Rattle.log_laws.specs.Follow.{IsActive}
 use Rattle.checkpoint.specs.declared.master.Master.{Master}
@@ -25,3 +25,15 @@ pub record RollsBack (store : TransactionStore) (site : State) (newest : Option 
   pub holds : Represents store site newest log table commits
   pub closed : is_loser log txn ≡ false
   pub owes : owed log + (writes + 1) ≡ owed records
+
+-- The last writes of a transaction that stand are undone, so many: it is under way with the others, the LSN of its last
+-- record is this one, and it owes so much less. It has the Updates that it had.
+pub record GoesBack (store : TransactionStore) (site : State) (newest : Option Master) (records : List Entry)
+    (table : List Content) (commits : ℕ) (txn count : ℕ) (writes : List Write) (last : ℕ) : Type 0 where
+  pub log : List Entry
+  pub concerns : ConcernsOnly newest txn records log
+  pub holds : Represents store site newest log table commits
+  pub under_way : IsActive (master_of newest) log txn last (take (length writes - count) writes)
+  pub left : left_open log txn ≡ drop count (left_open records txn)
+  pub updates : updates_in (entries_of txn log) ≡ updates_in (entries_of txn records)
+  pub owes : owed log + count ≡ owed records

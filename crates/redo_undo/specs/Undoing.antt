@@ -1,5 +1,6 @@
 -- What undoing an Update leaves.
 use Rattle.std.specs.Prelude.{◌≡◌, ℕ, ◌+◌, ◌*◌, ◌≤◌, ◌<◌, List, [], ◌∷◌, ◌++◌, true, Option, Some}
+use Rattle.std.specs.Prelude.{nat_eq, if◌then◌else◌}
 use Rattle.site.specs.declared.geometry.Geometry.{Geometry}
 use Rattle.site.specs.State.{State, Image}
 use Rattle.record_model.specs.State.{Content}
@@ -26,6 +27,10 @@ pub record IsAt (at : UndoCursor) (x : Unfinished) : Type 0 where
   pub txn : at.txn ≡ x.txn
   pub last : at.last ≡ x.last
   pub next : at.next ≡ x.next
+
+-- how many CLRs a step back has logged: one where the transaction has another last record then
+abbrev pub clrs_logged : UndoCursor → UndoCursor → ℕ
+clrs_logged before now = if nat_eq now.last before.last then 0 else 1
 
 -- What undoing does with a record at the LSN where it goes on, of so many pages: the record is one of its transaction.
 -- An Update is compensated, and undoing goes on at the record before it; of a CLR it goes on at the record that this

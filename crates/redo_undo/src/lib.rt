@@ -15,5 +15,5 @@ pub use changing::fits_front;
 pub use logging::{log_change, log_record, touch};
 pub use redo_pass::{Redone, redo};
 pub use store::TransactionStore;
-pub use undo::undo_one;
+pub use undo::{undo_one, undo_to};
 pub use undo_losers::undo_all;

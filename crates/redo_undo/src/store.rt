@@ -1,14 +1,15 @@
 // Log and pages of a run: the records that it logs, and the pages that they change.
-ghost use Rattle.std.specs.Prelude.{Option, map, reverse, ◌≡◌, ◌⊎◌, ◌+◌, ◌*◌, ◌/◌, ◌%◌, ◌^◌, ◌<◌, ◌≤◌, ◌↔◌, ◌++◌, []};
+ghost use Rattle.std.specs.Prelude.{Option, map, reverse, take, drop, ◌-◌, ◌≡◌, ◌⊎◌, ◌+◌, ◌*◌, ◌/◌, ◌%◌, ◌^◌, ◌<◌, ◌≤◌, ◌↔◌, ◌++◌, []};
 ghost use Rattle.std.specs.Prelude.{◌∷◌, List, length, IfOk, OnOk, IfErr, IsErrOf, IsTrue, ℕ};
 ghost use Rattle.site.specs.declared.outside.Dev.{Dev};
 ghost use Rattle.site.specs.declared.outside.Stop.{Stop};
 ghost use Rattle.site.specs.State.{State};
 ghost use Rattle.record_model.specs.State.{Content, Write};
 ghost use Rattle.log_records.specs.declared.log_record.LogRecord.{LogRecord};
-ghost use Rattle.log_records.specs.Log.{Entry};
+ghost use Rattle.log_records.specs.Log.{Entry, entries_of, updates_in};
 ghost use Rattle.log_records.specs.Spelling.{IsShort};
 ghost use Rattle.log_records.specs.Unfinished as unfinished;
+ghost use Rattle.log_records.specs.Unfinished.{left_open};
 ghost use Rattle.log_laws.specs.Follow.{IsActive};
 ghost use Rattle.log_store.specs.Representation.{end_of};
 ghost use Rattle.slotted_page.specs.Layout.{lsn_of};
@@ -22,9 +23,9 @@ ghost use Rattle.redo_undo.specs.Fitting.{FitsFront};
 ghost use Rattle.redo_laws.specs.Holding as both;
 ghost use Rattle.redo_undo.specs.Stores.{sizes_of, MayWork, MayLog, Represents, MayGrow, IsInFront, shown_in};
 ghost use Rattle.redo_undo.specs.Stores.{update_by};
-ghost use Rattle.redo_undo.specs.StoreRollback.{RollsBack};
+ghost use Rattle.redo_undo.specs.StoreRollback.{RollsBack, GoesBack};
 ghost use Rattle.redo_undo.specs.StoreCalls.{KeepsInvariant, Keeps};
-ghost use Rattle.redo_undo.specs.Mirroring.{PerformsStore, updates, undo_one_work};
+ghost use Rattle.redo_undo.specs.Mirroring.{PerformsStore, updates, undo_one_work, clrs_for};
 ghost use Rattle.ring_machine.specs.Commands.{reads, begins};
 ghost use Rattle.record_model.specs.Touches.{write_touch};
 ghost use Rattle.redo_laws.specs.MachineSteps.{StepsMachine, one_touch};
@@ -35,7 +36,7 @@ ghost use Rattle.page_store.specs.Staging.{Stages};
 
 use crate::changing::slice_of;
 use crate::logging::{log_change, log_record, touch};
-use crate::undo::undo_one;
+use crate::undo::{undo_one, undo_to};
 use log_records::LogRecord;
 use log_store::LogStore;
 use page_store::PageStore;
@@ -181,7 +182,8 @@ impl TransactionStore {
         requires front { IsInFront self.now number }
         requires short { IsShort after.now }
 
-        // Of an honest site whose log and pages hold these records: where an Update may follow, it has room.
+        // Of an honest site whose log and pages hold these records: where an Update may follow, there or behind the
+        // Begin of its transaction, it has room.
         ensures grows { (site : State) (newest : Option Master) (records : List Entry) (table : List Content)
             (commits txn prev lsn : ℕ)
             → Represents self.now site newest records table commits
@@ -189,6 +191,17 @@ impl TransactionStore {
             (record {
               lsn = lsn;
               rec = update_by txn prev number (shown_in self.now site records number) after.now;
+            })
+            → IsTrue result }
+        ensures begins { (site : State) (newest : Option Master) (records : List Entry) (table : List Content)
+            (commits txn lsn : ℕ)
+            → Represents self.now site newest records table commits
+            → MayGrow self.now site newest (records ++ record { lsn = txn; rec = LogRecord.Begin } ∷ [])
+            (record {
+              lsn = lsn;
+              rec = update_by txn txn number
+                  (shown_in self.now site (records ++ record { lsn = txn; rec = LogRecord.Begin } ∷ []) number)
+                  after.now;
             })
             → IsTrue result }
 
@@ -299,8 +312,8 @@ impl TransactionStore {
         ensures log_reads { (newest : Option Master) (records : List Entry) (table : List Content) (commits : ℕ)
             → Represents self.old (S.state site.old) newest records table commits
             → (writes : List Write) → IsActive (master_of newest) records entry.begin entry.last writes
-            → length writes ≡ entry.writes
-            → (S.state site.new).log_reads ≤ (S.state site.old).log_reads + (entry.writes + 1) }
+            → (S.state site.new).log_reads
+            ≤ (S.state site.old).log_reads + length (updates_in (entries_of entry.begin records)) }
         ensures performs { (newest : Option Master) (records : List Entry) (table : List Content) (commits : ℕ)
             → Represents self.old (S.state site.old) newest records table commits
             → (writes : List Write) → IsActive (master_of newest) records entry.begin entry.last writes
@@ -332,5 +345,66 @@ impl TransactionStore {
             return Err(Stop::Foreign);
         }
         Ok(())
+    }
+
+    /// Undoes the last writes of a session's transaction that stand, so many: a compensation record for each, the last
+    /// one first. Answers the LSN of the transaction's last record. Where the log has other records of it than the
+    /// session has made it answers Foreign.
+    pub fn back<S: Site>(&mut self, site: &mut S, entry: Active, count: u64) -> Result<u64, Stop>
+        requires going { MayWork self.old (S.state site.old) }
+        requires last { entry.last < end_of self.old.log }
+        requires few { self.old.made + count ≤ 2 ^ 40 }
+
+        // Of an honest site whose log and pages hold these records, and of a transaction of which so many writes stand.
+        ensures undone { (newest : Option Master) (records : List Entry) (table : List Content) (commits : ℕ)
+            → Represents self.old (S.state site.old) newest records table commits
+            → (writes : List Write) → IsActive (master_of newest) records entry.begin entry.last writes
+            → count ≤ length writes
+            → IfOk result (GoesBack self.new (S.state site.new) newest records table commits entry.begin count
+            writes) }
+        ensures keeps { (newest : Option Master) (records : List Entry) (table : List Content) (commits : ℕ)
+            → Represents self.old (S.state site.old) newest records table commits
+            → (writes : List Write) → IsActive (master_of newest) records entry.begin entry.last writes
+            → count ≤ length writes
+            → Keeps result self.old self.new (S.state site.old) (S.state site.new)
+            (LeavesFor (sizes_of self.old) table commits (S.state site.old).told) count 0 }
+        ensures asks { (newest : Option Master) (records : List Entry) (table : List Content) (commits : ℕ)
+            → Represents self.old (S.state site.old) newest records table commits
+            → (writes : List Write) → IsActive (master_of newest) records entry.begin entry.last writes
+            → count ≤ length writes
+            → StepsMachine result (map (λ write. write_touch write.0) (reverse (drop (length writes - count) writes)))
+            self.old.pages self.new.pages (S.state site.old) (S.state site.new) }
+        ensures log_reads { (newest : Option Master) (records : List Entry) (table : List Content) (commits : ℕ)
+            → Represents self.old (S.state site.old) newest records table commits
+            → (writes : List Write) → IsActive (master_of newest) records entry.begin entry.last writes
+            → count ≤ length writes
+            → (S.state site.new).log_reads
+            ≤ (S.state site.old).log_reads
+            + (count + (length (updates_in (entries_of entry.begin records)) - length writes)) }
+        ensures performs { (newest : Option Master) (records : List Entry) (table : List Content) (commits : ℕ)
+            → Represents self.old (S.state site.old) newest records table commits
+            → (writes : List Write) → IsActive (master_of newest) records entry.begin entry.last writes
+            → count ≤ length writes
+            → PerformsStore result (clrs_for (take count (left_open records entry.begin))) self.old self.new
+            (S.state site.old) (S.state site.new) }
+
+        // Of every site.
+        ensures works { KeepsInvariant result self.old self.new (S.state site.old) (S.state site.new) count }
+        ensures last { IfOk result (λ last. (entry.last ≤ last) × (last < end_of self.new.log)) }
+    {
+        match undo_to(
+            site,
+            &mut self.log,
+            &mut self.pages,
+            entry.begin,
+            entry.last,
+            count,
+        ) {
+            Ok(last) => {
+                self.made += count;
+                Ok(last)
+            }
+            Err(stop) => Err(stop),
+        }
     }
 }

@@ -1,6 +1,6 @@
 // Undoing an Update: a compensation record, and what stood before it.
 ghost use Rattle.std.specs.Prelude.{◌≡◌, ◌≢◌, ◌↔◌, ◌+◌, ◌<◌, ◌≤◌, ◌++◌, ◌∷◌, [], ◌^◌, ℕ, List, length, IsTrue, true};
-ghost use Rattle.std.specs.Prelude.{◌*◌, IfOk, IfErr, IfSome, IfNone, OnOk, Option};
+ghost use Rattle.std.specs.Prelude.{◌*◌, ◌-◌, min, take, IfOk, IfErr, IfSome, IfNone, OnOk, Option};
 ghost use Rattle.site.specs.declared.outside.Stop.{Stop};
 ghost use Rattle.record_model.specs.State.{Content};
 ghost use Rattle.log_records.specs.declared.log_record.LogRecord.{LogRecord};
@@ -15,8 +15,9 @@ ghost use Rattle.page_store.specs.declared.store.PageStore.{PageStore};
 ghost use Rattle.checkpoint.specs.declared.master.Master.{Master};
 ghost use Rattle.redo_laws.specs.Holding.{Invariant, Represents, MayGrow, blocks_to};
 ghost use Rattle.redo_undo.specs.Undoing.{IsAt, IsStepOf, Undone, Passed};
+ghost use Rattle.redo_undo.specs.Undoing as spec;
 ghost use Rattle.redo_undo.specs.declared.undo.Step.{Step};
-ghost use Rattle.redo_undo.specs.Rollback.{Compensates, RollsBack};
+ghost use Rattle.redo_undo.specs.Rollback.{CompensatesUpTo, UndoesLast, RollsBack};
 ghost use Rattle.redo_laws.specs.MachineSteps.{one_change, undo_one_works};
 ghost use Rattle.redo_laws.specs.UndoWorks.{works_of};
 ghost use Rattle.redo_laws.specs.Calls.{KeepsInvariant, ReadsOne};
@@ -270,7 +271,7 @@ fn put_back<S: Site>(
         (S.state site.new) newest table commits 1 0 }
 
     // Of every site.
-    ensures last { IfOk result (λ now. now.last < end_of log.new) }
+    ensures last { IfOk result (λ now. (end_of log.old ≤ now.last) × (now.last < end_of log.new)) }
     ensures next { IfOk result (λ now. now.next ≡ wanted.prev) }
     ensures same { IfOk result (λ now. now.txn ≡ at.txn) }
     ensures works { KeepsInvariant result log.old log.new pages.old pages.new (S.state site.old) (S.state site.new) }
@@ -366,11 +367,11 @@ fn undo_step<S: Site>(
         table commits 0 1 }
 
     // Of every site.
-    ensures last { IfOk result (λ now. now.last < end_of log.new) }
+    ensures last { IfOk result (λ now. (at.last ≤ now.last) × (now.last < end_of log.new)) }
     ensures falls { IfOk result (λ now. now.next < at.next) }
     ensures same { IfOk result (λ now. now.txn ≡ at.txn) }
     ensures works { KeepsInvariant result log.old log.new pages.old pages.new (S.state site.old) (S.state site.new) }
-    ensures blocks { OnOk result (blocks_to log.new ≤ blocks_to log.old + 1) }
+    ensures blocks { IfOk result (λ now. blocks_to log.new ≤ blocks_to log.old + spec.clrs_logged at now) }
 {
     match read_step(log, site, &at) {
         Ok(Step::Compensate(wanted)) => put_back(site, log, pages, at, wanted),
@@ -383,13 +384,21 @@ fn undo_step<S: Site>(
     }
 }
 
-// Compensates all Updates of a transaction that aren't compensated, the last one first: undoing goes back from record
-// to record, down to its Begin.
+// How many CLRs a step back has logged.
+fn clrs_logged(before: &UndoCursor, now: &UndoCursor) -> u64
+    ensures { result ≡ spec.clrs_logged before.now now.now }
+{
+    if now.last == before.last { 0 } else { 1 }
+}
+
+// Compensates the last Updates of a transaction that aren't compensated, so many, the last one first: undoing goes back
+// from record to record, down to its Begin at most.
 fn undo_updates<S: Site>(
     site: &mut S,
     log: &mut LogStore,
     pages: &mut PageStore,
     first: UndoCursor,
+    count: u64,
 ) -> Result<UndoCursor, Stop>
     requires going { Invariant log.old pages.old (S.state site.old) }
     requires last { first.last < end_of log.old }
@@ -399,27 +408,80 @@ fn undo_updates<S: Site>(
         (x : Unfinished)
         → Represents log.old pages.old (S.state site.old) newest records table commits
         → IsUnfinished records x → IsAt first x
-        → IfOk result (Compensates log.new pages.new (S.state site.new) newest records table commits x.txn
+        → IfOk result (CompensatesUpTo log.new pages.new (S.state site.new) newest records table commits x.txn count
         (blocks_to log.old)) }
     ensures does { (newest : Option Master) (records : List Entry) (table : List Content) (commits : ℕ) (x : Unfinished)
         → Represents log.old pages.old (S.state site.old) newest records table commits
         → IsUnfinished records x → IsAt first x
-        → UndoesWork result (clrs_for (left_open records x.txn)) (undo_one_works records x.txn) log.old log.new
-        pages.old pages.new (S.state site.old) (S.state site.new) newest table commits x.remaining (length x.chain) }
+        → UndoesWork result (clrs_for (take count (left_open records x.txn)))
+        (works_of (take count (left_open records x.txn))) log.old log.new pages.old pages.new (S.state site.old)
+        (S.state site.new) newest table commits (min count x.remaining)
+        (min count x.remaining + (length x.chain - x.remaining)) }
 
     // Of every site.
-    ensures none { IfOk result (λ now. now.next ≡ now.txn) }
-    ensures same { IfOk result (λ now. now.txn ≡ first.txn) }
+    ensures last { IfOk result (λ now. (first.last ≤ now.last) × (now.last < end_of log.new)) }
     ensures works { KeepsInvariant result log.old log.new pages.old pages.new (S.state site.old) (S.state site.new) }
+    ensures blocks { OnOk result (blocks_to log.new ≤ blocks_to log.old + count) }
 {
     let mut at = first;
-    while at.next != at.txn {
-        at = match undo_step(site, log, pages, at) {
+    let mut more = count;
+    while more > 0 {
+        if at.next == at.txn {
+            return Ok(at);
+        }
+        let next = match undo_step(site, log, pages, at) {
             Ok(next) => next,
             Err(stop) => return Err(stop),
         };
+        more -= clrs_logged(&at, &next);
+        at = next;
     }
     Ok(at)
+}
+
+/// Undoes the last Updates of a transaction that aren't compensated, so many: a CLR for each, the last one first. `txn`
+/// is the LSN of its Begin and `last` that of its last record. Answers the LSN of its last record then. It passes over
+/// CLRs, reads each record once, and none that stands before the last Update which it undoes.
+/// Where what it reads is no record of the transaction that undo may read, or log or page has no room for what it logs,
+/// it answers Foreign.
+pub fn undo_to<S: Site>(
+    site: &mut S,
+    log: &mut LogStore,
+    pages: &mut PageStore,
+    txn: u64,
+    last: u64,
+    count: u64,
+) -> Result<u64, Stop>
+    requires going { Invariant log.old pages.old (S.state site.old) }
+    requires last { last < end_of log.old }
+
+    // Of an honest site on which log and pages hold together, and of an unfinished transaction of which so many remain.
+    ensures undone { (newest : Option Master) (records : List Entry) (table : List Content) (commits : ℕ)
+        (x : Unfinished)
+        → Represents log.old pages.old (S.state site.old) newest records table commits
+        → IsUnfinished records x → x.txn ≡ txn → x.last ≡ last → x.next ≡ last → count ≤ x.remaining
+        → IfOk result (UndoesLast log.new pages.new (S.state site.new) newest records table commits txn count) }
+    ensures does { (newest : Option Master) (records : List Entry) (table : List Content) (commits : ℕ) (x : Unfinished)
+        → Represents log.old pages.old (S.state site.old) newest records table commits
+        → IsUnfinished records x → x.txn ≡ txn → x.last ≡ last → x.next ≡ last → count ≤ x.remaining
+        → UndoesWork result (clrs_for (take count (left_open records txn)))
+        (works_of (take count (left_open records txn))) log.old log.new pages.old pages.new (S.state site.old)
+        (S.state site.new) newest table commits count (count + (length x.chain - x.remaining)) }
+
+    // Of every site.
+    ensures last { IfOk result (λ now. (last ≤ now) × (now < end_of log.new)) }
+    ensures works { KeepsInvariant result log.old log.new pages.old pages.new (S.state site.old) (S.state site.new) }
+    ensures blocks { OnOk result (blocks_to log.new ≤ blocks_to log.old + count) }
+{
+    let first = UndoCursor {
+        txn,
+        last,
+        next: last,
+    };
+    match undo_updates(site, log, pages, first, count) {
+        Ok(at) => Ok(at.last),
+        Err(stop) => Err(stop),
+    }
 }
 
 /// Undoes a transaction as a whole: a CLR for each of its Updates that has none, the last one first, and its End. `txn`
@@ -463,7 +525,7 @@ pub fn undo_one<S: Site>(
         last,
         next: last,
     };
-    let _undone = match undo_updates(site, log, pages, first) {
+    let _undone = match undo_updates(site, log, pages, first, u64::MAX) {
         Ok(at) => at,
         Err(stop) => return Err(stop),
     };

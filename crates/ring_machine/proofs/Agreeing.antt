@@ -5,11 +5,11 @@ use Rattle.std.specs.List.{cons_option, list_any, range_with_len}
 use Rattle.std_lemmas.proofs.Bools.{or_true}
 use Rattle.std_lemmas.proofs.Lists.{map_reverse_aux}
 use Rattle.record_model.specs.declared.words.Command.{Command}
-use Rattle.record_model.specs.declared.words.Command.TheVariants.{Abort, Begin, Cache, Checkpoint, Commit, Erase, Get, Quit, Read, Scan, Set, Stat, Write}
+use Rattle.record_model.specs.declared.words.Command.TheVariants.{Abort, Back, Begin, Cache, Checkpoint, Commit, Erase, Get, Mark, Quit, Read, Scan, Set, Stat, Write}
 use Rattle.record_model.specs.State.{Content, State, content_at, seen, session_at, writes_of}
 use Rattle.record_model.specs.State as state
-use Rattle.record_model.specs.Step.{makes_checkpoint, is_accepted}
-use Rattle.record_model.specs.Touches.{CacheOp, flush, page_of, read_touch, write_touch, record_touches}
+use Rattle.record_model.specs.Step.{makes_checkpoint, is_accepted, is_page_full, dropped, going_back}
+use Rattle.record_model.specs.Touches.{CacheOp, flush, page_of, read_touch, write_touch, takes_back_touches, record_touches, tested_touches, page_touches}
 use Rattle.log_records.specs.Log.{Entry, txn_of, is_of, number_of, before_of}
 use Rattle.log_records.specs.Unfinished.{pending}
 use Rattle.log_records.specs.Restart.{redo_touch, undo_touch}
@@ -17,7 +17,7 @@ use Rattle.log_records.specs.Sound.{from_block}
 use Rattle.second_chance.specs.Machine.{Rules, is_changed, with_room, touched, after_works}
 use Rattle.second_chance.specs.Machine as cache
 use Rattle.ring_machine.specs.Machine.{Machine, RingOp, cached, logged, changed, apply_op, after_all}
-use Rattle.ring_machine.specs.Commands.{reads, begins, writes, commits, takes_back, ends, saves, undoes, stood_before, record_work}
+use Rattle.ring_machine.specs.Commands.{reads, begins, commits, takes_back, ends, saves, goes_back, undoes, stood_before, record_work, page_work}
 use Rattle.ring_machine.specs.Octets.{update_octets, clr_octets}
 use Rattle.ring_machine.specs.Restart.{clr_on, undoing_work, only_ends, redo_work, undo_work}
 use Rattle.ring_machine.specs.Laws.{CommandsAgree, RestartsAgree}
@@ -61,9 +61,9 @@ numbers_stay : (table : List Content) (earlier made : List state.Write) → map 
 numbers_stay table earlier [] = refl
 numbers_stay table earlier (w ∷ later) = ap (λ (l : List CacheOp). write_touch w.0 ∷ l) (numbers_stay table (earlier ++ w ∷ []) later)
 
-touches_stay : (table : List Content) (made : List state.Write) → map (λ w. write_touch w.0) (reverse (stood_before table [] made)) ≡ map (λ w. write_touch w.0) (reverse made)
-touches_stay table made =
-    sym (map_reverse_aux (λ (w : state.Write). write_touch w.0) (stood_before table [] made) []) ∙ ap reverse (numbers_stay table [] made) ∙ map_reverse_aux (λ (w : state.Write). write_touch w.0) made []
+touches_stay : (table : List Content) (earlier made : List state.Write) → map (λ w. write_touch w.0) (reverse (stood_before table earlier made)) ≡ takes_back_touches made
+touches_stay table earlier made =
+    sym (map_reverse_aux (λ (w : state.Write). write_touch w.0) (stood_before table earlier made) []) ∙ ap reverse (numbers_stay table earlier made) ∙ map_reverse_aux (λ (w : state.Write). write_touch w.0) made []
 
 append-none : (asked : List CacheOp) → asked ++ [] ≡ asked
 append-none [] = refl
@@ -72,10 +72,13 @@ append-none (work ∷ asked) = ap (λ (l : List CacheOp). work ∷ l) (append-no
 asked_as : (rules : Rules) (works : List RingOp) (asked other : List CacheOp) → asked ≡ other → Agrees rules works asked → Agrees rules works other
 asked_as rules works asked other same agrees = subst (λ (l : List CacheOp). Agrees rules works l) same agrees
 
-undone : (rules : Rules) (table : List Content) (made : List state.Write) → Agrees rules (undoes table made) (map (λ w. write_touch w.0) (reverse made))
+gone_back : (rules : Rules) (table : List Content) (earlier made : List state.Write) → Agrees rules (goes_back table earlier made) (takes_back_touches made)
+gone_back rules table earlier made = asked_as rules (goes_back table earlier made) (map (λ w. write_touch w.0) (reverse (stood_before table earlier made))) (takes_back_touches made) (touches_stay table earlier made) (take_all_back rules (reverse (stood_before table earlier made)))
+
+undone : (rules : Rules) (table : List Content) (made : List state.Write) → Agrees rules (undoes table made) (takes_back_touches made)
 undone rules table made =
-    asked_as rules (undoes table made) (map (λ w. write_touch w.0) (reverse (stood_before table [] made)) ++ []) (map (λ w. write_touch w.0) (reverse made)) (append-none (map (λ w. write_touch w.0) (reverse (stood_before table [] made))) ∙ touches_stay table made)
-    (in_turn rules (flat_map takes_back (reverse (stood_before table [] made))) ends (map (λ w. write_touch w.0) (reverse (stood_before table [] made))) [] (take_all_back rules (reverse (stood_before table [] made))) (nothing rules ends (λ m. refl)))
+    asked_as rules (undoes table made) (takes_back_touches made ++ []) (takes_back_touches made) (append-none (takes_back_touches made))
+    (in_turn rules (goes_back table [] made) ends (takes_back_touches made) [] (gone_back rules table [] made) (nothing rules ends (λ m. refl)))
 
 -- a command that its tests have let through
 record_agrees : (rules : Rules) (s : State) (command : Command) → Agrees rules (record_work s command) (record_touches s command)
@@ -86,10 +89,11 @@ record_agrees rules s (Erase n number) = change rules number (update_octets (see
 record_agrees rules s (Scan n number count) = read_all rules (range_with_len number count)
 record_agrees rules s (Commit n) = nothing rules commits (λ m. refl)
 record_agrees rules s (Abort n) = undone rules s.table (writes_of (session_at s n))
+record_agrees rules s (Mark n) = nothing rules [] (λ m. refl)
+record_agrees rules s (Back n standing) =
+    gone_back rules s.table (writes_of (option_map (going_back standing) (session_at s n))) (dropped standing (session_at s n))
 record_agrees rules s (Get number) = read rules number
-record_agrees rules s (Set number value) =
-    in_turn rules begins (writes number (content_at s.table number) (Some value) ++ commits) [] (write_touch number ∷ []) (nothing rules begins (λ m. refl))
-    (in_turn rules (writes number (content_at s.table number) (Some value)) commits (write_touch number ∷ []) [] (change rules number (update_octets (content_at s.table number) (Some value))) (nothing rules commits (λ m. refl)))
+record_agrees rules s (Set number value) = change rules number (update_octets (content_at s.table number) (Some value))
 record_agrees rules s Checkpoint = nothing rules [] (λ m. refl)
 record_agrees rules s Cache = nothing rules [] (λ m. refl)
 record_agrees rules s Stat = nothing rules [] (λ m. refl)
@@ -102,17 +106,25 @@ where_wanted rules false works asked agrees = nothing rules [] (λ m. refl)
 saved : (rules : Rules) → Agrees rules saves (flush ∷ [])
 saved rules m = refl
 
-pub commands_agree : CommandsAgree
-commands_agree rules s command =
-    in_turn rules (if makes_checkpoint s command then saves else []) (if is_accepted s command then record_work s command else [])
-    (if makes_checkpoint s command then flush ∷ [] else []) (if is_accepted s command then record_touches s command else []) (where_wanted rules (makes_checkpoint s command) saves (flush ∷ []) (saved rules))
-    (where_wanted rules (is_accepted s command) (record_work s command) (record_touches s command) (record_agrees rules s command))
-
--- A restart.
-
+-- pages that are only touched
 redone : (rules : Rules) (asked : List CacheOp) → Agrees rules (map cached asked) asked
 redone rules [] = nothing rules [] (λ m. refl)
 redone rules (work ∷ asked) = λ m. redone rules asked (apply_op rules (cached work) m)
+
+page_agrees : (rules : Rules) (s : State) (command : Command) → Agrees rules (page_work s command) (page_touches s command)
+page_agrees rules s command = by (is_accepted s command) (is_page_full s command)
+  where
+    by : (accepted full : Bool) → Agrees rules (if accepted then record_work s command else (if full then map cached (tested_touches command) else []))
+        (if accepted then record_touches s command else (if full then tested_touches command else []))
+    by true full = record_agrees rules s command
+    by false full = where_wanted rules full (map cached (tested_touches command)) (tested_touches command) (redone rules (tested_touches command))
+
+pub commands_agree : CommandsAgree
+commands_agree rules s command =
+    in_turn rules (if makes_checkpoint s command then saves else []) (page_work s command) (if makes_checkpoint s command then flush ∷ [] else []) (page_touches s command)
+    (where_wanted rules (makes_checkpoint s command) saves (flush ∷ []) (saved rules)) (page_agrees rules s command)
+
+-- A restart.
 
 ended_first : (rules : Rules) (n : ℕ) → Agrees rules (replicate n (logged 9)) []
 ended_first rules zero = nothing rules [] (λ m. refl)

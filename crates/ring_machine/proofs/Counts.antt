@@ -1,18 +1,18 @@
 -- How many numbers work takes from the rings on the log's device.
-use Rattle.std.proofs.Common.{◌≡◌, ◌⊎◌, inl, inr, ⊎_elim, ℕ, zero, suc, ◌+◌, ◌^◌, ◌≤◌, Bool, true, false, not, ◌&&◌, List, [], ◌∷◌, ◌++◌, length, drop, flat_map, reverse, Option, Some, None, refl, sym, ap, subst, ◌∙◌, arith}
-use Rattle.std.specs.Prelude.{nat_lt, is_none, if◌then◌else◌}
+use Rattle.std.proofs.Common.{◌≡◌, ◌⊎◌, inl, inr, ⊎_elim, ℕ, zero, suc, ◌+◌, ◌^◌, ◌≤◌, Bool, true, false, not, ◌&&◌, List, [], ◌∷◌, ◌++◌, length, drop, map, flat_map, reverse, Option, Some, None, option_map, refl, sym, ap, subst, ◌∙◌, arith}
+use Rattle.std.specs.Prelude.{nat_lt, is_none, is_some, if◌then◌else◌}
 use Rattle.std.specs.List.{list_any, range_with_len}
 use Rattle.std.specs.Option.{option_or}
 use Rattle.std.proofs.lemmas.List.{length-append, length-drop, length-reverse}
 use Rattle.site.specs.declared.outside.Dev.{Dev}
 use Rattle.record_model.specs.declared.words.CacheLine.{CacheLine}
 use Rattle.record_model.specs.declared.words.Command.{Command}
-use Rattle.record_model.specs.declared.words.Command.TheVariants.{Abort, Begin, Cache, Checkpoint, Commit, Erase, Get, Quit, Read, Scan, Set, Stat, Write}
+use Rattle.record_model.specs.declared.words.Command.TheVariants.{Abort, Back, Begin, Cache, Checkpoint, Commit, Erase, Get, Mark, Quit, Read, Scan, Set, Stat, Write}
 use Rattle.record_model.specs.declared.words.Reply.{Reply}
 use Rattle.record_model.specs.State.{Content, State, session_at, writes_of}
 use Rattle.record_model.specs.State as state
-use Rattle.record_model.specs.Step.{Outcome, answer, effect, full, lacks_room, makes_checkpoint, is_accepted, outcome, ready, refusal}
-use Rattle.record_model.specs.Touches.{CacheOp, touch, flush}
+use Rattle.record_model.specs.Step.{Outcome, carried_through, dropped, effect, fills_page, full, going_back, is_accepted, is_page_full, lacks_room, makes_checkpoint, outcome, ready, refusal}
+use Rattle.record_model.specs.Touches.{CacheOp, touch, flush, tested_touches}
 use Rattle.log_records.specs.Spelling.{block_len}
 use Rattle.second_chance.specs.declared.frame.Frame.{Frame}
 use Rattle.second_chance.specs.Queue.{Queue, pushed, with_read}
@@ -21,7 +21,7 @@ use Rattle.second_chance.specs.Machine as cache
 use Rattle.second_chance.proofs.Unread.{length-groups_read}
 use Rattle.ring_machine.specs.Tail.{Tail, waits, sealed_if, is_full_for, with_record, forced, before_push}
 use Rattle.ring_machine.specs.Machine.{Machine, RingOp, cached, logged, changed, force, save, pushed_by, apply_op, after_all, past_end, first_worn}
-use Rattle.ring_machine.specs.Commands.{reads, takes_back, ends, saves, undoes, stood_before, record_work, command_work}
+use Rattle.ring_machine.specs.Commands.{reads, takes_back, ends, saves, goes_back, undoes, stood_before, record_work, page_work, command_work}
 use Rattle.ring_machine.specs.Counts.{records_in, saves_in, FewAreEnough, CommandsLogFew}
 use Rattle.ring_machine.proofs.Ends.{never_past}
 
@@ -184,12 +184,20 @@ as_many_before : (table : List Content) (earlier made : List state.Write) → le
 as_many_before table earlier [] = refl
 as_many_before table earlier (write ∷ later) = omega (arith, as_many_before table (earlier ++ write ∷ []) later)
 
+goes_back_logs : (table : List Content) (earlier made : List state.Write) → (records_in (goes_back table earlier made) ≡ length made) × (saves_in (goes_back table earlier made) ≡ 0)
+goes_back_logs table earlier made =
+    let all = take_all_back_logs (reverse (stood_before table earlier made)) in
+    (omega (arith, all.0, length-reverse (stood_before table earlier made), as_many_before table earlier made), all.1)
+
 undoes_logs : (table : List Content) (made : List state.Write) → (records_in (undoes table made) ≡ length made + 1) × (saves_in (undoes table made) ≡ 0)
 undoes_logs table made =
-    let back = reverse (stood_before table [] made) in
-    let all = take_all_back_logs back in
-    let turned = length-reverse (stood_before table [] made) in
-    (omega (arith, all.0, turned, as_many_before table [] made, records_join (flat_map takes_back back) ends), omega (arith, all.1, saves_join (flat_map takes_back back) ends))
+    let all = goes_back_logs table [] made in
+    (omega (arith, all.0, records_join (goes_back table [] made) ends), omega (arith, all.1, saves_join (goes_back table [] made) ends))
+
+-- pages that are only touched
+pub cached_logs : (asked : List CacheOp) → (records_in (map cached asked) ≡ 0) × (saves_in (map cached asked) ≡ 0)
+cached_logs [] = (refl, refl)
+cached_logs (work ∷ asked) = cached_logs asked
 
 -- a command that its tests have let through, from a state that may have kept other records
 record_logs : (s : State) (kept : ℕ) (command : Command) → (s.made + records_in (record_work s command) ≤ (effect (record s { kept = kept }) command).made) × (saves_in (record_work s command) ≡ 0)
@@ -200,6 +208,10 @@ record_logs s kept (Erase n number) = (omega arith, refl)
 record_logs s kept (Scan n number count) = let none = read_all_logs (range_with_len number count) in (omega (arith, none.0), none.1)
 record_logs s kept (Commit n) = (omega arith, refl)
 record_logs s kept (Abort n) = let all = undoes_logs s.table (writes_of (session_at s n)) in (omega (arith, all.0), all.1)
+record_logs s kept (Mark n) = (omega arith, refl)
+record_logs s kept (Back n standing) =
+    let all = goes_back_logs s.table (writes_of (option_map (going_back standing) (session_at s n))) (dropped standing (session_at s n)) in
+    (omega (arith, all.0), all.1)
 record_logs s kept (Get number) = (omega arith, refl)
 record_logs s kept (Set number value) = (omega arith, refl)
 record_logs s kept Checkpoint = (omega arith, refl)
@@ -212,36 +224,43 @@ where_saved : (b : Bool) → (records_in (if b then saves else []) ≡ 0) × (sa
 where_saved true = (refl, refl)
 where_saved false = (refl, refl)
 
-abbrev accepted_work : State → Command → Bool → List RingOp
-accepted_work s command b = if b then record_work s command else []
+abbrev work_where : State → Command → Bool → Bool → List RingOp
+work_where s command accepted full =
+    if accepted then record_work s command else (if full then map cached (tested_touches command) else [])
 
-accepted_saves : (s : State) (command : Command) (b : Bool) → saves_in (accepted_work s command b) ≡ 0
-accepted_saves s command true = (record_logs s 0 command).1
-accepted_saves s command false = refl
+work_saves : (s : State) (command : Command) (accepted full : Bool) → saves_in (work_where s command accepted full) ≡ 0
+work_saves s command true full = (record_logs s 0 command).1
+work_saves s command false true = (cached_logs (tested_touches command)).1
+work_saves s command false false = refl
 
 module _ (s : State) (command : Command) (listing : List CacheLine) where
   abbrev now : State
   now = ready s command
 
+  -- the log has room for it: what the test of its page gives
+  paged : (o : Option Reply) → s.made + records_in (work_where s command (is_none o) (is_some o)) ≤ (carried_through now command listing o).after.made
+  paged (Some refused) = let none = cached_logs (tested_touches command) in omega (arith, none.0)
+  paged None = (record_logs s now.kept command).0
+
   -- what is left of a command that its tests let through
-  abbrev chosen : Bool → Outcome
-  chosen lacks = if lacks then record { after = now; reply = full now } else record { after = effect now command; reply = answer now command listing }
+  abbrev chosen : Bool → Option Reply → Outcome
+  chosen lacks o = if lacks then record { after = now; reply = full now } else carried_through now command listing o
 
-  through : (lacks : Bool) → s.made + records_in (accepted_work s command (not lacks)) ≤ (chosen lacks).after.made
-  through true = omega arith
-  through false = (record_logs s now.kept command).0
+  through : (lacks : Bool) (o : Option Reply) → s.made + records_in (work_where s command (not lacks && is_none o) (not lacks && is_some o)) ≤ (chosen lacks o).after.made
+  through true o = omega arith
+  through false o = paged o
 
-  answered : (o : Option Reply) → s.made + records_in (accepted_work s command (is_none o && not (lacks_room now command))) ≤ (outcome s command listing o).after.made
+  answered : (o : Option Reply) → s.made + records_in (work_where s command ((is_none o && not (lacks_room now command)) && is_none (fills_page now command)) ((is_none o && not (lacks_room now command)) && is_some (fills_page now command))) ≤ (outcome s command listing o).after.made
   answered (Some refused) = omega arith
-  answered None = through (lacks_room now command)
+  answered None = through (lacks_room now command) (fills_page now command)
 
   command_logs : (s.made + records_in (command_work s command) ≤ (outcome s command listing (refusal s command)).after.made) × (saves_in (command_work s command) ≡ (if makes_checkpoint s command then 1 else 0))
   command_logs =
       let first = where_saved (makes_checkpoint s command) in
       let all = answered (refusal s command) in
       let before = if makes_checkpoint s command then saves else [] in
-      let own = accepted_work s command (is_accepted s command) in
-      (omega (arith, first.0, all, records_join before own), omega (arith, first.1, accepted_saves s command (is_accepted s command), saves_join before own))
+      let own = page_work s command in
+      (omega (arith, first.0, all, records_join before own), omega (arith, first.1, work_saves s command (is_accepted s command) (is_page_full s command), saves_join before own))
 
 pub commands_log_few : CommandsLogFew
 commands_log_few s None listing = (omega arith, refl)

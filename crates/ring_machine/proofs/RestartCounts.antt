@@ -8,7 +8,6 @@ use Rattle.std.proofs.lemmas.List.Sums.{length-filter}
 use Rattle.std_lemmas.proofs.AllOf.{all_both, all_each, all_filter, all_passed, all_reverse, all_weaker}
 use Rattle.std_lemmas.proofs.Sums.{sum_both, sum_le, sum_made}
 use Rattle.record_model.specs.State.{Content}
-use Rattle.record_model.specs.Touches.{CacheOp}
 use Rattle.log_records.specs.Log.{Entry, before_of, entries_of, is_closed, is_loser, is_of, is_update, number_of, txn_of}
 use Rattle.log_records.specs.Restart.{redo_touch}
 use Rattle.log_records.specs.Sound.{IsInOrder, IsLoserChain, from_block}
@@ -20,7 +19,7 @@ use Rattle.ring_machine.specs.Machine.{cached, logged}
 use Rattle.ring_machine.specs.Commands.{ends, saves}
 use Rattle.ring_machine.specs.Restart.{clr_on, clr_work, is_empty, only_ends, redo_work, restart_work, undo_work, undoing_one, undoing_work}
 use Rattle.ring_machine.specs.Counts.{records_in, saves_in, RestartsLogFew}
-use Rattle.ring_machine.proofs.Counts.{records_join, saves_join}
+use Rattle.ring_machine.proofs.Counts.{cached_logs, records_join, saves_join}
 
 -- of these Updates, how many have no earlier one of their transaction
 abbrev firsts : List Entry → ℕ
@@ -135,11 +134,7 @@ module _ (log : List Entry) (chains : (t : ℕ) → IsTrue (is_loser log t) → 
       ended_first zero = refl
       ended_first (suc n) = omega (arith, ended_first n)
 
--- Redo logs nothing, and only the checkpoint saves.
-
-redo_logs : (asked : List CacheOp) → (records_in (map cached asked) ≡ 0) × (saves_in (map cached asked) ≡ 0)
-redo_logs [] = (refl, refl)
-redo_logs (work ∷ asked) = redo_logs asked
+-- Only the checkpoint saves.
 
 undoing_saves : (us : List Entry) → saves_in (undoing_work us) ≡ 0
 undoing_saves [] = refl
@@ -164,7 +159,7 @@ undo_saves log = omega (arith, saves_join (replicate (length (only_ends log)) (l
 
 pub restarts_log_few : RestartsLogFew
 restarts_log_few p sound =
-    let redo = redo_logs (filter_map (redo_touch p) (from_block p.master.redo p.log)) in
+    let redo = cached_logs (filter_map (redo_touch p) (from_block p.master.redo p.log)) in
     let undo = undo_few p.log sound.losers_can_be_undone (512 * p.master.kept) (512 * p.hi) sound.in_order in
     let before = redo_work p ++ undo_work p.log in
     let logs : records_in (restart_work p) ≡ records_in before + records_in saves = records_join before saves in

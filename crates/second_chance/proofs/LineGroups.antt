@@ -1,18 +1,20 @@
 -- The groups that lines push at most, by what they read and log.
-use Rattle.std.proofs.Common.{◌≡◌, ℕ, ◌+◌, ◌*◌, ◌≤◌, Bool, true, false, List, [], ◌∷◌, length, map, reverse, Some, None, refl, arith}
-use Rattle.std.specs.Prelude.{if◌then◌else◌}
+use Rattle.std.proofs.Common.{◌≡◌, ℕ, ◌+◌, ◌*◌, ◌≤◌, Bool, true, false, List, [], ◌∷◌, length, map, reverse, Option, Some, None, refl, arith}
+use Rattle.std.specs.Prelude.{if◌then◌else◌, not, ◌&&◌, is_none, is_some}
 use Rattle.std.specs.List.{range_with_len}
 use Rattle.std.proofs.lemmas.List.{length-reverse}
 use Rattle.std.proofs.lemmas.List.FromFn.{length-range_with_len}
 use Rattle.record_model.specs.declared.words.CacheLine.{CacheLine}
 use Rattle.record_model.specs.declared.words.Command.{Command}
-use Rattle.record_model.specs.declared.words.Command.TheVariants.{Abort, Scan, Write}
+use Rattle.record_model.specs.declared.words.Command.TheVariants.{Abort, Back, Scan, Set, Write}
+use Rattle.record_model.specs.declared.words.Reply.{Reply}
+use Rattle.record_model.specs.declared.words.Reply.TheVariants as reply
 use Rattle.record_model.specs.State.{State, session_at, writes_of}
 use Rattle.record_model.specs.State as state
-use Rattle.record_model.specs.Step.{effect, ready}
+use Rattle.record_model.specs.Step.{Outcome, carried_through, dropped, effect, fills_page, full, lacks_room, makes_checkpoint, outcome, ready, refusal, refuse_if}
 use Rattle.record_model.specs.Run.{Line, later_listings, line_step, next_listing}
-use Rattle.record_model.specs.Touches.{flush, line_touches, read_touch, record_touches, write_touch}
-use Rattle.second_chance.specs.Groups.{groups_for_all, LinesPushFew, LinesCounted, reads_by}
+use Rattle.record_model.specs.Touches.{CacheOp, flush, line_touches, page_touches, read_touch, record_touches, tested_touches, write_touch}
+use Rattle.second_chance.specs.Groups.{groups_for_all, LinesPushFew, LinesCounted, reads_by, reads_told}
 use Rattle.second_chance.proofs.GroupCounts.{groups_add_up}
 
 reads_for : (numbers : List ℕ) → groups_for_all (map read_touch numbers) ≡ length numbers
@@ -27,15 +29,51 @@ writes_for (write ∷ writes) = omega (arith, writes_for writes)
 command_few : (s : State) (command : Command) → groups_for_all (record_touches s command) + 2 * s.made ≤ reads_by (Some command) + 2 * (effect (ready s command) command).made
 command_few s (Scan n number count) = omega (arith, reads_for (range_with_len number count), length-range_with_len number count)
 command_few s (Abort n) = omega (arith, writes_for (reverse (writes_of (session_at s n))), length-reverse (writes_of (session_at s n)))
+command_few s (Back n standing) = omega (arith, writes_for (reverse (dropped standing (session_at s n))), length-reverse (dropped standing (session_at s n)))
 command_few s _ = grind arith
+
+-- A command that finds its page full reads it, and is told so.
+told_full : (test : Bool) (page need : ℕ) (refused : Reply) → refuse_if test (reply.PageFull page need) ≡ Some refused → 1 ≤ reads_told refused
+told_full true page need (reply.PageFull page' need') e = omega arith
+told_full true page need _ e = absurd cc
+told_full false page need refused e = absurd cc
+
+tested_few : (s : State) (command : Command) (refused : Reply) → fills_page s command ≡ Some refused → groups_for_all (tested_touches command) ≤ reads_told refused
+tested_few s (Write n number value) refused e = told_full _ _ _ refused e
+tested_few s (Set number value) refused e = told_full _ _ _ refused e
+tested_few s _ refused e = absurd cc
+
+-- what a command asks of pages, and what comes of it, by what its tests give
+abbrev asked : State → Command → Bool → Option Reply → List CacheOp
+asked s command comes page = if comes && is_none page then record_touches s command else (if comes && is_some page then tested_touches command else [])
+
+IsFew : State → Command → List CacheOp → Outcome → Type 0
+IsFew s command asks o = groups_for_all asks + 2 * s.made ≤ reads_by (Some command) + reads_told o.reply + 2 * o.after.made
+
+page_few : (s : State) (command : Command) (listing : List CacheLine) (lacks : Bool) (page : Option Reply) → fills_page (ready s command) command ≡ page →
+    IsFew s command (asked s command (not lacks) page) (if lacks then record { after = ready s command; reply = full (ready s command) } else carried_through (ready s command) command listing page)
+unfolding IsFew
+page_few s command listing true page e = omega arith
+page_few s command listing false (Some refused) e = omega (arith, tested_few (ready s command) command refused e)
+page_few s command listing false None e = omega (arith, command_few s command)
+
+tests_few : (s : State) (command : Command) (listing : List CacheLine) (r : Option Reply) →
+    IsFew s command (asked s command (is_none r && not (lacks_room (ready s command) command)) (fills_page (ready s command) command)) (outcome s command listing r)
+unfolding IsFew
+tests_few s command listing (Some refused) = omega arith
+tests_few s command listing None = page_few s command listing (lacks_room (ready s command) command) (fills_page (ready s command) command) refl
 
 flush_pushes_none : (b : Bool) → groups_for_all (if b then flush ∷ [] else []) ≡ 0
 flush_pushes_none true = omega arith
 flush_pushes_none false = omega arith
 
-line_few : (s : State) (line : Line) (listing : List CacheLine) → groups_for_all (line_touches s line) + 2 * s.made ≤ reads_by line + 2 * (line_step s line listing).after.made
+line_few : (s : State) (line : Line) (listing : List CacheLine) →
+    groups_for_all (line_touches s line) + 2 * s.made ≤ reads_by line + reads_told (line_step s line listing).reply + 2 * (line_step s line listing).after.made
+unfolding IsFew
 line_few s None listing = omega arith
-line_few s (Some command) listing = grind (arith, groups_add_up, flush_pushes_none, command_few)
+line_few s (Some command) listing =
+    let flushes = if makes_checkpoint s command then flush ∷ [] else [] in
+    omega (arith, groups_add_up flushes (page_touches s command), flush_pushes_none (makes_checkpoint s command), tests_few s command listing (refusal s command))
 
 -- Turn after turn.
 
@@ -47,4 +85,4 @@ lines_push_few s [] listings = omega arith
 lines_push_few s (line ∷ lines) listings = grind (arith, line_few, groups_add_up, (lines_push_few (after_line s line listings) lines (later_listings line listings)))
 
 pub lines_counted : LinesCounted
-lines_counted = record { groups = refl; reads = refl; made = refl }
+lines_counted = record { groups = refl; reads = refl; made = refl; full_groups = refl; full_reads = refl; full_made = refl }

@@ -1,13 +1,16 @@
 -- How many groups work pushes at most.
-use Rattle.std.specs.Prelude.{◌≡◌, ℕ, ◌+◌, ◌*◌, ◌≤◌, Bool, true, List, [], ◌∷◌, flat_map, Some, None}
+use Rattle.std.specs.Prelude.{◌≡◌, ℕ, ◌+◌, ◌*◌, ◌≤◌, Bool, true, List, [], ◌∷◌, flat_map, replicate, Some, None}
 use Rattle.std.specs.Prelude.{if◌then◌else◌}
 use Rattle.std.specs.List.{range_with_len}
 use Rattle.record_model.specs.declared.words.CacheLine.{CacheLine}
 use Rattle.record_model.specs.declared.words.Command.TheVariants.{Abort, Begin, Get, Scan, Set, Write}
 use Rattle.record_model.specs.declared.words.Command.TheVariants as command
+use Rattle.record_model.specs.declared.words.Reply.{Reply}
+use Rattle.record_model.specs.declared.words.Reply.TheVariants as reply
 use Rattle.record_model.specs.State.{State}
+use Rattle.record_model.specs.State as state
 use Rattle.record_model.specs.Run.{Line, Turn, left_by, turns}
-use Rattle.record_model.specs.Rows.{fresh}
+use Rattle.record_model.specs.Rows.{fresh, much}
 use Rattle.record_model.specs.Touches.{CacheOp, touch, flush, run_touches}
 use Rattle.second_chance.specs.Machine.{Rules, Cache, touched, flushed, after_works, opened, next_group}
 use Rattle.second_chance.specs.Laws.{changed_count}
@@ -51,7 +54,7 @@ pub record NearlyAllArePushed : Type 0 where
   pub pushed : next_group (after_changes 8) ≡ 14
   pub saved : changed_count (after_changes 8).pool ≡ 0
 
--- Lines of input. How many records a line reads, and how many the lines of a run do.
+-- Lines of input. How many records a line reads where it is carried out.
 abbrev pub reads_by : Line → ℕ
 reads_by None = 0
 reads_by (Some (command.Begin n)) = 0
@@ -61,6 +64,8 @@ reads_by (Some (command.Erase n number)) = 0
 reads_by (Some (command.Scan n number count)) = count
 reads_by (Some (command.Commit n)) = 0
 reads_by (Some (command.Abort n)) = 0
+reads_by (Some (command.Mark n)) = 0
+reads_by (Some (command.Back n standing)) = 0
 reads_by (Some (command.Get number)) = 1
 reads_by (Some (command.Set number value)) = 0
 reads_by (Some command.Checkpoint) = 0
@@ -68,9 +73,28 @@ reads_by (Some command.Cache) = 0
 reads_by (Some command.Stat) = 0
 reads_by (Some command.Quit) = 0
 
+-- a line that is answered that its page is full has read that page
+abbrev pub reads_told : Reply → ℕ
+reads_told reply.Done = 0
+reads_told (reply.Value value) = 0
+reads_told reply.Nothing = 0
+reads_told (reply.Committed count) = 0
+reads_told reply.Aborted = 0
+reads_told (reply.Back count) = 0
+reads_told reply.Checked = 0
+reads_told (reply.Items items) = 0
+reads_told (reply.Listing lines) = 0
+reads_told (reply.Stat counts) = 0
+reads_told reply.Bye = 0
+reads_told (reply.Busy session) = 0
+reads_told (reply.Full used owed cap) = 0
+reads_told (reply.PageFull page need) = 1
+reads_told (reply.Refused why) = 0
+
+-- how many records the lines of a run read
 abbrev pub reads_in : List Turn → ℕ
 reads_in [] = 0
-reads_in (t ∷ run) = reads_by t.line + reads_in run
+reads_in (t ∷ run) = reads_by t.line + reads_told t.reply + reads_in run
 
 -- They push at most a group for each of these, and two for each record that they log.
 abbrev pub LinesPushFew : Type 0
@@ -85,7 +109,14 @@ abbrev pub six_turns : List Turn
 six_turns = turns (fresh 63) (Some (Begin 0) ∷ Some (Write 0 32 (1 ∷ [])) ∷ Some (Scan 0 0 33) ∷ Some (Abort 0)
     ∷ Some (Set 64 (1 ∷ [])) ∷ Some (Get 0) ∷ []) []
 
+-- a set finds its page full, behind a checkpoint
+abbrev pub one_full : List Turn
+one_full = turns (state.opened much 0 12 15) (Some (Set 19 (replicate 101 90)) ∷ []) []
+
 pub record LinesCounted : Type 0 where
   pub groups : groups_for_all (run_touches six_turns) ≡ 2 + 33 + 2 + 2 + 1
   pub reads : reads_in six_turns ≡ 33 + 1
   pub made : (left_by (fresh 63) six_turns).made ≡ 1 + 1 + 2 + 3
+  pub full_groups : groups_for_all (run_touches one_full) ≡ 1
+  pub full_reads : reads_in one_full ≡ 1
+  pub full_made : (left_by (state.opened much 0 12 15) one_full).made ≡ 12

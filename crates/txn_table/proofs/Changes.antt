@@ -1,5 +1,5 @@
 -- What an insertion, a removal and a write leave of a table.
-use Rattle.std.proofs.Common.{◌≡◌, ◌≢◌, ℕ, suc, ◌+◌, ◌^◌, ◌<◌, ◌≤◌, ◌==◌, nat_lt, Bool, true, false, not, cond, List, [], ◌∷◌, insert, remove, Option, None, Some, option_map, IsSome, IsNone, slice_get, get_or, set, length, length-set, arith, refl, sym, ap, ◌∙◌}
+use Rattle.std.proofs.Common.{◌≡◌, ◌≢◌, ℕ, suc, ◌+◌, ◌<◌, ◌≤◌, ◌==◌, nat_lt, Bool, true, false, not, cond, List, [], ◌∷◌, insert, remove, Option, None, Some, option_map, IsSome, IsNone, slice_get, get_or, set, length, length-set, arith, refl, sym, ap, subst, ◌∙◌}
 use Rattle.std.specs.List.{AllByRecursion, position_or_len}
 use Rattle.std.specs.Option.{ForSome}
 use Rattle.std.proofs.lemmas.Option.{get_or_from_slice_get}
@@ -8,7 +8,7 @@ use Rattle.std.proofs.lemmas.Bool.Decides.{nat_tests}
 use Rattle.arrayvec.specs.ArrayVec.{ArrayVec, with_items}
 use Rattle.arrayvec.proofs.ArrayVecLemmas.{items-with_items}
 use Rattle.txn_table.specs.declared.active.Active.{Active}
-use Rattle.txn_table.specs.Entries.{IsTable, entry_of, ChangesOnly, after_write}
+use Rattle.txn_table.specs.Entries.{IsCounted, IsTable, entry_of, ChangesOnly}
 use Rattle.txn_table.proofs.Places.{absent, entry_of-absent, weaker}
 
 both : (P Q R : Active → Type 0) → ((entry : Active) → P entry → Q entry → R entry) → (entries : List Active)
@@ -47,7 +47,7 @@ all-with_entry P (entry ∷ later) new p all = by (nat_lt new.begin entry.begin)
     by true rest = (p, all)
     by false rest = (all.0, rest)
 
-pub IsTable-with_entry : (entries : List Active) (new : Active) → IsTable entries → new.session < 8 → new.writes ≤ 2 ^ 32
+pub IsTable-with_entry : (entries : List Active) (new : Active) → IsTable entries → new.session < 8 → IsCounted new
     → AllByRecursion (λ other. new.session ≢ other.session) entries → IsTable (with_entry entries new)
 IsTable-with_entry [] new table small few all = (small, few, tt, tt)
 IsTable-with_entry (entry ∷ later) new table small few all = by (nat_lt new.begin entry.begin) refl (IsTable-with_entry later new table.3 small few all.1)
@@ -147,100 +147,124 @@ entry_of-without (entry ∷ later) session n table = by (entry.session == sessio
 pub removes : (entries : List Active) (session : ℕ) → IsTable entries → ChangesOnly entries (without entries session) session None
 removes entries session table = changes entries (without entries session) session None (λ n. entry_of-without entries session n table)
 
--- ---- one write more of a session
-abbrev pub with_write : List Active → ℕ → ℕ → List Active
-with_write [] session lsn = []
-with_write (entry ∷ later) session lsn = cond (entry.session == session) (after_write entry lsn ∷ later) (entry ∷ with_write later session lsn)
+-- the counts of a session's entry
+pub counts_of : (entries : List Active) (session : ℕ) (own : Active) → IsTable entries → entry_of entries session ≡ Some own → IsCounted own
+counts_of [] session own table found = cc
+counts_of (entry ∷ later) session own table found = by (entry.session == session) found (counts_of later session own table.3)
+  where
+    by : (b : Bool) → cond b (Some entry) (entry_of later session) ≡ Some own → (entry_of later session ≡ Some own → IsCounted own) → IsCounted own
+    by true found rest = let same : entry ≡ own = cc in subst IsCounted same table.1
+    by false found rest = rest found
 
-pub set-with_write : (entries : List Active) (session lsn : ℕ) (own : Active) → entry_of entries session ≡ Some own
-    → set entries (position_or_len (λ entry. entry.session == session) entries) (after_write own lsn) ≡ with_write entries session lsn
-set-with_write [] session lsn own found = cc
-set-with_write (entry ∷ later) session lsn own found = by (entry.session == session) (position_or_len (λ entry. entry.session == session) later) found (set-with_write later session lsn own)
+-- ---- the entry of a session changed, which leaves its number and its Begin
+pub record Leaves (change : Active → Active) : Type 0 where
+  pub session : (entry : Active) → (change entry).session ≡ entry.session
+  pub begin : (entry : Active) → (change entry).begin ≡ entry.begin
+
+abbrev pub with_own : List Active → ℕ → (Active → Active) → List Active
+with_own [] session change = []
+with_own (entry ∷ later) session change = cond (entry.session == session) (change entry ∷ later) (entry ∷ with_own later session change)
+
+set-with_own : (entries : List Active) (session : ℕ) (change : Active → Active) (own : Active) → entry_of entries session ≡ Some own
+    → set entries (position_or_len (λ entry. entry.session == session) entries) (change own) ≡ with_own entries session change
+set-with_own [] session change own found = cc
+set-with_own (entry ∷ later) session change own found = by (entry.session == session) (position_or_len (λ entry. entry.session == session) later) found (set-with_own later session change own)
   where
     by : (b : Bool) (k : ℕ) → cond b (Some entry) (entry_of later session) ≡ Some own
-        → (entry_of later session ≡ Some own → set later k (after_write own lsn) ≡ with_write later session lsn)
-        → set (entry ∷ later) (cond (not b) (1 + k) 0) (after_write own lsn) ≡ cond b (after_write entry lsn ∷ later) (entry ∷ with_write later session lsn)
-    by true k found rest = let same : entry ≡ own = cc in ap (λ (e : Active). after_write e lsn ∷ later) (sym same)
-    by false k found rest = let one : 1 + k ≡ suc k = omega arith in ap (λ n. set (entry ∷ later) n (after_write own lsn)) one ∙ ap (λ xs. entry ∷ xs) (rest found)
+        → (entry_of later session ≡ Some own → set later k (change own) ≡ with_own later session change)
+        → set (entry ∷ later) (cond (not b) (1 + k) 0) (change own) ≡ cond b (change entry ∷ later) (entry ∷ with_own later session change)
+    by true k found rest = let same : entry ≡ own = cc in ap (λ (e : Active). change e ∷ later) (sym same)
+    by false k found rest = let one : 1 + k ≡ suc k = omega arith in ap (λ n. set (entry ∷ later) n (change own)) one ∙ ap (λ xs. entry ∷ xs) (rest found)
 
-all-with_write : (P : Active → Type 0) (entries : List Active) (session lsn : ℕ) → ((entry : Active) → P entry → P (after_write entry lsn))
-    → AllByRecursion P entries → AllByRecursion P (with_write entries session lsn)
-all-with_write P [] session lsn says all = tt
-all-with_write P (entry ∷ later) session lsn says all = by (entry.session == session) (all-with_write P later session lsn says all.1)
+-- what each entry behind one is, is said of its number and its Begin alone
+behind_own : (entry : Active) (entries : List Active) (session : ℕ) (change : Active → Active) → Leaves change
+    → AllByRecursion (λ other. (entry.session ≢ other.session) × (entry.begin ≤ other.begin)) entries
+    → AllByRecursion (λ other. (entry.session ≢ other.session) × (entry.begin ≤ other.begin)) (with_own entries session change)
+behind_own entry [] session change leaves all = tt
+behind_own entry (other ∷ later) session change leaves all = by (other.session == session) (behind_own entry later session change leaves all.1)
   where
-    by : (b : Bool) → AllByRecursion P (with_write later session lsn) → AllByRecursion P (cond b (after_write entry lsn ∷ later) (entry ∷ with_write later session lsn))
-    by true rest = (says entry all.0, all.1)
+    by : (b : Bool) → AllByRecursion (λ other. (entry.session ≢ other.session) × (entry.begin ≤ other.begin)) (with_own later session change)
+        → AllByRecursion (λ other. (entry.session ≢ other.session) × (entry.begin ≤ other.begin)) (cond b (change other ∷ later) (other ∷ with_own later session change))
+    by true rest = (((λ same. all.0.0 (same ∙ leaves.session other)), omega (arith, all.0.1, leaves.begin other)), all.1)
     by false rest = (all.0, rest)
 
-pub IsTable-with_write : (entries : List Active) (session lsn : ℕ) (own : Active) → IsTable entries → entry_of entries session ≡ Some own → own.writes < 2 ^ 32
-    → IsTable (with_write entries session lsn)
-IsTable-with_write [] session lsn own table found room = tt
-IsTable-with_write (entry ∷ later) session lsn own table found room = by (entry.session == session) found (λ there. IsTable-with_write later session lsn own table.3 there room)
+before_own : (entry : Active) (entries : List Active) (change : Active → Active) → Leaves change
+    → AllByRecursion (λ other. (entry.session ≢ other.session) × (entry.begin ≤ other.begin)) entries
+    → AllByRecursion (λ other. ((change entry).session ≢ other.session) × ((change entry).begin ≤ other.begin)) entries
+before_own entry entries change leaves all =
+    weaker (λ other. (entry.session ≢ other.session) × (entry.begin ≤ other.begin)) (λ other. ((change entry).session ≢ other.session) × ((change entry).begin ≤ other.begin))
+    (λ other p. ((λ same. p.0 (sym (leaves.session entry) ∙ same)), omega (arith, p.1, leaves.begin entry))) entries all
+
+IsTable-with_own : (entries : List Active) (session : ℕ) (change : Active → Active) (own : Active) → Leaves change → IsTable entries → entry_of entries session ≡ Some own
+    → IsCounted (change own) → IsTable (with_own entries session change)
+IsTable-with_own [] session change own leaves table found counted = tt
+IsTable-with_own (entry ∷ later) session change own leaves table found counted = by (entry.session == session) found (λ there. IsTable-with_own later session change own leaves table.3 there counted)
   where
-    by : (b : Bool) → cond b (Some entry) (entry_of later session) ≡ Some own → (entry_of later session ≡ Some own → IsTable (with_write later session lsn))
-        → IsTable (cond b (after_write entry lsn ∷ later) (entry ∷ with_write later session lsn))
-    by true found rest = let same : entry.writes ≡ own.writes = cc in (table.0, omega (arith, same), table.2, table.3)
-    by false found rest = (table.0, table.1, all-with_write (λ other. (entry.session ≢ other.session) × (entry.begin ≤ other.begin)) later session lsn (λ other p. p) table.2, rest found)
+    by : (b : Bool) → cond b (Some entry) (entry_of later session) ≡ Some own → (entry_of later session ≡ Some own → IsTable (with_own later session change))
+        → IsTable (cond b (change entry ∷ later) (entry ∷ with_own later session change))
+    by true found rest =
+        let same : entry ≡ own = cc in
+        (omega (arith, table.0, leaves.session entry), subst (λ (e : Active). IsCounted (change e)) (sym same) counted, before_own entry later change leaves table.2, table.3)
+    by false found rest = (table.0, table.1, behind_own entry later session change leaves table.2, rest found)
 
-abbrev after : ℕ → Option Active → Option Active
-after lsn o = option_map (λ entry. after_write entry lsn) o
-
-entry_of-with_write : (entries : List Active) (session lsn n : ℕ)
-    → entry_of (with_write entries session lsn) n ≡ cond (session == n) (option_map (λ entry. after_write entry lsn) (entry_of entries n)) (entry_of entries n)
-entry_of-with_write [] session lsn n = by (session == n)
+entry_of-with_own : (entries : List Active) (session : ℕ) (change : Active → Active) (n : ℕ) → Leaves change
+    → entry_of (with_own entries session change) n ≡ cond (session == n) (option_map change (entry_of entries n)) (entry_of entries n)
+entry_of-with_own [] session change n leaves = by (session == n)
   where
     by : (b : Bool) → ◌≡◌ {A = Option Active} None (cond b None None)
     by true = refl
     by false = refl
-entry_of-with_write (entry ∷ later) session lsn n = by (entry.session == session) refl (entry_of-with_write later session lsn n)
+entry_of-with_own (entry ∷ later) session change n leaves = by (entry.session == session) refl (entry_of-with_own later session change n leaves)
   where
     own : (b c : Bool) → (entry.session == n) ≡ b → (session == n) ≡ c → entry.session ≡ session
-        → cond b (Some (after_write entry lsn)) (entry_of later n) ≡ cond c (after lsn (cond b (Some entry) (entry_of later n))) (cond b (Some entry) (entry_of later n))
+        → cond b (Some (change entry)) (entry_of later n) ≡ cond c (option_map change (cond b (Some entry) (entry_of later n))) (cond b (Some entry) (entry_of later n))
     own true true here there same = refl
     own false true here there same = absurd (eqb-false _ _ here (same ∙ eqb-true _ _ there))
     own true false here there same = absurd (eqb-false _ _ there (sym same ∙ eqb-true _ _ here))
     own false false here there same = refl
 
     passed : (b c : Bool) → (entry.session == n) ≡ b → (session == n) ≡ c → (entry.session ≡ session → ⊥)
-        → entry_of (with_write later session lsn) n ≡ cond c (after lsn (entry_of later n)) (entry_of later n)
-        → cond b (Some entry) (entry_of (with_write later session lsn) n) ≡ cond c (after lsn (cond b (Some entry) (entry_of later n))) (cond b (Some entry) (entry_of later n))
+        → entry_of (with_own later session change) n ≡ cond c (option_map change (entry_of later n)) (entry_of later n)
+        → cond b (Some entry) (entry_of (with_own later session change) n) ≡ cond c (option_map change (cond b (Some entry) (entry_of later n))) (cond b (Some entry) (entry_of later n))
     passed true true here there differs rest = absurd (differs (eqb-true _ _ here ∙ sym (eqb-true _ _ there)))
     passed true false here there differs rest = refl
     passed false c here there differs rest = rest
 
     by : (b : Bool) → (entry.session == session) ≡ b
-        → entry_of (with_write later session lsn) n ≡ cond (session == n) (after lsn (entry_of later n)) (entry_of later n)
-        → entry_of (cond b (after_write entry lsn ∷ later) (entry ∷ with_write later session lsn)) n ≡ cond (session == n) (after lsn (entry_of (entry ∷ later) n)) (entry_of (entry ∷ later) n)
-    by true is rest = own (entry.session == n) (session == n) refl refl (eqb-true _ _ is)
+        → entry_of (with_own later session change) n ≡ cond (session == n) (option_map change (entry_of later n)) (entry_of later n)
+        → entry_of (cond b (change entry ∷ later) (entry ∷ with_own later session change)) n ≡ cond (session == n) (option_map change (entry_of (entry ∷ later) n)) (entry_of (entry ∷ later) n)
+    by true is rest =
+        ap (λ (k : ℕ). cond (k == n) (Some (change entry)) (entry_of later n)) (leaves.session entry)
+        ∙ own (entry.session == n) (session == n) refl refl (eqb-true _ _ is)
     by false is rest = passed (entry.session == n) (session == n) refl refl (eqb-false _ _ is) rest
 
-pub writes_once : (entries : List Active) (session lsn : ℕ)
-    → ChangesOnly entries (with_write entries session lsn) session (option_map (λ entry. after_write entry lsn) (entry_of entries session))
-writes_once entries session lsn = record {
-  own = entry_of-with_write entries session lsn session ∙ cond-true _ _ (entry_of entries session) (eq-eqb session session refl);
-  others = λ n differs. entry_of-with_write entries session lsn n ∙ cond-false _ _ _ (ne_eqb _ _ (λ same. differs (sym same)));
+pub changes_own : (entries : List Active) (session : ℕ) (change : Active → Active) → Leaves change
+    → ChangesOnly entries (with_own entries session change) session (option_map change (entry_of entries session))
+changes_own entries session change leaves = record {
+  own = entry_of-with_own entries session change session leaves ∙ cond-true _ _ (entry_of entries session) (eq-eqb session session refl);
+  others = λ n differs. entry_of-with_own entries session change n leaves ∙ cond-false _ _ _ (ne_eqb _ _ (λ same. differs (sym same)));
 }
 
--- the write of an entry at its place
-pub set-written : (entries : List Active) (session lsn place : ℕ) (otherwise : Active) → IsSome (entry_of entries session)
+-- the change of an entry at its place
+set-own : (entries : List Active) (session : ℕ) (change : Active → Active) (place : ℕ) (otherwise : Active) → IsSome (entry_of entries session)
     → place ≡ position_or_len (λ entry. entry.session == session) entries → slice_get entries place ≡ entry_of entries session
-    → set entries place (after_write (get_or entries place otherwise) lsn) ≡ with_write entries session lsn
-set-written entries session lsn place otherwise there at found = by (entry_of entries session) refl there
+    → set entries place (change (get_or entries place otherwise)) ≡ with_own entries session change
+set-own entries session change place otherwise there at found = by (entry_of entries session) refl there
   where
-    by : (o : Option Active) → entry_of entries session ≡ o → IsSome o → set entries place (after_write (get_or entries place otherwise) lsn) ≡ with_write entries session lsn
+    by : (o : Option Active) → entry_of entries session ≡ o → IsSome o → set entries place (change (get_or entries place otherwise)) ≡ with_own entries session change
     by None is there = cc
     by (Some own) is there =
-        ap (λ n. set entries n (after_write (get_or entries place otherwise) lsn)) at
-        ∙ ap (λ e. set entries (position_or_len (λ entry. entry.session == session) entries) (after_write e lsn)) (get_or_from_slice_get entries place own otherwise (found ∙ is))
-        ∙ set-with_write entries session lsn own is
+        ap (λ n. set entries n (change (get_or entries place otherwise))) at
+        ∙ ap (λ e. set entries (position_or_len (λ entry. entry.session == session) entries) (change e)) (get_or_from_slice_get entries place own otherwise (found ∙ is))
+        ∙ set-with_own entries session change own is
 
-pub IsTable-written : (entries : List Active) (session lsn : ℕ) → IsTable entries → IsSome (entry_of entries session)
-    → ForSome (entry_of entries session) (λ entry. entry.writes < 2 ^ 32) → IsTable (with_write entries session lsn)
-IsTable-written entries session lsn table there room = by (entry_of entries session) refl there
+pub IsTable-own : (entries : List Active) (session : ℕ) (change : Active → Active) → Leaves change → IsTable entries → IsSome (entry_of entries session)
+    → ForSome (entry_of entries session) (λ entry. IsCounted entry → IsCounted (change entry)) → IsTable (with_own entries session change)
+IsTable-own entries session change leaves table there counted = by (entry_of entries session) refl there
   where
-    by : (o : Option Active) → entry_of entries session ≡ o → IsSome o → IsTable (with_write entries session lsn)
+    by : (o : Option Active) → entry_of entries session ≡ o → IsSome o → IsTable (with_own entries session change)
     by None is there = cc
-    by (Some own) is there = IsTable-with_write entries session lsn own table is (room own is)
+    by (Some own) is there = IsTable-with_own entries session change own leaves table is (counted own is (counts_of entries session own table is))
 
 none_is : (o : Option Active) → IsNone o → o ≡ None
 none_is None none = refl
@@ -250,13 +274,13 @@ pub absent_is : (entries : List Active) (session : ℕ) → IsNone (entry_of ent
 absent_is entries session none = none_is (entry_of entries session) none
 
 -- the same through a slice of the vector, which keeps its length
-pub refill-with_write : (held : ArrayVec Active) (seen shown : List Active) (session lsn place : ℕ) (otherwise : Active)
+pub refill-with_own : (held : ArrayVec Active) (seen shown : List Active) (session : ℕ) (change : Active → Active) (place : ℕ) (otherwise : Active)
     → seen ≡ held.items → shown ≡ held.items → IsSome (entry_of held.items session)
     → place ≡ position_or_len (λ entry. entry.session == session) seen → slice_get seen place ≡ entry_of seen session
-    → (with_items held (set shown place (after_write (get_or shown place otherwise) lsn))).items ≡ with_write held.items session lsn
-refill-with_write held seen shown session lsn place otherwise seen_is shown_is there at found =
-    items-with_items held (set shown place (after_write (get_or shown place otherwise) lsn))
-    (length-set shown place (after_write (get_or shown place otherwise) lsn) ∙ ap length shown_is)
-    ∙ ap (λ xs. set xs place (after_write (get_or xs place otherwise) lsn)) shown_is
-    ∙ set-written held.items session lsn place otherwise there (at ∙ ap (position_or_len (λ entry. entry.session == session)) seen_is)
+    → (with_items held (set shown place (change (get_or shown place otherwise)))).items ≡ with_own held.items session change
+refill-with_own held seen shown session change place otherwise seen_is shown_is there at found =
+    items-with_items held (set shown place (change (get_or shown place otherwise)))
+    (length-set shown place (change (get_or shown place otherwise)) ∙ ap length shown_is)
+    ∙ ap (λ xs. set xs place (change (get_or xs place otherwise))) shown_is
+    ∙ set-own held.items session change place otherwise there (at ∙ ap (position_or_len (λ entry. entry.session == session)) seen_is)
     (ap (λ xs. slice_get xs place) (sym seen_is) ∙ found ∙ ap (λ xs. entry_of xs session) seen_is)

@@ -36,7 +36,7 @@ kept_by_all session begin first (entry ∷ later) all = (all.0, kept_by_all sess
 
 pub IsTable-counted : (first : ℕ) (entries : List Active) → IsTable entries → IsTable (map (counted_from first) entries)
 IsTable-counted first [] table = tt
-IsTable-counted first (entry ∷ later) table = (table.0, table.1, kept_by_all entry.session entry.begin first later table.2, IsTable-counted first later table.3)
+IsTable-counted first (entry ∷ later) table = (table.0, record { few = table.1.few; mark = table.1.mark }, kept_by_all entry.session entry.begin first later table.2, IsTable-counted first later table.3)
 
 same_default : (shown : List Active) (place : ℕ) (otherwise : Active) → place < length shown
     → get_or shown place otherwise ≡ get_or shown place (get_or shown place otherwise)

@@ -45,11 +45,12 @@ owed_changes old new n entry before after less changes =
     let all = changes_one n (owed_at new) (owed_at old) less (λ m ne. ap (λ (o : Option Active). option_map_or owed_one o 0) (changes.others m ne)) in
     omega (arith, all, ap (λ (o : Option Active). option_map_or owed_one o 0) changes.own, owed_is old before, owed_is new after)
 
--- an entry is its session's, below 8, and has so many writes at most
+-- an entry is its session's, below 8, and has so many writes at most, and a mark that isn't above them
 pub record IsEntry (n : ℕ) (entry : Active) : Type 0 where
   pub session : entry.session ≡ n
   pub small : n < 8
   pub few : entry.writes ≤ 2 ^ 32
+  pub mark : entry.mark ≤ entry.writes
 
 pub entry_is : (active : List Active) (n : ℕ) (own : Active) → IsTable active → entry_of active n ≡ Some own → IsEntry n own
 entry_is [] n own table is = absurd (none-some own is)
@@ -59,7 +60,7 @@ entry_is (entry ∷ later) n own table is = by (entry.session == n) refl is (ent
     by true same first rest =
         let own_is : entry ≡ own = same_Some entry own first in
         let session : entry.session ≡ n = eqb-true _ _ same in
-        subst (IsEntry n) own_is (record { session = session; small = subst (λ (k : ℕ). k < 8) session table.0; few = table.1 })
+        subst (IsEntry n) own_is (record { session = session; small = subst (λ (k : ℕ). k < 8) session table.0; few = table.1.few; mark = table.1.mark })
     by false same later_is rest = rest later_is
 
 -- it owes a part of the whole

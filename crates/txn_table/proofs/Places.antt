@@ -102,7 +102,7 @@ place-position test xs found is = ap (λ o. unwrap_or o (length xs)) is ∙ by (
 -- eight sessions owe little
 owed-le : (entries : List Active) → IsTable entries → owed entries ≤ length entries * (2 ^ 32 + 1)
 owed-le [] table = omega arith
-owed-le (entry ∷ later) table = omega (arith, sum_by-cons (λ (e : Active). e.writes + 1) entry later, table.1, owed-le later table.3)
+owed-le (entry ∷ later) table = omega (arith, sum_by-cons (λ (e : Active). e.writes + 1) entry later, table.1.few, owed-le later table.3)
 
 pub owed_fits : (entries : List Active) → IsTable entries → owed entries < 2 ^ 64
 owed_fits entries table = omega (arith, few entries table, owed-le entries table)

@@ -1,15 +1,20 @@
 -- The table of active sessions, as a list of entries.
-use Rattle.std.specs.Prelude.{◌≡◌, ◌≢◌, ℕ, ◌+◌, ◌-◌, ◌^◌, ◌<◌, ◌≤◌, ◌==◌, List, [], ◌∷◌, find, sum_by, All, Contains}
+use Rattle.std.specs.Prelude.{◌≡◌, ◌≢◌, ℕ, ◌+◌, ◌-◌, ◌^◌, ◌<◌, ◌≤◌, ◌==◌, List, [], ◌∷◌, find, sum_by, All, Contains, min}
 use Rattle.std.specs.Prelude.{Option, Some, None}
 use Rattle.std.specs.List.{AllByRecursion}
 use Rattle.txn_table.specs.declared.active.Active.{Active}
 
--- A table: each session stands there once, with a number below 8 and at most 2^32 writes, and none before one that
--- began earlier.
+-- An entry's counts: at most 2^32 writes stand, and its mark isn't above them.
+pub record IsCounted (entry : Active) : Type 0 where
+  pub few : entry.writes ≤ 2 ^ 32
+  pub mark : entry.mark ≤ entry.writes
+
+-- A table: each session stands there once, with a number below 8 and such counts, and none before one that began
+-- earlier.
 abbrev pub IsTable : List Active → Type 0
 IsTable [] = Unit {0}
 IsTable (entry ∷ later) =
-    (entry.session < 8) × (entry.writes ≤ 2 ^ 32)
+    (entry.session < 8) × IsCounted entry
     × AllByRecursion (λ other. (entry.session ≢ other.session) × (entry.begin ≤ other.begin)) later × IsTable later
 
 -- the entry of a session, where it is active
@@ -25,11 +30,20 @@ pub record ChangesOnly (old new : List Active) (session : ℕ) (entry : Option A
 abbrev pub after_write : Active → ℕ → Active
 after_write entry lsn = record entry { last = lsn; writes = entry.writes + 1 }
 
+-- an entry whose mark is behind all its writes
+abbrev pub after_mark : Active → Active
+after_mark entry = record entry { mark = entry.writes }
+
+-- an entry whose last writes were undone: the LSN of its last record, and a mark that isn't above what is left
+abbrev pub after_undone : Active → ℕ → ℕ → Active
+after_undone entry count lsn = record entry { last = lsn; writes = entry.writes - count; mark = min entry.mark (entry.writes - count) }
+
 -- an entry where records are counted from a later one on
 abbrev pub counted_from : ℕ → Active → Active
 counted_from first entry = record entry { born = entry.born - first }
 
--- the log records that the active sessions may still make: one for each of their writes, and one more for each of them
+-- the log records that the active sessions may still make: one for each of their writes that stand, and one more for each
+-- of them
 abbrev pub owed : List Active → ℕ
 owed entries = sum_by (λ entry. entry.writes + 1) entries
 

@@ -9,6 +9,8 @@ pub struct Active {
     pub last: u64,
     /// How many log records counted as made before it began.
     pub born: u64,
-    /// How many writes it has made.
+    /// How many of its writes stand.
     pub writes: u64,
+    /// How many of these it had made at its mark.
+    pub mark: u64,
 }

@@ -2,7 +2,8 @@ ghost use Rattle.std.specs.Prelude.{◌≡◌, ◌+◌, ◌^◌, ◌<◌, ◌≤
 ghost use Rattle.std.specs.Prelude.{AllPairs, IsSome, IsNone, option_map};
 ghost use Rattle.std.specs.List.{position_or_len};
 ghost use Rattle.std.specs.Option.{ForSome};
-ghost use Rattle.txn_table.specs.Entries.{IsTable, entry_of, ChangesOnly, after_write, counted_from, owed, IsLeast};
+ghost use Rattle.txn_table.specs.Entries.{IsTable, entry_of, ChangesOnly, after_write, after_mark, after_undone};
+ghost use Rattle.txn_table.specs.Entries.{counted_from, owed, IsLeast};
 
 use crate::active::Active;
 use arrayvec::ArrayVec;
@@ -77,6 +78,7 @@ impl TxnTable {
         requires session { entry.session < 8 }
         requires absent { IsNone (entry_of self.old entry.session) }
         requires writes { entry.writes ≤ 2 ^ 32 }
+        requires mark { entry.mark ≤ entry.writes }
         ensures entry { ChangesOnly self.old self.new entry.session (Some entry) }
         ensures len { length self.new ≡ length self.old + 1 }
     {
@@ -100,6 +102,34 @@ impl TxnTable {
         let entry = &mut self.entries[place];
         entry.writes += 1;
         entry.last = last;
+    }
+
+    /// A session sets its mark behind all its writes that stand.
+    pub fn mark(&mut self, session: u32)
+        requires active { IsSome (entry_of self.old session) }
+        ensures entry { ChangesOnly self.old self.new session
+            (option_map after_mark (entry_of self.old session)) }
+        ensures len { length self.new ≡ length self.old }
+    {
+        let place = place_of(&self.entries, session);
+        let entry = &mut self.entries[place];
+        entry.mark = entry.writes;
+    }
+
+    /// So many of a session's writes, the last ones, were undone, and its last log record is at this LSN. Where its mark
+    /// was above what is left of them, it falls to that.
+    pub fn undone(&mut self, session: u32, count: u64, lsn: u64)
+        requires active { IsSome (entry_of self.old session) }
+        requires count { ForSome (entry_of self.old session) (λ entry. count ≤ entry.writes) }
+        ensures entry { ChangesOnly self.old self.new session
+            (option_map (λ entry. after_undone entry count lsn) (entry_of self.old session)) }
+        ensures len { length self.new ≡ length self.old }
+    {
+        let place = place_of(&self.entries, session);
+        let entry = &mut self.entries[place];
+        entry.writes -= count;
+        entry.mark = entry.mark.min(entry.writes);
+        entry.last = lsn;
     }
 
     /// A session isn't active any more.

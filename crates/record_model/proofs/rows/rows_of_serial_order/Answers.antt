@@ -21,3 +21,6 @@ returns-clause-writing_alone c = (refl, refl, refl)
 
 pub returns-clause-reading_alone : goal.returns-clause-reading_alone
 returns-clause-reading_alone c = (refl, refl, refl)
+
+pub returns-clause-taking_back_alone : goal.returns-clause-taking_back_alone
+returns-clause-taking_back_alone c = (refl, refl, refl)

@@ -25,7 +25,7 @@ use Rattle.engine.proofs.engine.Engine.abort.Goals as goal
 runs : (engine : Engine) (site : Site) (s : State) (n : ℕ) (entry : Active) → Matches engine site s → entry_of engine.active n ≡ Some entry → IsCarriedOut s (Abort n)
 runs engine site s n entry fits at =
     let found = some_active fits.newest fits.records engine.active s fits.sessions n entry at in
-    carried_out s (Abort n) refl (wants_active_is s n found.session found.is) refl
+    carried_out s (Abort n) refl (wants_active_is s n found.session found.is) refl refl
 
 of_session : {r : Result Reply Stop} {old new : Engine} {before now : Site} {s : State} {P : Snapshot → Type 0} (n k : ℕ) → n ≡ k → CommandEffect r old new before now s (effect s (Abort n)) P 0 → CommandEffect r old new before now s (effect s (Abort k)) P 0
 of_session {r = r} {old = old} {new = new} {before = before} {now = now} {s = s} {P = P} n k same does = subst (λ (j : ℕ). CommandEffect r old new before now s (effect s (Abort j)) P 0) same does

@@ -1,4 +1,4 @@
-use Rattle.std.proofs.Common.{true, false, refl, rules, arith}
+use Rattle.std.proofs.Common.{None, true, false, refl, rules, arith}
 use Rattle.record_model.specs.declared.words.Command.TheVariants.{Begin}
 use Rattle.engine.specs.Invariant.{sizes_of}
 use Rattle.engine.specs.Leaves.{LeavesTable}
@@ -45,11 +45,11 @@ returns-in-Some-full g c =
     record {
       answers = λ s fits.
           let behind = (c.in-Ok.ensures.does s fits).after_fits in
-          first_then (Begin c.args.session) (c.is_due-due.ensures s old fits) (c.in_default.ensures.passes s old fits) (λ o. LeavesTable (sizes_of c.args.self.now.store) s.table s.commits old.told) true (full_is 2 _ (c.in-Ok.ensures.does s fits).after_fits c.in-Ok.ensures.serves.going.table c.in-Some-full.ensures.full).1 fits.honest
+          first_then (Begin c.args.session) (c.is_due-due.ensures s old fits) (c.in_default.ensures.passes s old fits) (λ o. LeavesTable (sizes_of c.args.self.now.store) s.table s.commits old.told) true (full_is 2 _ (c.in-Ok.ensures.does s fits).after_fits c.in-Ok.ensures.serves.going.table c.in-Some-full.ensures.full).1 None refl fits.honest
           (λ x p. p) (late_table c.in-Ok.ensures.serves.sizes) c.in-Ok.ensures.serves (c.in-Ok.ensures.does s fits) c.in-Ok.ensures.asks
           (does_nothing behind going (still behind going)) (full_is 2 _ (c.in-Ok.ensures.does s fits).after_fits c.in-Ok.ensures.serves.going.table c.in-Some-full.ensures.full).0 asks_rest;
       performs = λ s fits.
-          performs_first s (Begin c.args.session) (c.is_due-due.ensures s old fits) (c.in_default.ensures.passes s old fits) true (full_is 2 _ (c.in-Ok.ensures.does s fits).after_fits c.in-Ok.ensures.serves.going.table c.in-Some-full.ensures.full).1 c.in-Ok.ensures.asks.rules_are (c.in-Ok.ensures.performs s fits)
+          performs_first s (Begin c.args.session) (c.is_due-due.ensures s old fits) (c.in_default.ensures.passes s old fits) true (full_is 2 _ (c.in-Ok.ensures.does s fits).after_fits c.in-Ok.ensures.serves.going.table c.in-Some-full.ensures.full).1 None refl c.in-Ok.ensures.asks.rules_are (c.in-Ok.ensures.performs s fits)
           (performs_rest refl);
       serves = serves_then c.in-Ok.ensures.serves (serves_nothing going);
       ended = search rules;
@@ -62,11 +62,11 @@ returns-in-Ok-carry_out_begin g c =
     let old = g.S.Site.state c.args.site.now in
     record {
       answers = λ s fits.
-          first_then (Begin c.args.session) (c.is_due-due.ensures s old fits) (c.in_default.ensures.passes s old fits) (λ o. LeavesTable (sizes_of c.args.self.now.store) s.table s.commits old.told) false (has_room 2 (c.in-Ok.ensures.does s fits).after_fits c.in-Ok.ensures.serves.going.table c.in_default-full.ensures.room) fits.honest
+          first_then (Begin c.args.session) (c.is_due-due.ensures s old fits) (c.in_default.ensures.passes s old fits) (λ o. LeavesTable (sizes_of c.args.self.now.store) s.table s.commits old.told) false (has_room 2 (c.in-Ok.ensures.does s fits).after_fits c.in-Ok.ensures.serves.going.table c.in_default-full.ensures.room) None refl fits.honest
           (λ x p. p) (late_table c.in-Ok.ensures.serves.sizes) c.in-Ok.ensures.serves (c.in-Ok.ensures.does s fits) c.in-Ok.ensures.asks
           (c.in-Ok-carry_out_begin.ensures.does _ (c.in-Ok.ensures.does s fits).after_fits) c.in-Ok-carry_out_begin.ensures.done c.in-Ok-carry_out_begin.ensures.asks;
       performs = λ s fits.
-          performs_first s (Begin c.args.session) (c.is_due-due.ensures s old fits) (c.in_default.ensures.passes s old fits) false (has_room 2 (c.in-Ok.ensures.does s fits).after_fits c.in-Ok.ensures.serves.going.table c.in_default-full.ensures.room) c.in-Ok.ensures.asks.rules_are (c.in-Ok.ensures.performs s fits)
+          performs_first s (Begin c.args.session) (c.is_due-due.ensures s old fits) (c.in_default.ensures.passes s old fits) false (has_room 2 (c.in-Ok.ensures.does s fits).after_fits c.in-Ok.ensures.serves.going.table c.in_default-full.ensures.room) None refl c.in-Ok.ensures.asks.rules_are (c.in-Ok.ensures.performs s fits)
           (c.in-Ok-carry_out_begin.ensures.performs _ (c.in-Ok.ensures.does s fits).after_fits);
       serves = serves_then c.in-Ok.ensures.serves c.in-Ok-carry_out_begin.ensures.serves;
       ended = search rules;
@@ -77,11 +77,11 @@ returns-in-Err-carry_out_begin g c =
     let old = g.S.Site.state c.args.site.now in
     record {
       answers = λ s fits.
-          first_then (Begin c.args.session) (c.is_due-due.ensures s old fits) (c.in_default.ensures.passes s old fits) (λ o. LeavesTable (sizes_of c.args.self.now.store) s.table s.commits old.told) false (has_room 2 (c.in-Ok.ensures.does s fits).after_fits c.in-Ok.ensures.serves.going.table c.in_default-full.ensures.room) fits.honest
+          first_then (Begin c.args.session) (c.is_due-due.ensures s old fits) (c.in_default.ensures.passes s old fits) (λ o. LeavesTable (sizes_of c.args.self.now.store) s.table s.commits old.told) false (has_room 2 (c.in-Ok.ensures.does s fits).after_fits c.in-Ok.ensures.serves.going.table c.in_default-full.ensures.room) None refl fits.honest
           (λ x p. p) (late_table c.in-Ok.ensures.serves.sizes) c.in-Ok.ensures.serves (c.in-Ok.ensures.does s fits) c.in-Ok.ensures.asks
           (does_failed (omega arith) (c.in-Err-carry_out_begin.ensures.does _ (c.in-Ok.ensures.does s fits).after_fits)) tt c.in-Err-carry_out_begin.ensures.asks;
       performs = λ s fits.
-          performs_first s (Begin c.args.session) (c.is_due-due.ensures s old fits) (c.in_default.ensures.passes s old fits) false (has_room 2 (c.in-Ok.ensures.does s fits).after_fits c.in-Ok.ensures.serves.going.table c.in_default-full.ensures.room) c.in-Ok.ensures.asks.rules_are (c.in-Ok.ensures.performs s fits)
+          performs_first s (Begin c.args.session) (c.is_due-due.ensures s old fits) (c.in_default.ensures.passes s old fits) false (has_room 2 (c.in-Ok.ensures.does s fits).after_fits c.in-Ok.ensures.serves.going.table c.in_default-full.ensures.room) None refl c.in-Ok.ensures.asks.rules_are (c.in-Ok.ensures.performs s fits)
           (c.in-Err-carry_out_begin.ensures.performs _ (c.in-Ok.ensures.does s fits).after_fits);
       serves = serves_then c.in-Ok.ensures.serves (serves_ended c.in-Err-carry_out_begin.ensures.serves);
       ended = search rules;

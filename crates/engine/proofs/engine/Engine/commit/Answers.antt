@@ -24,7 +24,7 @@ use Rattle.engine.proofs.Performing.{performs_rest}
 runs : (engine : Engine) (site : Site) (s : State) (n : ℕ) (entry : Active) → Matches engine site s → entry_of engine.active n ≡ Some entry → IsCarriedOut s (Commit n)
 runs engine site s n entry fits at =
     let found = some_active fits.newest fits.records engine.active s fits.sessions n entry at in
-    carried_out s (Commit n) refl (wants_active_is s n found.session found.is) refl
+    carried_out s (Commit n) refl (wants_active_is s n found.session found.is) refl refl
 
 of_session : {r : Result Reply Stop} {old new : Engine} {before now : Site} {s : State} (n k : ℕ) → n ≡ k → CommandEffect r old new before now s (effect s (Commit n)) (LeavesEither (sizes_of old.store) s (effect s (Commit n)) before.told) 0 →
     CommandEffect r old new before now s (effect s (Commit k)) (LeavesEither (sizes_of old.store) s (effect s (Commit k)) before.told) 0

@@ -27,7 +27,7 @@ pub returns-clause-accepted : goal.returns-clause-accepted
 returns-clause-accepted c s site fits =
     let there = has_record c.args.number fits (search rules) in
     let free = may_write_is (Some c.args.session) c.args.number fits c.write_busy.ensures c.in_default.is in
-    carried_out s (Erase c.args.session c.args.number) refl (λ i. first_refusal ((is_active c.args.session fits (search rules)) i ∷ there i ∷ free i ∷ [])) (has_room 2 fits c.find.ensures.table c.in_default-full.ensures.room)
+    carried_out s (Erase c.args.session c.args.number) refl (λ i. first_refusal ((is_active c.args.session fits (search rules)) i ∷ there i ∷ free i ∷ [])) (has_room 2 fits c.find.ensures.table c.in_default-full.ensures.room) refl
 
 pub returns-then-is_none-clause-refused : goal.returns-then-is_none-clause-refused
 returns-then-is_none-clause-refused c s site fits =

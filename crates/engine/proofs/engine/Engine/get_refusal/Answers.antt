@@ -16,4 +16,4 @@ returns-in-Some-clause-refused c s site fits =
 pub returns-clause-accepted : goal.returns-clause-accepted
 returns-clause-accepted c s site fits =
     let free = may_read_is None c.args.number fits c.read_busy.ensures c.in_default.is in
-    carried_out s (Get c.args.number) refl (λ i. first_refusal ((has_record c.args.number fits (search rules)) i ∷ free i ∷ [])) refl
+    carried_out s (Get c.args.number) refl (λ i. first_refusal ((has_record c.args.number fits (search rules)) i ∷ free i ∷ [])) refl refl

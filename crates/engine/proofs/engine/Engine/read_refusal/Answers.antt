@@ -28,7 +28,7 @@ pub returns-clause-accepted : goal.returns-clause-accepted
 returns-clause-accepted c s site fits =
     let there = has_record c.args.number fits (search rules) in
     let free = may_read_is (Some c.args.session) c.args.number fits c.read_busy.ensures c.in_default.is in
-    carried_out s (Read c.args.session c.args.number) refl (λ i. first_refusal ((is_active c.args.session fits (search rules)) i ∷ there i ∷ free i ∷ [])) refl
+    carried_out s (Read c.args.session c.args.number) refl (λ i. first_refusal ((is_active c.args.session fits (search rules)) i ∷ there i ∷ free i ∷ [])) refl refl
 
 pub returns-then-is_none-clause-refused : goal.returns-then-is_none-clause-refused
 returns-then-is_none-clause-refused c s site fits =

@@ -57,7 +57,7 @@ returns-clause-accepted c s site fits =
     let numbers = range_with_len c.args.number c.args.count in
     let free : first_refusal (map (may_read s (Some c.args.session)) numbers) ≡ None = sym (busy_is c.args.self.now.locks s fits.locks_are c.args.session numbers) ∙ sym c.first_busy.ensures ∙ c.in_default-first_busy.is in
     carried_out s (Scan c.args.session c.args.number c.args.count) refl
-    ((λ i. first_refusal (active i ∷ there i ∷ map (may_read s (Some c.args.session)) numbers)) ∙ free) refl
+    ((λ i. first_refusal (active i ∷ there i ∷ map (may_read s (Some c.args.session)) numbers)) ∙ free) refl refl
 
 pub returns-then-is_none-clause-refused : goal.returns-then-is_none-clause-refused
 returns-then-is_none-clause-refused c s site fits =

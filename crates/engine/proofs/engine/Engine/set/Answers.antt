@@ -9,13 +9,14 @@ use Rattle.record_model.specs.declared.words.Reply.{Reply}
 use Rattle.record_model.specs.declared.words.Command.TheVariants.{Set}
 use Rattle.lock_table.specs.declared.lock.Lock.{Lock}
 use Rattle.lock_table.specs.Locks.{busy_write}
-use Rattle.ring_machine.specs.Commands.{begins, writes, commits}
+use Rattle.ring_machine.specs.Commands.{reads, begins, changes, commits}
 use Rattle.ring_machine.proofs.Performing.{performs_as}
 use Rattle.engine.specs.declared.engine.Engine.{Engine}
 use Rattle.engine.specs.Invariant.{sizes_of}
 use Rattle.engine.specs.Representation.{checkpointed_if}
 use Rattle.engine.specs.Leaves.{LeavesEither}
 use Rattle.engine.specs.Calls.{CommandEffect}
+use Rattle.engine.proofs.NeverFull.{never_full}
 use Rattle.engine.proofs.Replies.{full_is, has_room}
 use Rattle.engine.proofs.Calling.{serves_then, serves_failed, serves_ended, serves_nothing, refused_as, first_then, first_failed, does_nothing, does_weaker, does_failed, asks_rest, early, late_either, still}
 use Rattle.engine.proofs.Performing.{performs_rest, performs_first, performs_unmade}
@@ -68,11 +69,11 @@ returns-in-Some-full g c =
     record {
       answers = λ s fits.
           let behind = (c.in-Ok.ensures.does s fits).after_fits in
-          first_then (Set c.args.number c.args.value.now) (c.is_due-due.ensures s old fits) (c.in_default.ensures.passes s old fits) (λ o. LeavesEither (sizes_of c.args.self.now.store) s o.after old.told) true (full_is 4 _ (c.in-Ok.ensures.does s fits).after_fits c.in-Ok.ensures.serves.going.table c.in-Some-full.ensures.full).1 fits.honest
+          first_then (Set c.args.number c.args.value.now) (c.is_due-due.ensures s old fits) (c.in_default.ensures.passes s old fits) (λ o. LeavesEither (sizes_of c.args.self.now.store) s o.after old.told) true (full_is 4 _ (c.in-Ok.ensures.does s fits).after_fits c.in-Ok.ensures.serves.going.table c.in-Some-full.ensures.full).1 _ refl fits.honest
           (early (sizes_of c.args.self.now.store) s _ old.told) (late_either refl refl c.in-Ok.ensures.serves.sizes) c.in-Ok.ensures.serves (c.in-Ok.ensures.does s fits) c.in-Ok.ensures.asks
           (does_weaker (early (sizes_of c.checkpoint_if.new.self.store) (checkpointed_if c.is_due-due.result s) _ mid.told) (does_nothing behind going (still behind going))) (full_is 4 _ (c.in-Ok.ensures.does s fits).after_fits c.in-Ok.ensures.serves.going.table c.in-Some-full.ensures.full).0 asks_rest;
       performs = λ s fits.
-          performs_first s (Set c.args.number c.args.value.now) (c.is_due-due.ensures s old fits) (c.in_default.ensures.passes s old fits) true (full_is 4 _ (c.in-Ok.ensures.does s fits).after_fits c.in-Ok.ensures.serves.going.table c.in-Some-full.ensures.full).1 c.in-Ok.ensures.asks.rules_are (c.in-Ok.ensures.performs s fits)
+          performs_first s (Set c.args.number c.args.value.now) (c.is_due-due.ensures s old fits) (c.in_default.ensures.passes s old fits) true (full_is 4 _ (c.in-Ok.ensures.does s fits).after_fits c.in-Ok.ensures.serves.going.table c.in-Some-full.ensures.full).1 _ refl c.in-Ok.ensures.asks.rules_are (c.in-Ok.ensures.performs s fits)
           (performs_rest refl);
       serves = serves_then c.in-Ok.ensures.serves (serves_nothing going);
       ended = search rules;
@@ -86,12 +87,12 @@ returns-in-Ok-carry_out_set g c =
     record {
       answers = λ s fits.
           let behind = (c.in-Ok.ensures.does s fits).after_fits in
-          first_then (Set c.args.number c.args.value.now) (c.is_due-due.ensures s old fits) (c.in_default.ensures.passes s old fits) (λ o. LeavesEither (sizes_of c.args.self.now.store) s o.after old.told) false (has_room 4 (c.in-Ok.ensures.does s fits).after_fits c.in-Ok.ensures.serves.going.table c.in_default-full.ensures.room) fits.honest
+          first_then (Set c.args.number c.args.value.now) (c.is_due-due.ensures s old fits) (c.in_default.ensures.passes s old fits) (λ o. LeavesEither (sizes_of c.args.self.now.store) s o.after old.told) false (has_room 4 (c.in-Ok.ensures.does s fits).after_fits c.in-Ok.ensures.serves.going.table c.in_default-full.ensures.room) None (never_full (c.in-Ok.ensures.does s fits).after_fits c.args.number c.args.value.now c.in_default.ensures.short) fits.honest
           (early (sizes_of c.args.self.now.store) s _ old.told) (late_either refl refl c.in-Ok.ensures.serves.sizes) c.in-Ok.ensures.serves (c.in-Ok.ensures.does s fits) c.in-Ok.ensures.asks
           (written c.args.number c.value_of-after.ensures (c.in-Ok-carry_out_set.ensures.does _ behind)) (c.in-Ok-carry_out_set.ensures.reply _ behind) c.in-Ok-carry_out_set.ensures.asks;
       performs = λ s fits.
-          performs_first s (Set c.args.number c.args.value.now) (c.is_due-due.ensures s old fits) (c.in_default.ensures.passes s old fits) false (has_room 4 (c.in-Ok.ensures.does s fits).after_fits c.in-Ok.ensures.serves.going.table c.in_default-full.ensures.room) c.in-Ok.ensures.asks.rules_are (c.in-Ok.ensures.performs s fits)
-          (performs_as (ap (λ (x : Content). (begins ++ writes c.args.number (content_at s.table c.args.number) x) ++ commits) (sym c.value_of-after.ensures)) (c.in-Ok-carry_out_set.ensures.performs _ (c.in-Ok.ensures.does s fits).after_fits));
+          performs_first s (Set c.args.number c.args.value.now) (c.is_due-due.ensures s old fits) (c.in_default.ensures.passes s old fits) false (has_room 4 (c.in-Ok.ensures.does s fits).after_fits c.in-Ok.ensures.serves.going.table c.in_default-full.ensures.room) None (never_full (c.in-Ok.ensures.does s fits).after_fits c.args.number c.args.value.now c.in_default.ensures.short) c.in-Ok.ensures.asks.rules_are (c.in-Ok.ensures.performs s fits)
+          (performs_as (ap (λ (x : Content). reads c.args.number ++ begins ++ changes c.args.number (content_at s.table c.args.number) x ++ commits) (sym c.value_of-after.ensures)) (c.in-Ok-carry_out_set.ensures.performs _ (c.in-Ok.ensures.does s fits).after_fits));
       serves = serves_then c.in-Ok.ensures.serves c.in-Ok-carry_out_set.ensures.serves;
       ended = search rules;
     }
@@ -102,12 +103,12 @@ returns-in-Err-carry_out_set g c =
     record {
       answers = λ s fits.
           let behind = (c.in-Ok.ensures.does s fits).after_fits in
-          first_then (Set c.args.number c.args.value.now) (c.is_due-due.ensures s old fits) (c.in_default.ensures.passes s old fits) (λ o. LeavesEither (sizes_of c.args.self.now.store) s o.after old.told) false (has_room 4 (c.in-Ok.ensures.does s fits).after_fits c.in-Ok.ensures.serves.going.table c.in_default-full.ensures.room) fits.honest
+          first_then (Set c.args.number c.args.value.now) (c.is_due-due.ensures s old fits) (c.in_default.ensures.passes s old fits) (λ o. LeavesEither (sizes_of c.args.self.now.store) s o.after old.told) false (has_room 4 (c.in-Ok.ensures.does s fits).after_fits c.in-Ok.ensures.serves.going.table c.in_default-full.ensures.room) None (never_full (c.in-Ok.ensures.does s fits).after_fits c.args.number c.args.value.now c.in_default.ensures.short) fits.honest
           (early (sizes_of c.args.self.now.store) s _ old.told) (late_either refl refl c.in-Ok.ensures.serves.sizes) c.in-Ok.ensures.serves (c.in-Ok.ensures.does s fits) c.in-Ok.ensures.asks
           (does_failed (omega arith) (written c.args.number c.value_of-after.ensures (c.in-Err-carry_out_set.ensures.does _ behind))) tt c.in-Err-carry_out_set.ensures.asks;
       performs = λ s fits.
-          performs_first s (Set c.args.number c.args.value.now) (c.is_due-due.ensures s old fits) (c.in_default.ensures.passes s old fits) false (has_room 4 (c.in-Ok.ensures.does s fits).after_fits c.in-Ok.ensures.serves.going.table c.in_default-full.ensures.room) c.in-Ok.ensures.asks.rules_are (c.in-Ok.ensures.performs s fits)
-          (performs_as (ap (λ (x : Content). (begins ++ writes c.args.number (content_at s.table c.args.number) x) ++ commits) (sym c.value_of-after.ensures)) (c.in-Err-carry_out_set.ensures.performs _ (c.in-Ok.ensures.does s fits).after_fits));
+          performs_first s (Set c.args.number c.args.value.now) (c.is_due-due.ensures s old fits) (c.in_default.ensures.passes s old fits) false (has_room 4 (c.in-Ok.ensures.does s fits).after_fits c.in-Ok.ensures.serves.going.table c.in_default-full.ensures.room) None (never_full (c.in-Ok.ensures.does s fits).after_fits c.args.number c.args.value.now c.in_default.ensures.short) c.in-Ok.ensures.asks.rules_are (c.in-Ok.ensures.performs s fits)
+          (performs_as (ap (λ (x : Content). reads c.args.number ++ begins ++ changes c.args.number (content_at s.table c.args.number) x ++ commits) (sym c.value_of-after.ensures)) (c.in-Err-carry_out_set.ensures.performs _ (c.in-Ok.ensures.does s fits).after_fits));
       serves = serves_then c.in-Ok.ensures.serves (serves_ended c.in-Err-carry_out_set.ensures.serves);
       ended = search rules;
     }

@@ -28,7 +28,7 @@ more c =
     c.insert.ensures.items ∙ ap (λ n. insert c.self.inside.entries.items n c.args.entry) place ∙ insert-with_entry c.self.inside.entries.items c.args.entry
 
 pub invariant_of-self : goal.invariant_of-self
-invariant_of-self c = rw (more c) (IsTable-with_entry c.self.inside.entries.items c.args.entry c.self.invariant c.requires.session c.requires.writes
+invariant_of-self c = rw (more c) (IsTable-with_entry c.self.inside.entries.items c.args.entry c.self.invariant c.requires.session (record { few = c.requires.writes; mark = c.requires.mark })
     (absent c.self.inside.entries.items c.args.entry.session (absent_is c.self.inside.entries.items c.args.entry.session (rw c.self.view_is c.requires.absent))))
 
 pub returns-clause-entry : goal.returns-clause-entry

@@ -5,7 +5,7 @@ use Rattle.txn_table.proofs.Counting.{counted_to, length-counted_to, at-counted_
 use Rattle.txn_table.proofs.table.TxnTable.count_from.Goals as goal
 
 blank : Active
-blank = record { session = 0; begin = 0; last = 0; born = 0; writes = 0 }
+blank = record { session = 0; begin = 0; last = 0; born = 0; writes = 0; mark = 0 }
 
 shown_is : (c : goal.After-deref_mut) → c.deref_mut.result.now ≡ counted_to c.args.first c.loop-place.place c.self.inside.entries.items
 shown_is c = c.deref_mut.ensures.value ∙ c.loop-place.invariant

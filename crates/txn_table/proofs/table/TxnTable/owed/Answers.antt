@@ -4,7 +4,7 @@ use Rattle.txn_table.proofs.Places.{owed_more}
 use Rattle.txn_table.proofs.table.TxnTable.owed.Goals as goal
 
 blank : Active
-blank = record { session = 0; begin = 0; last = 0; born = 0; writes = 0 }
+blank = record { session = 0; begin = 0; last = 0; born = 0; writes = 0; mark = 0 }
 
 pub overflow_add-owed : goal.overflow_add-owed
 unfolding blank

@@ -1,0 +1,15 @@
+use Rattle.std.proofs.Common.{◌≡◌, ◌+◌, ◌-◌, Option, ap, arith}
+use Rattle.std.specs.Option.{option_map_or}
+use Rattle.std.specs.Prelude.{option_map}
+use Rattle.txn_table.specs.declared.active.Active.{Active}
+use Rattle.txn_table.specs.Entries.{after_undone}
+use Rattle.txn_table.proofs.Owing.{owed_changes, owed_one, owed_at, entry_is}
+use Rattle.engine.proofs.sessions.undone.Goals as goal
+
+pub returns-clause-owed : goal.returns-clause-owed
+returns-clause-owed c =
+    let small = (entry_is c.args.active.now c.args.entry.session c.args.entry c.len-before.ensures.table c.requires.active).small in
+    let all = owed_changes c.args.active.now c.undone.new.self c.args.entry.session _ c.len-before.ensures.table c.len-after.ensures.table small c.undone.ensures.entry in
+    let was : owed_at c.args.active.now c.args.entry.session ≡ c.args.entry.writes + 1 = ap (λ (o : Option Active). option_map_or owed_one o 0) c.requires.active in
+    let is : option_map_or owed_one (option_map (λ (entry : Active). after_undone entry c.args.count c.args.lsn) _) 0 ≡ c.args.entry.writes - c.args.count + 1 = ap (λ (o : Option Active). option_map_or owed_one (option_map (λ (entry : Active). after_undone entry c.args.count c.args.lsn) o) 0) c.requires.active in
+    omega (arith, all, was, is, c.requires.count)
