@@ -156,12 +156,14 @@ pub record IsIdle (line : Line) : Type 0 where
   pub made : (s : State) → s.made ≤ (step s line []).after.made
 
 pub mark_idles : (n : ℕ) → IsIdle (Some (Mark n))
-mark_idles n = record { touches = mark_touches n; work = mark_work n; checkpoints = λ s. refl; made = λ s. run_makes s (Mark n) }
-  where
-    mark_touches : (n : ℕ) (s : State) → line_touches s (Some (Mark n)) ≡ []
-    mark_touches n s = neither (is_accepted s (Mark n)) (is_page_full s (Mark n))
+mark_idles n = record {
+  touches = λ s. neither (is_accepted s (Mark n)) (is_page_full s (Mark n));
+  work = mark_work n;
+  checkpoints = λ s. refl;
+  made = λ s. run_makes s (Mark n);
+}
 
-module _ (line : Line) (idle : IsIdle line) (old new : Engine) (site : Site) (same : new.store ≡ old.store) (going : Invariant old site) (goes_on : Invariant new site) (fits_after : (s : State) → Matches old site s → Matches new site (step s line []).after) where
+module _ (line : Line) (idle : IsIdle line) (old new : Engine) (site : Site) (same : new.store ≡ old.store) (going : Invariant old site) (goes : Invariant new site) (fits_after : (s : State) → Matches old site s → Matches new site (step s line []).after) where
   does_nothing : {T : Type 0} (h : Result T Halt) → ((dev : Dev) → IsErrOf h (halt.Stop (Worn dev)) → ⊥) → (s : State) → Matches old site s → DoesLine h s line old new site site
   does_nothing h never s fits = record {
     fits = ok_always h _ (fits_after s fits);
@@ -187,7 +189,7 @@ module _ (line : Line) (idle : IsIdle line) (old new : Engine) (site : Site) (sa
     does = does_nothing (Ok x) (λ dev says. cc);
     left = λ honest. refl;
     stays_quiet = λ honest quiet. quiet;
-    going = goes_on;
+    going = goes;
     cause = tt;
     next = λ honest is. subst (λ (t : TransactionStore). AreNext t site) (sym same) is;
     preserves = goes_nowhere site;
@@ -217,9 +219,9 @@ module _ (line : Line) (idle : IsIdle line) (old new : Engine) (site : Site) (sa
 -- a session's mark is set
 pub carries_mark : (line : Line) (n : ℕ) → line ≡ Some (Mark n) → (reply : Reply) (old new : Engine) (site : Site) → new.store ≡ old.store → Invariant old site → Invariant new site →
     ((s : State) → Matches old site s → (reply ≡ (step s (Some (Mark n)) []).reply) × Matches new site (step s (Some (Mark n)) []).after) → CarriesUntold (Ok reply) line old new site site
-carries_mark line n is reply old new site same going goes_on marks =
+carries_mark line n is reply old new site same going goes marks =
     subst (λ (l : Line). CarriesUntold (Ok reply) l old new site site) (sym is)
-    (carries_nothing (Some (Mark n)) (mark_idles n) old new site same going goes_on (λ s fits. (marks s fits).1) (Ok reply) tt
+    (carries_nothing (Some (Mark n)) (mark_idles n) old new site same going goes (λ s fits. (marks s fits).1) (Ok reply) tt
     (λ s listing asked fits. (marks s fits).0 ∙ ap (λ (o : Outcome). o.reply) (sym (same_step s (Some (Mark n)) listing refl))))
 
 -- A line that changes nothing, and asks for nothing.
@@ -227,23 +229,23 @@ pub record IsStill (line : Line) : Type 0 where
   pub after : (s : State) → (step s line []).after ≡ s
   pub idle : IsIdle line
 
-still : (line : Line) → ((s : State) → (step s line []).after ≡ s) → ((s : State) → line_touches s line ≡ []) → ((s : State) → line_work s line ≡ []) → ((s : State) → line_checkpoints s line ≡ 0) → IsStill line
-still line after touches work checkpoints = record {
+stays_still : (line : Line) → ((s : State) → (step s line []).after ≡ s) → ((s : State) → line_touches s line ≡ []) → ((s : State) → line_work s line ≡ []) → ((s : State) → line_checkpoints s line ≡ 0) → IsStill line
+stays_still line after touches work checkpoints = record {
   after = after;
   idle = record { touches = touches; work = work; checkpoints = checkpoints; made = λ s. let is = ap (λ (a : State). a.made) (after s) in omega (arith, is) };
 }
 
 pub none_idles : IsStill None
-none_idles = still None (λ s. refl) (λ s. refl) (λ s. refl) (λ s. refl)
+none_idles = stays_still None (λ s. refl) (λ s. refl) (λ s. refl) (λ s. refl)
 
 pub stat_idles : IsStill (Some Stat)
-stat_idles = still (Some Stat) (λ s. refl) (λ s. refl) stat_work (λ s. refl)
+stat_idles = stays_still (Some Stat) (λ s. refl) (λ s. refl) stat_work (λ s. refl)
 
 pub quit_idles : IsStill (Some Quit)
-quit_idles = still (Some Quit) (λ s. refl) (λ s. refl) quit_work (λ s. refl)
+quit_idles = stays_still (Some Quit) (λ s. refl) (λ s. refl) quit_work (λ s. refl)
 
 pub cache_idles : IsStill (Some Cache)
-cache_idles = still (Some Cache) (λ s. refl) (λ s. refl) cache_work (λ s. refl)
+cache_idles = stays_still (Some Cache) (λ s. refl) (λ s. refl) cache_work (λ s. refl)
 
 pub carries_idle : (line other : Line) → line ≡ other → IsStill other → (result : Result Reply Stop) (engine : Engine) (site : Site) → Invariant engine site → IfErr result (λ stop. stop ≡ Memory) →
     ((s : State) (listing : List CacheLine) → IsAsked line (listing_of engine) listing → Matches engine site s → IfOk (halted result) (λ reply. reply ≡ (step s line listing).reply)) → CarriesUntold (halted result) line engine engine site site
