@@ -1,15 +1,15 @@
 -- The run that calls are, turn by turn, and its commits.
-use Rattle.std.proofs.Common.{◌≡◌, ℕ, zero, suc, ◌+◌, ◌≤◌, Bool, true, false, List, [], ◌∷◌, ◌++◌, drop, Option, None, Some, refl, sym, subst, ◌∙◌, arith}
+use Rattle.std.proofs.Common.{◌≡◌, ℕ, zero, suc, ◌+◌, ◌≤◌, Bool, true, false, List, [], ◌∷◌, ◌++◌, drop, Option, None, Some, refl, sym, ap, subst, ◌∙◌, arith}
 use Rattle.std.specs.Prelude.{if◌then◌else◌}
 use Rattle.record_model.specs.declared.words.CacheLine.{CacheLine}
 use Rattle.record_model.specs.declared.words.Command.{Command}
-use Rattle.record_model.specs.declared.words.Command.TheVariants.{Begin, Read, Write, Erase, Scan, Commit, Abort, Get, Set, Checkpoint, Cache, Stat, Quit}
+use Rattle.record_model.specs.declared.words.Command.TheVariants.{Begin, Read, Write, Erase, Scan, Commit, Abort, Mark, Back, Get, Set, Checkpoint, Cache, Stat, Quit}
 use Rattle.record_model.specs.declared.words.Reply.{Reply}
 use Rattle.record_model.specs.State.{State, content_at, seen}
-use Rattle.record_model.specs.Step.{Outcome, answer, lacks_room, ready, refusal, outcome, step}
+use Rattle.record_model.specs.Step.{Outcome, answer, carried_through, fills_page, full, lacks_room, ready, refusal, outcome, step}
 use Rattle.record_model.specs.Run.{Turn, turn, turns, state_at, is_cache, is_quit, is_committed, next_listing, later_listings}
 use Rattle.record_model.specs.Laws.{IsCountedIn}
-use Rattle.record_model.proofs.StepLaws.{commits_once, found_is, IsNoCommit, refusals}
+use Rattle.record_model.proofs.StepLaws.{commits_once, found_is, IsNoCommit, page_refusals, refusals}
 use Rattle.record_model.proofs.RunLaws.{IsRun}
 use Rattle.engine.specs.Listings.{listing_of}
 use Rattle.database.specs.Serving.{meaning}
@@ -18,10 +18,16 @@ use Rattle.database.specs.Course.{Call, begun, is_answer, lines_of, listings_of,
 -- A turn.
 
 -- but for the cache command, what is answered doesn't depend on a listing
+same_through : (s : State) (command : Command) (listing : List CacheLine) (o : Option Reply) → is_cache (Some command) ≡ false → carried_through s command listing o ≡ carried_through s command [] o
+same_through s command listing (Some refused) other = refl
+same_through s Cache listing None other = absurd cc
+same_through s command listing None other = refl
+
 same_outcome : (s : State) (command : Command) (listing : List CacheLine) (o : Option Reply) → is_cache (Some command) ≡ false → outcome s command listing o ≡ outcome s command [] o
 same_outcome s command listing (Some refused) other = refl
-same_outcome s Cache listing None other = absurd cc
-same_outcome s command listing None other = refl
+same_outcome s command listing None other =
+    let now = ready s command in
+    ap (λ (o : Outcome). if lacks_room now command then record { after = now; reply = full now } else o) (same_through now command listing (fills_page now command) other)
 
 -- the listing of a call is the first one, and it takes it away
 told : (s : State) (command : Command) (listing : List CacheLine) (later : List (List CacheLine)) (b : Bool) → is_cache (Some command) ≡ b →
@@ -101,6 +107,8 @@ answers_none s (Erase n number) listing h = refl
 answers_none s (Scan n number count) listing h = refl
 answers_none s (Commit n) listing h = absurd cc
 answers_none s (Abort n) listing h = refl
+answers_none s (Mark n) listing h = refl
+answers_none s (Back n standing) listing h = refl
 answers_none s (Get number) listing h = found_is (content_at s.table number)
 answers_none s (Set number value) listing h = absurd cc
 answers_none s Checkpoint listing h = refl
@@ -111,7 +119,15 @@ answers_none s Quit listing h = refl
 commits_none : (s : State) (command : Command) (listing : List CacheLine) (o : Option Reply) → IsNoCommit o → may_commit command ≡ false → is_committed (outcome s command listing o).reply ≡ false
 unfolding IsNoCommit
 commits_none s command listing (Some refused) harmless h = harmless
-commits_none s command listing None harmless h = chosen_reply (lacks_room (ready s command) command) _ _ refl (answers_none (ready s command) command listing h)
+commits_none s command listing None harmless h = chosen_reply (lacks_room now command) _ _ refl (through (fills_page now command) (page_refusals now command))
+  where
+    abbrev now : State
+    now = ready s command
+
+    through : (o : Option Reply) → IsNoCommit o → is_committed (carried_through now command listing o).reply ≡ false
+    unfolding IsNoCommit
+    through (Some refused) harmless = harmless
+    through None harmless = answers_none now command listing h
 
 pub counts_few : (s : State) (call : Call) → (turn_of s call).after.commits ≤ s.commits + (if may_commit call.command then 1 else 0)
 counts_few s call = by (may_commit call.command) refl

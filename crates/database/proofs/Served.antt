@@ -1,6 +1,6 @@
 -- One call, by what its engine says of it.
-use Rattle.std.proofs.Common.{◌≡◌, ◌≢◌, inl, ◌+◌, ◌≤◌, Bool, true, false, true≢false, List, [], ℕ, le_refl, refl, sym, ap, subst, ◌∙◌, arith}
-use Rattle.std.specs.Prelude.{◌||◌, Result, Ok, Err, IfOk, IfErr, Some}
+use Rattle.std.proofs.Common.{◌≡◌, ◌≢◌, inl, ⊎_elim, ◌+◌, ◌≤◌, Bool, true, false, true≢false, List, [], ℕ, le_refl, refl, sym, ap, subst, ◌∙◌, arith}
+use Rattle.std.specs.Prelude.{◌||◌, if◌then◌else◌, Result, Ok, Err, IfOk, IfErr, Some}
 use Rattle.std_lemmas.proofs.Results.{on_ok}
 use Rattle.site.specs.declared.geometry.Geometry.{Geometry}
 use Rattle.site.specs.declared.outside.Dev.{Dev}
@@ -12,16 +12,21 @@ use Rattle.site.proofs.Laws.{leaves_weaker}
 use Rattle.site.specs.Work.{Calls}
 use Rattle.site.proofs.Working.{calls_nothing, calls_refused, err_as, of_error}
 use Rattle.record_model.specs.State.{State}
-use Rattle.record_model.specs.Step.{Outcome}
+use Rattle.record_model.specs.Step.{Outcome, is_accepted, is_page_full, step}
 use Rattle.record_model.specs.Run.{is_quit}
 use Rattle.record_model.specs.Touches.{CacheOp, command_touches}
 use Rattle.record_model.specs.declared.words.Command.{Command}
+use Rattle.record_model.specs.declared.words.Command.TheVariants.{Mark}
 use Rattle.record_model.specs.declared.words.Reply.{Reply}
 use Rattle.record_model.specs.declared.words.Reply.TheVariants.{Done}
 use Rattle.image_meaning.specs.Moments.{LeavesTableUnder}
 use Rattle.page_store.proofs.StagingLaws.{stages_none}
 use Rattle.page_store.specs.Stopping.{MayStop}
+use Rattle.ring_machine.specs.Machine.{RingOp}
 use Rattle.ring_machine.specs.Commands.{command_work}
+use Rattle.redo_laws.specs.MachineSteps.{StepsMachine}
+use Rattle.redo_laws.specs.Numbers.{SkipsNone}
+use Rattle.redo_undo.specs.declared.store.TransactionStore.{TransactionStore}
 use Rattle.ring_machine.proofs.Performing.{performs_nothing}
 use Rattle.redo_laws.proofs.Asking.{asks_nothing}
 use Rattle.redo_laws.proofs.CallsInSequence.{nothing_happens}
@@ -30,7 +35,7 @@ use Rattle.redo_undo.proofs.NextUnits.{next_nothing, next_refused}
 use Rattle.redo_undo.specs.Mirroring.{PerformsStore}
 use Rattle.redo_undo.specs.StoreCalls.{KeepsNext}
 use Rattle.engine.specs.declared.engine.Engine.{Engine}
-use Rattle.engine.proofs.RingCounts.{count_nothing, count_refused}
+use Rattle.engine.proofs.RingCounts.{count_nothing, count_refused, run_makes}
 use Rattle.engine.specs.Invariant.{Invariant, sizes_of}
 use Rattle.engine.specs.Representation.{Matches}
 use Rattle.engine.specs.Leaves.{LeavesTable, LeavesEither}
@@ -114,6 +119,45 @@ module _ (r : Result Reply Stop) (memory : IfErr r (λ stop. stop ≡ Memory)) (
       asks = asks_nothing r engine.store.pages site site (λ d. refl) (stages_none (on_ok r _ refl) (le_refl _) refl);
       does = record { after_fits = on_ok r (Matches engine site s) fits; ends = idle_ends r memory; numbers = idle_counts r };
     }
+
+-- A mark makes none of the site either, and leaves log and pages as they were.
+
+none_asked : {X : Type 0} (accepted full : Bool) → (if accepted then [] else (if full then [] else [])) ≡ ([] : List X)
+none_asked true full = refl
+none_asked false true = refl
+none_asked false false = refl
+
+module _ (reply : Reply) (old new : Engine) (site : Site) (n : ℕ) (same : new.store ≡ old.store) where
+  pub mark_keeps : Invariant new site → KeepsEngine (Ok reply) old new site site
+  mark_keeps going = record {
+    calls = calls_nothing;
+    going = going;
+    sizes = ap sizes_of same;
+    stops = tt;
+    next = λ honest. subst (λ (j : TransactionStore). KeepsNext {T = Reply} (Ok reply) old.store j site site) (sym same) next_nothing;
+  }
+
+  pub mark_performs : (s : State) → PerformsStore (Ok reply) (command_work s (Mark n)) old.store new.store site site
+  mark_performs s =
+      subst (λ (w : List RingOp). PerformsStore {T = Reply} (Ok reply) w old.store new.store site site) (sym (none_asked (is_accepted s (Mark n)) (is_page_full s (Mark n))))
+      (subst (λ (j : TransactionStore). PerformsStore {T = Reply} (Ok reply) [] old.store j site site) (sym same) (idle_performs (Ok reply) tt old site))
+
+  pub mark_contract : (s : State) → Invariant old site → Matches old site s → reply ≡ (step s (Mark n) []).reply → Matches new site (step s (Mark n) []).after →
+      CommandContract (Ok reply) old new site site s (step s (Mark n) []) (command_touches s (Mark n)) (LeavesEither (sizes_of old.store) s (step s (Mark n) []).after site.told) 0
+  mark_contract s going fits answers fits_after =
+      let after = (step s (Mark n) []).after in
+      record {
+        reply = answers;
+        asks = subst (λ (w : List CacheOp). StepsMachine {T = Reply} (Ok reply) w old.store.pages new.store.pages site site) (sym (none_asked (is_accepted s (Mark n)) (is_page_full s (Mark n))))
+            (subst (λ (j : TransactionStore). StepsMachine {T = Reply} (Ok reply) [] old.store.pages j.pages site site) (sym same) (idle_contract (Ok reply) tt old site s going fits reply refl).asks);
+        does = record {
+          after_fits = fits_after;
+          ends = ends_ok (λ quiet. leaves_weaker site site (LeavesEither (sizes_of old.store) s s site.told) (LeavesEither (sizes_of old.store) s after site.told) (λ snapshot left. record { told = left.told; stands = inl (⊎_elim (λ a. a) (λ a. a) left.stands) }) ((idle_contract (Ok reply) tt old site s going fits reply refl).does.any_moment quiet));
+          numbers = λ quiet.
+              let none = count_nothing {E = Stop} reply old site s after fits going quiet (run_makes s (Mark n)) in
+              record { records = none.records; made = none.made; skips = subst (λ (j : TransactionStore). SkipsNone {T = Reply} {E = Stop} (Ok reply) (sizes_of old.store) old.store.log j.log site site none.records 0) (sym same) none.skips };
+        };
+      }
 
 -- Calls of the database.
 

@@ -12,7 +12,7 @@ use Rattle.record_model.specs.Serial.{IsSerial}
 use Rattle.record_model.specs.declared.words.CacheLine.{CacheLine}
 use Rattle.record_model.specs.declared.words.Command.{Command}
 use Rattle.record_model.specs.declared.words.Command.TheVariants.{Begin, Read, Write, Erase, Scan, Commit, Abort, Get}
-use Rattle.record_model.specs.declared.words.Command.TheVariants.{Set, Checkpoint, Cache, Stat, Quit}
+use Rattle.record_model.specs.declared.words.Command.TheVariants.{Set, Checkpoint, Cache, Stat, Quit, Mark, Back}
 use Rattle.record_model.specs.declared.words.Reply.{Reply}
 use Rattle.engine.specs.Image.{Stands}
 use Rattle.engine.specs.Listings.{listing_of}
@@ -86,6 +86,8 @@ may_commit (Erase n number) = false
 may_commit (Scan n number count) = false
 may_commit (Commit n) = true
 may_commit (Abort n) = false
+may_commit (Mark n) = false
+may_commit (Back n standing) = false
 may_commit (Get number) = false
 may_commit (Set number value) = true
 may_commit Checkpoint = false

@@ -85,6 +85,28 @@ impl<S: Site + Drop> Database<S> {
         settle(&mut self.closed, answer)
     }
 
+    /// A session's mark is set behind its writes that stand: `back` goes back to it.
+    pub fn mark(&mut self, session: u32) -> Result<Reply, Unanswered>
+        ensures serves { Serves (Command.Mark session) result self.old self.new }
+    {
+        if self.closed {
+            return Err(Unanswered::Closed);
+        }
+        Ok(self.engine.mark(session))
+    }
+
+    /// A session's writes are dropped, the last one first, but for those in front of its mark, or but for the first
+    /// `standing` ones. The session goes on, and keeps all its locks.
+    pub fn back(&mut self, session: u32, standing: Option<u32>) -> Result<Reply, Unanswered>
+        ensures serves { Serves (Command.Back session standing) result self.old self.new }
+    {
+        if self.closed {
+            return Err(Unanswered::Closed);
+        }
+        let answer = self.engine.back(&mut self.site, session, standing);
+        settle(&mut self.closed, answer)
+    }
+
     /// What a record has in the table.
     pub fn get(&mut self, number: u32) -> Result<Reply, Unanswered>
         ensures serves { Serves (Command.Get number) result self.old self.new }

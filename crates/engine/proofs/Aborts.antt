@@ -19,7 +19,7 @@ use Rattle.redo_undo.specs.declared.store.TransactionStore.{TransactionStore}
 use Rattle.engine.specs.declared.engine.Engine.{Engine}
 use Rattle.redo_undo.specs.Stores.{Represents}
 use Rattle.redo_undo.specs.StoreRollback.{ConcernsOnly, RollsBack}
-use Rattle.engine.specs.Representation.{Matches, RunOn, SessionIs, SessionsAre, updated}
+use Rattle.engine.specs.Representation.{Matches, SessionIs, SessionsAre, updated}
 use Rattle.txn_table.proofs.Owing.{entry_is}
 use Rattle.engine.proofs.Locks.{released}
 use Rattle.engine.proofs.Actives.{some_active}
@@ -35,7 +35,6 @@ others_go_on newest kept txn before now concerns (Some entry) (Some session) oth
   count = is.count;
   mark = is.mark;
   wrote = is.wrote ∙ ap updated (sym (concerns.entries entry.begin (other entry refl)));
-  runs_on = subst RunOn (sym (concerns.left entry.begin (other entry refl))) is.runs_on;
 }
 
 -- A session's transaction was undone, and the session ends.

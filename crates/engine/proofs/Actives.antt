@@ -8,16 +8,15 @@ use Rattle.record_model.specs.State.{Session, State, session_at}
 use Rattle.record_model.specs.Step.{making, with_session}
 use Rattle.log_records.specs.declared.log_record.LogRecord.TheVariants.{Begin}
 use Rattle.log_records.specs.Log.{Entry, is_of, entries_of}
-use Rattle.log_records.specs.Unfinished.{left_open, open_by, open_updates}
 use Rattle.log_laws.specs.Follow.{IsActive, IsFresh}
 use Rattle.log_laws.proofs.Losers.{active_begun, active_stays, entries_other, entries_own, loser_stays}
 use Rattle.log_laws.proofs.Appends.{fresh_entries}
-use Rattle.log_laws.proofs.Owing.{left_push, owed_begin}
+use Rattle.log_laws.proofs.Owing.{owed_begin}
 use Rattle.txn_table.specs.declared.active.Active.{Active}
 use Rattle.txn_table.specs.Entries.{entry_of, ChangesOnly}
 use Rattle.txn_table.specs.Entries as entries
 use Rattle.image_meaning.specs.Meaning.{master_of}
-use Rattle.engine.specs.Representation.{IsUnderWay, RunOn, SessionIs, SessionsAre, updated}
+use Rattle.engine.specs.Representation.{IsUnderWay, SessionIs, SessionsAre, updated}
 
 -- what is active in one is in the other
 pub none_active : (newest : Option Master) (records : List Entry) (active : List Active) (s : State) → SessionsAre newest records active s → (n : ℕ) → entry_of active n ≡ None → session_at s n ≡ None
@@ -53,7 +52,6 @@ others_stay newest kept records e (Some entry) (Some session) other is = record 
   count = is.count;
   mark = is.mark;
   wrote = is.wrote ∙ ap updated (sym (entries_other records e entry.begin (other entry refl)));
-  runs_on = subst RunOn (sym (left_push records e entry.begin ∙ ap (λ (b : Bool). cond b (open_by (left_open records entry.begin) e e.rec) (left_open records entry.begin)) (other entry refl))) is.runs_on;
 }
 
 -- a transaction that is under way isn't fresh
@@ -83,7 +81,6 @@ begun newest records old new s n lsn made entry are small none changes owes fres
             count = writes;
             mark = mark;
             wrote = sym (ap (λ (t : ℕ). updated (entries_of t (records ++ e ∷ []))) begin ∙ ap updated (entries_own records e lsn (eq-eqb lsn lsn refl) ∙ ap (λ (l : List Entry). l ++ e ∷ []) (fresh_entries lsn records fresh)));
-            runs_on = subst RunOn (sym (ap (left_open (records ++ e ∷ [])) begin ∙ none_left)) tt;
           }))))
           (λ differ. subst (λ (a : Option Active). SessionIs newest s.kept (records ++ e ∷ []) a (slice_index_or (slice_set s.sessions n (Some session)) m None)) (sym (changes.others m differ))
           (subst (λ (o : Option Session). SessionIs newest s.kept (records ++ e ∷ []) (entry_of old m) o) (sym (get_or-set_other s.sessions n m (Some session) None differ))
@@ -106,11 +103,6 @@ begun newest records old new s n lsn made entry are small none changes owes fres
           (cases_eq i n);
     }
   where
-    none_left : left_open (records ++ record { lsn = lsn; rec = Begin } ∷ []) lsn ≡ []
-    none_left =
-        left_push records (record { lsn = lsn; rec = Begin }) lsn ∙ ap (λ (b : Bool). cond b (left_open records lsn) (left_open records lsn)) (eq-eqb lsn lsn refl)
-        ∙ ap (open_updates []) (fresh_entries lsn records fresh)
-
     other_begin : (m : ℕ) (other : Active) → entry_of old m ≡ Some other → other.begin ≢ lsn
     other_begin m other is = let found = some_active newest records old s are m other is in not_fresh newest s.kept records other found.session lsn found.under_way fresh
 

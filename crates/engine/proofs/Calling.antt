@@ -290,10 +290,10 @@ does_no_memory {A = A} {B = B} {a = a} {stop = stop} {old = old} {new = new} {be
 -- Leaves of the tower.
 
 -- a crash at the commit leaves the table of before, or the one with what was written
-pub late_commit : (g g' : Geometry) (old mid : Site) (s : State) (number : ℕ) (after : Content) (writes : List Write) → g' ≡ g → writes ≡ (number, after) ∷ [] → LeavesOnly old mid (LeavesTable g s.table s.commits old.told) →
+pub late_commit : (g g' : Geometry) (old mid : Site) (s : State) (number : ℕ) (after : Content) (writes : List Write) → g' ≡ g → table_with s.table writes ≡ table_with s.table ((number, after) ∷ []) → LeavesOnly old mid (LeavesTable g s.table s.commits old.told) →
     (snapshot : Snapshot) → moments.LeavesEitherFor g' s.table (table_with s.table writes) s.commits mid.told snapshot → LeavesEither g s (making 3 (committed s ((number, after) ∷ []))) old.told snapshot
 late_commit g g' old mid s number after writes same are begun snapshot q = record {
   told = q.told ∙ (holds_now old mid (LeavesTable g s.table s.commits old.told) begun).told;
   stands = ⊎_elim (λ before. inl (subst (λ (x : Geometry). Stands x snapshot.image s.table s.commits) same before))
-      (λ done. inr (subst (λ (x : Geometry). Stands x snapshot.image (table_with s.table ((number, after) ∷ [])) (s.commits + 1)) same (subst (λ (ws : List Write). Stands g' snapshot.image (table_with s.table ws) (s.commits + 1)) are done))) q.stands;
+      (λ done. inr (subst (λ (x : Geometry). Stands x snapshot.image (table_with s.table ((number, after) ∷ [])) (s.commits + 1)) same (subst (λ (t : List Content). Stands g' snapshot.image t (s.commits + 1)) are done))) q.stands;
 }

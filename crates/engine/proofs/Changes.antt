@@ -8,16 +8,15 @@ use Rattle.std.proofs.lemmas.Bool.{ne_eqb, eq-eqb, cases_eq}
 use Rattle.record_model.specs.State.{Content, Session, State, Write, session_at}
 use Rattle.record_model.specs.Step.{making, with_session, having_written}
 use Rattle.log_records.specs.declared.log_record.LogRecord.TheVariants.{Update}
-use Rattle.log_records.specs.Log.{Entry, entries_of, txn_of, is_loser, is_closing, is_on, after_of}
-use Rattle.log_records.specs.Unfinished.{left_open}
+use Rattle.log_records.specs.Log.{Entry, entries_of, txn_of, is_loser, is_closing}
 use Rattle.log_laws.specs.Follow.{IsActive, CanBeUndone}
 use Rattle.log_laws.proofs.Losers.{active_writes, active_owes, entries_own, loser_stays, loser_is_closed}
-use Rattle.log_laws.proofs.Owing.{left_push, owed_update, owed_closing}
+use Rattle.log_laws.proofs.Owing.{owed_update, owed_closing}
 use Rattle.txn_table.specs.declared.active.Active.{Active}
 use Rattle.txn_table.specs.Entries.{entry_of, ChangesOnly, after_write}
 use Rattle.txn_table.specs.Entries as entries
 use Rattle.image_meaning.specs.Meaning.{master_of}
-use Rattle.engine.specs.Representation.{RunOn, SessionIs, SessionsAre, updated}
+use Rattle.engine.specs.Representation.{SessionIs, SessionsAre, updated}
 use Rattle.engine.proofs.Actives.{some_active, others_stay}
 use Rattle.engine.proofs.Updated.{updated_more}
 
@@ -27,9 +26,9 @@ other_txn newest records active s are n m own other at_n at_m ne same = ne (are.
 
 -- A session writes.
 pub wrote_more : (newest : Option Master) (records : List Entry) (old new : List Active) (s : State) (n lsn page slot : ℕ) (entry : Active) (before after : Content) → SessionsAre newest records old s → n < 8 → entry_of old n ≡ Some entry → ChangesOnly old new n (Some (after_write entry lsn)) → entries.owed new ≡ entries.owed old + 1 →
-    CanBeUndone (records ++ record { lsn = lsn; rec = Update entry.begin entry.last page slot before after } ∷ []) entry.begin → ((x : Entry) → find (is_on (32 * page + slot)) (left_open records entry.begin) ≡ Some x → before ≡ after_of x.rec) →
+    CanBeUndone (records ++ record { lsn = lsn; rec = Update entry.begin entry.last page slot before after } ∷ []) entry.begin →
     SessionsAre newest (records ++ record { lsn = lsn; rec = Update entry.begin entry.last page slot before after } ∷ []) new (making 1 (with_session s n (option_map (having_written (32 * page + slot, after)) (session_at s n))))
-wrote_more newest records old new s n lsn page slot entry before after are small at changes owes undone known =
+wrote_more newest records old new s n lsn page slot entry before after are small at changes owes undone =
     let e : Entry = record { lsn = lsn; rec = Update entry.begin entry.last page slot before after } in
     let found = some_active newest records old s are n entry at in
     let session = found.session in
@@ -48,8 +47,7 @@ wrote_more newest records old new s n lsn page slot entry before after are small
             born = under.born;
             count = omega (arith, under.count, length-append session.writes (write ∷ []));
             mark = under.mark;
-            wrote = ap (λ (l : List ℕ). l ++ 32 * page + slot ∷ []) under.wrote ∙ sym (ap updated (entries_own records e entry.begin (eq-eqb entry.begin entry.begin refl)) ∙ updated_more (entries_of entry.begin records) e);
-            runs_on = subst RunOn (sym one_left) ((λ number on x found. known x (ap (λ (k : ℕ). find (is_on k) (left_open records entry.begin)) (same_Some (32 * page + slot) number on) ∙ found)), under.runs_on);
+            wrote = ap (λ (l : List ℕ). l ++ (32 * page + slot) ∷ []) under.wrote ∙ sym (ap updated (entries_own records e entry.begin (eq-eqb entry.begin entry.begin refl)) ∙ updated_more (entries_of entry.begin records) e);
           }))))
           (λ differ. subst (λ (a : Option Active). SessionIs newest s.kept (records ++ e ∷ []) a (slice_index_or (slice_set s.sessions n now) m None)) (sym (changes.others m differ))
           (subst (λ (o : Option Session). SessionIs newest s.kept (records ++ e ∷ []) (entry_of old m) o) (sym (get_or-set_other s.sessions n m now None differ))
@@ -63,11 +61,6 @@ wrote_more newest records old new s n lsn page slot entry before after are small
       differ = λ i j a b at_i at_j same. let before_i = was i a at_i in let before_j = was j b at_j in are.differ i j before_i.0 before_j.0 before_i.1 before_j.1 (before_i.2 ∙ same ∙ sym before_j.2);
     }
   where
-    one_left : left_open (records ++ record { lsn = lsn; rec = Update entry.begin entry.last page slot before after } ∷ []) entry.begin ≡ record { lsn = lsn; rec = Update entry.begin entry.last page slot before after } ∷ left_open records entry.begin
-    one_left =
-        left_push records (record { lsn = lsn; rec = Update entry.begin entry.last page slot before after }) entry.begin
-        ∙ ap (λ (b : Bool). cond b (record { lsn = lsn; rec = Update entry.begin entry.last page slot before after } ∷ left_open records entry.begin) (left_open records entry.begin)) (eq-eqb entry.begin entry.begin refl)
-
     -- the entry that it was
     was : (i : ℕ) (a : Active) → entry_of new i ≡ Some a → (b : Active) × (entry_of old i ≡ Some b) × (b.begin ≡ a.begin)
     was i a is = ⊎_elim

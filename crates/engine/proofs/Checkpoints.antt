@@ -24,7 +24,7 @@ use Rattle.redo_laws.specs.Holding.{blocks_to}
 use Rattle.engine.specs.declared.engine.Engine.{Engine}
 use Rattle.engine.specs.Invariant.{Invariant, sizes_of}
 use Rattle.redo_undo.specs.Stores.{MayWork, HasCheckpoint}
-use Rattle.engine.specs.Representation.{Matches, LocksAre, RunOn, SessionIs, SessionsAre, checkpointed_if, updated}
+use Rattle.engine.specs.Representation.{Matches, LocksAre, SessionIs, SessionsAre, checkpointed_if, updated}
 use Rattle.log_records.specs.Unfinished.{open_updates}
 use Rattle.engine.proofs.Actives.{some_active}
 use Rattle.engine.proofs.Namings.{no_active, pair_of, pairs_of}
@@ -159,7 +159,6 @@ sessions_outlive newest master records active new s first are table named keeps 
       count = is.count;
       mark = is.mark;
       wrote = is.wrote ∙ ap updated (sym (keeps.entries entry.begin (active_is_loser (master_of newest) records entry.begin entry.last session.writes is.is_active)));
-      runs_on = subst RunOn (sym (ap (open_updates []) (keeps.entries entry.begin (active_is_loser (master_of newest) records entry.begin entry.last session.writes is.is_active)))) is.runs_on;
     }
 
 pub fits_after : (old new : Engine) (site site' : Site) (s : State) (first : ℕ) (fits : Matches old site s) → IsTable old.active → LetsGo old first → IsTrue site'.honest →

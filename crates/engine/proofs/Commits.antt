@@ -1,12 +1,14 @@
 -- A session's commit.
 use Rattle.std.proofs.Common.{◌≡◌, ℕ, ◌+◌, ◌++◌, ◌∷◌, [], List, None, Some, inl, inr, ⊎_elim, refl, sym, ap, subst, ◌∙◌, arith, IsTrue}
 use Rattle.site.specs.State.{State as Site, Snapshot}
-use Rattle.record_model.specs.State.{State, Write, session_at, writes_of, table_with}
+use Rattle.record_model.specs.State.{Content, State, session_at, writes_of, table_with}
 use Rattle.record_model.specs.Step.{effect, with_session}
 use Rattle.record_model.specs.declared.words.Command.TheVariants as command
 use Rattle.log_records.specs.Log.{Entry}
 use Rattle.log_records.specs.declared.log_record.LogRecord.TheVariants.{Commit}
-use Rattle.log_laws.specs.Follow.{writes_in}
+use Rattle.log_laws.specs.Follow.{standing_in, writes_in}
+use Rattle.log_laws.proofs.StandingTables.{table_stands}
+use Rattle.image_meaning.specs.Meaning.{versions_on}
 use Rattle.lock_table.specs.declared.lock.Lock.{Lock}
 use Rattle.lock_table.specs.Locks.{ReleasesAll}
 use Rattle.txn_table.specs.declared.active.Active.{Active}
@@ -25,6 +27,7 @@ use Rattle.txn_table.proofs.Owing.{entry_is}
 use Rattle.engine.proofs.Locks.{released}
 use Rattle.engine.proofs.Changes.{closed}
 use Rattle.engine.proofs.Actives.{some_active}
+use Rattle.engine.proofs.Meanings.{stands_for, table_is, undoable}
 
 -- a session's transaction may be committed
 pub may_commit : (engine : Engine) (site : Site) (s : State) (entry : Active) (fits : Matches engine site s) → entry_of engine.active entry.session ≡ Some entry → MayCommit fits.newest fits.records entry.begin (engine.commits + 1) s.commits
@@ -32,11 +35,14 @@ may_commit engine site s entry fits at =
     let found = some_active fits.newest fits.records engine.active s fits.sessions entry.session entry at in
     record { begun = found.under_way.is_active.lives; chain = found.under_way.is_active.chain; number_is = ap (λ (n : ℕ). n + 1) fits.counts.commits }
 
--- its writes are the session's
-pub writes_are : (engine : Engine) (site : Site) (s : State) (entry : Active) (fits : Matches engine site s) → entry_of engine.active entry.session ≡ Some entry → writes_in entry.begin fits.records ≡ writes_of (session_at s entry.session)
+-- it leaves what the session's writes leave
+pub writes_are : (engine : Engine) (site : Site) (s : State) (entry : Active) (fits : Matches engine site s) → entry_of engine.active entry.session ≡ Some entry → table_with s.table (writes_in entry.begin fits.records) ≡ table_with s.table (writes_of (session_at s entry.session))
 writes_are engine site s entry fits at =
     let found = some_active fits.newest fits.records engine.active s fits.sessions entry.session entry at in
-    sym (ap writes_of found.is ∙ found.under_way.is_active.writes_are)
+    let active = found.under_way.is_active in
+    let versions = versions_on (sizes_of engine.store) site.image in
+    stands_for (writes_in entry.begin fits.records) (standing_in entry.begin fits.records) (table_is engine.store site fits.newest fits.records s.table s.commits fits.holds) (table_stands fits.records versions entry.begin (undoable engine.store site fits.newest fits.records s.table s.commits fits.holds) active.lives.not_closed active.chain)
+    ∙ ap (table_with s.table) (sym (ap writes_of found.is ∙ active.writes_are))
 
 pub commits_either : (engine : Engine) {old : Site} (s : State) (entry : Active) (fits : Matches engine old s) → entry_of engine.active entry.session ≡ Some entry → (snapshot : Snapshot) →
     moments.LeavesEitherFor (sizes_of engine.store) s.table (table_with s.table (writes_in entry.begin fits.records)) s.commits old.told snapshot → LeavesEither (sizes_of engine.store) s (effect s (command.Commit entry.session)) old.told snapshot
@@ -44,7 +50,7 @@ commits_either engine {old = old} s entry fits at snapshot q =
     let g = sizes_of engine.store in
     record {
       told = q.told;
-      stands = ⊎_elim (λ before. inl before) (λ after. inr (subst (λ (ws : List Write). Stands g snapshot.image (table_with s.table ws) (s.commits + 1)) (writes_are engine old s entry fits at) after)) q.stands;
+      stands = ⊎_elim (λ before. inl before) (λ after. inr (subst (λ (t : List Content). Stands g snapshot.image t (s.commits + 1)) (writes_are engine old s entry fits at) after)) q.stands;
     }
 
 pub committed_fits : (engine mid last : Engine) (old new : Site) (s : State) (entry : Active) (lsn : ℕ) (fits : Matches engine old s) → IsTable engine.active → entry_of engine.active entry.session ≡ Some entry → IsTrue new.honest →
@@ -65,7 +71,7 @@ committed_fits engine mid last old new s entry lsn fits table at honest holds re
       newest = fits.newest;
       records = fits.records ++ e ∷ [];
       holds = subst (λ (j : TransactionStore). Represents j new fits.newest (fits.records ++ e ∷ []) (table_with s.table (writes_of (session_at s n))) (s.commits + 1)) (sym store_is)
-          (subst (λ (ws : List Write). Represents mid.store new fits.newest (fits.records ++ e ∷ []) (table_with s.table ws) (s.commits + 1)) (writes_are engine old s entry fits at) holds);
+          (subst (λ (t : List Content). Represents mid.store new fits.newest (fits.records ++ e ∷ []) t (s.commits + 1)) (writes_are engine old s entry fits at) holds);
       counts = record {
         commits = commits_is ∙ commits ∙ ap (λ (k : ℕ). k + 1) fits.counts.commits;
         made = let store_made = ap (λ (j : TransactionStore). j.made) store_is in let before = fits.counts.made in omega (arith, store_made, made, before);

@@ -1,4 +1,5 @@
 pub mod Aborts
+pub mod Backs
 pub mod Actives
 pub mod Changes
 pub mod Calling

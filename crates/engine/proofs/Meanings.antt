@@ -8,7 +8,7 @@ use Rattle.std.proofs.lemmas.List.FromFn.{length-map-range_with_len}
 use Rattle.std.proofs.lemmas.Option.{none-some, same_Some}
 use Rattle.std.proofs.lemmas.Bool.{cases_eq, and_from, ne_eqb}
 use Rattle.site.specs.State.{State as Site}
-use Rattle.record_model.specs.State.{Content, Session, State, Write, writes_of, wrote_of, content_at, seen, last_write}
+use Rattle.record_model.specs.State.{Content, Session, State, Write, writes_of, wrote_of, content_at, seen, last_write, table_with}
 use Rattle.record_model.specs.State as model
 use Rattle.log_records.specs.Log.{Entry, is_closed, table_of, value_of}
 use Rattle.log_laws.specs.Follow.{IsFree, IsFreeFor, IsUndoable, IsFresh}
@@ -18,7 +18,8 @@ use Rattle.log_laws.specs.Tail.{next_lsn, whole}
 use Rattle.log_laws.proofs.Orderly as orderly
 use Rattle.log_laws.proofs.Tails.{tail_without_commit, whole_is_undoable, whole_in_order}
 use Rattle.log_laws.proofs.Tables.{content_of_table}
-use Rattle.log_laws.proofs.Shown.{shown_is_seen, shown_is_value, writer_is_loser}
+use Rattle.log_laws.proofs.Shown.{shown_is_value, writer_is_loser}
+use Rattle.log_laws.proofs.StandingTables.{shown_stands}
 use Rattle.log_store.specs.Representation.{end_of}
 use Rattle.lock_table.specs.declared.lock.Lock.{Lock}
 use Rattle.lock_table.specs.Locks as locks
@@ -54,6 +55,10 @@ table_is store site newest records table commits h =
     let p = logical_image_under newest (sizes_of store) site.image log.blocks in
     log.runs_on.means.table_is ∙ sym (tail_without_commit p log.tail log.runs_on.carries log.runs_on.no_commit)
     ∙ ap (λ (l : List Entry). table_of l (versions_on (sizes_of store) site.image)) log.runs_on.records_are
+
+-- so two lists of writes leave the same of both
+pub stands_for : {table other : List Content} (first later : List Write) → table ≡ other → table_with other first ≡ table_with other later → table_with table first ≡ table_with table later
+stands_for first later same is = ap (λ (t : List Content). table_with t first) same ∙ is ∙ ap (λ (t : List Content). table_with t later) (sym same)
 
 pub undoable : (store : TransactionStore) (site : Site) (newest : Option Master) (records : List Entry) (table : List Content) (commits : ℕ) (h : Represents store site newest records table commits) → IsUndoable records
 undoable store site newest records table commits h =
@@ -178,8 +183,8 @@ seen_is engine site s fits n number own table less at none =
     let under = session.under_way.is_active in
     ap (λ (o : Option Session). unwrap_or (last_write (writes_of o) number) (content_at s.table number)) session.is
     ∙ ap (λ (ws : List Write). unwrap_or (last_write ws number) (content_at s.table number)) under.writes_are
-    ∙ ap (λ (x : Content). unwrap_or (last_write (follow.writes_in own.begin fits.records) number) x) (value_is engine site s fits number less)
-    ∙ sym (shown_is_seen fits.records versions own.begin number (undoable engine.store site fits.newest fits.records s.table s.commits fits.holds) under.lives.not_closed (free_for fits.newest fits.records engine.active s fits.sessions table n number own at none))
+    ∙ ap (λ (x : Content). unwrap_or (last_write (follow.standing_in own.begin fits.records) number) x) (value_is engine site s fits number less)
+    ∙ sym (shown_stands fits.records versions own.begin (undoable engine.store site fits.newest fits.records s.table s.commits fits.holds) under.lives.not_closed under.chain number (free_for fits.newest fits.records engine.active s fits.sessions table n number own at none))
 
 -- so does one outside sessions
 pub got_is : (engine : Engine) (site : Site) (s : State) (fits : Matches engine site s) (number : ℕ) → IsTable engine.active → number < 32 * (sizes_of engine.store).pages → model.busy_read s None number ≡ None →

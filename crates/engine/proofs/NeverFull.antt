@@ -5,6 +5,7 @@ use Rattle.std.specs.List.{AllByRecursion, cons_option, range_with_len}
 use Rattle.std.proofs.Math.Bool.{and-false}
 use Rattle.std.proofs.lemmas.Bool.{le-ltb}
 use Rattle.std.proofs.lemmas.List.FromFn.{length-range_with_len}
+use Rattle.std.proofs.lemmas.List.Sums.{sum_by-cons}
 use Rattle.std_lemmas.proofs.AllOf.{all_append, all_reverse}
 use Rattle.byte_fields.specs.declared.TheConstants.{VALUE_MAX}
 use Rattle.site.specs.State.{State as Site}
@@ -81,7 +82,7 @@ short_session newest kept records forms (Some entry) (Some session) is = subst (
 
 sum_few : (f : ℕ → ℕ) → ((n : ℕ) → f n ≤ 120) → (numbers : List ℕ) → sum_by f numbers ≤ 120 * length numbers
 sum_few f each [] = omega arith
-sum_few f each (n ∷ numbers) = let rest = sum_few f each numbers in omega (arith, each n, rest)
+sum_few f each (n ∷ numbers) = let rest = sum_few f each numbers in omega (arith, each n, rest, sum_by-cons f n numbers)
 
 module _ (engine : Engine) (site : Site) (s : State) (fits : Matches engine site s) (number : ℕ) (value : List ℕ) (short : length value ≤ VALUE_MAX) where
   writes_short : AllByRecursion IsShortWrite (standing_writes s)

@@ -1,5 +1,5 @@
 -- What commands make of the machine that mirrors the database.
-use Rattle.std.proofs.Common.{◌≡◌, ℕ, ◌+◌, Bool, false, List, [], ◌∷◌, ◌++◌, flat_map, append_assoc, Some, None, sym, ap, ◌∙◌, arith, ◌*◌, ◌<◌, ◌≤◌, ◌-◌, ◌==◌, true≢false, IsTrue}
+use Rattle.std.proofs.Common.{◌≡◌, ℕ, ◌+◌, Bool, false, List, [], ◌∷◌, ◌++◌, flat_map, append_assoc, Some, None, refl, sym, ap, ◌∙◌, arith, ◌*◌, ◌<◌, ◌≤◌, ◌-◌, ◌==◌, true≢false, IsTrue}
 use Rattle.std.specs.Prelude.{Option, Result, Ok, Err, if◌then◌else◌}
 use Rattle.std.specs.List.{range_with_len, list_any}
 use Rattle.std.proofs.lemmas.Grind.{flat_map-append}
@@ -10,7 +10,7 @@ use Rattle.site.specs.State.{Image, State as Site}
 use Rattle.site.proofs.Working.{no_error}
 use Rattle.record_model.specs.declared.words.Command.{Command}
 use Rattle.record_model.specs.declared.words.Reply.{Reply}
-use Rattle.record_model.specs.State.{State, Content, Write, content_at, seen}
+use Rattle.record_model.specs.State.{State, Content, content_at, seen}
 use Rattle.record_model.specs.Step.{asks_for_checkpoint, fills_page, lacks_room, refusal}
 use Rattle.ring_machine.specs.Machine.{RingOp}
 use Rattle.ring_machine.specs.Commands.{reads, saves, command_work}
@@ -22,22 +22,23 @@ use Rattle.redo_undo.specs.Mirroring.{MirrorsStore}
 use Rattle.engine.specs.Representation.{checkpointed_if, Matches}
 use Rattle.engine.proofs.Replies.{work_behind, worked}
 use Rattle.engine.proofs.Scans.{range_more, range_at}
-use Rattle.std.proofs.lemmas.Bool.{false_from_ne_true}
-use Rattle.log_records.specs.Log.{Entry, Version}
-use Rattle.log_laws.specs.Follow.{IsFree, IsActive}
+use Rattle.std.proofs.lemmas.Bool.{eq-eqb, false_from_ne_true}
+use Rattle.log_records.specs.Log.{Entry, Version, is_on}
+use Rattle.log_laws.specs.Follow.{IsFree, IsFresh}
 use Rattle.log_laws.specs.Follow as follow
 use Rattle.log_laws.proofs.Tables.{content_of_table}
-use Rattle.log_laws.proofs.Losers.{active_begun}
+use Rattle.log_laws.proofs.Appends.{fresh_entries, has_written_is}
+use Rattle.log_laws.proofs.Losers.{entries_own}
 use Rattle.log_laws.proofs.Shown.{shown_is_value}
 use Rattle.image_meaning.proofs.Versions.{length-versions}
 use Rattle.lock_table.specs.Locks as locks
 use Rattle.txn_table.specs.declared.active.Active.{Active}
 use Rattle.txn_table.specs.Entries.{IsTable, entry_of}
 use Rattle.log_store.specs.Representation.{end_of}
-use Rattle.image_meaning.specs.Meaning.{versions_on, master_of}
+use Rattle.image_meaning.specs.Meaning.{versions_on}
 use Rattle.redo_undo.specs.Stores.{Represents, shown_in, sizes_of}
 use Rattle.engine.specs.declared.engine.Engine.{Engine}
-use Rattle.engine.proofs.Meanings.{begins_late, busy_write_is, free, fresh_behind, seen_is, table_is}
+use Rattle.engine.proofs.Meanings.{busy_write_is, free, fresh_behind, seen_is, table_is}
 use Rattle.site.specs.declared.geometry.Geometry.{Geometry}
 use Rattle.engine.proofs.Settings.{begin_at, free_begun, unwritten}
 use Rattle.engine.proofs.Writes.{may_read_too, touched_fits}
@@ -103,11 +104,11 @@ set_there engine old s number fits table less unlocked txn behind store site siz
     versions : List Version
     versions = versions_on (sizes_of store) site.image
 
-    begun : IsActive (master_of fits.newest) log txn txn []
-    begun = active_begun (master_of fits.newest) fits.records txn (fresh_behind engine.store old fits.newest fits.records s.table s.commits txn fits.holds behind) (begins_late engine.store old fits.newest fits.records s.table s.commits txn fits.holds behind)
+    fresh : IsFresh txn fits.records
+    fresh = fresh_behind engine.store old fits.newest fits.records s.table s.commits txn fits.holds behind
 
     none_own : follow.has_written log txn number ≡ false
-    none_own = ap (list_any (λ (write : Write). write.0 == number)) (sym begun.writes_are)
+    none_own = has_written_is log txn number ∙ ap (list_any (is_on number)) (entries_own fits.records (begin_at txn) txn (eq-eqb txn txn refl) ∙ ap (λ (l : List Entry). l ++ begin_at txn ∷ []) (fresh_entries txn fits.records fresh))
 
     none : IsFree log number
     none t lives = false_from_ne_true (follow.has_written log t number) (λ written.

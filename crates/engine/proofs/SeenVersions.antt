@@ -11,7 +11,8 @@ use Rattle.log_laws.specs.Follow.{IsFree, IsFreeFor, IsUndoable}
 use Rattle.log_laws.proofs.Appends.{has_written_is}
 use Rattle.log_laws.proofs.Chains.{none_any}
 use Rattle.log_laws.proofs.Lists.{some_or_none}
-use Rattle.log_laws.proofs.Shown.{shown_is_seen, shown_is_value}
+use Rattle.log_laws.proofs.Shown.{shown_is_value}
+use Rattle.log_laws.proofs.StandingTables.{shown_stands}
 use Rattle.log_laws.proofs.Values.{last_is_own, update_of}
 use Rattle.checkpoint.specs.declared.master.Master.{Master}
 use Rattle.txn_table.specs.declared.active.Active.{Active}
@@ -73,8 +74,8 @@ module _ (engine : Engine) (site : Site) (s : State) (fits : Matches engine site
       sym (ap (λ (o : Option Session). list_any (λ (wrote : ℕ). wrote == number) (wrote_of o)) session.is
       ∙ ap (λ (ws : List ℕ). list_any (λ (wrote : ℕ). wrote == number) ws) session.under_way.wrote
       ∙ updated_is fits.records own.begin number under.chain) ∙ wrote in
-      shown_is_seen fits.records versions own.begin number undo under.lives.not_closed (one_writer fits.records own.begin number undo under.lives.not_closed written)
-      ∙ ap (λ (x : Content). unwrap_or (last_write (follow.writes_in own.begin fits.records) number) x) (sym (value_is engine site s fits number less))
+      shown_stands fits.records versions own.begin undo under.lives.not_closed under.chain number (one_writer fits.records own.begin number undo under.lives.not_closed written)
+      ∙ ap (λ (x : Content). unwrap_or (last_write (follow.standing_in own.begin fits.records) number) x) (sym (value_is engine site s fits number less))
       ∙ ap (λ (ws : List Write). unwrap_or (last_write ws number) (content_at s.table number)) (sym under.writes_are)
       ∙ ap (λ (o : Option Session). unwrap_or (last_write (writes_of o) number) (content_at s.table number)) (sym session.is)
 

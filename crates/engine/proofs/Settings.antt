@@ -19,6 +19,7 @@ use Rattle.log_laws.specs.Follow as follow
 use Rattle.log_laws.proofs.Appends.{begin_follows}
 use Rattle.log_laws.proofs.Owing.{owed_begin, owed_update, owed_closing}
 use Rattle.log_laws.proofs.Losers.{entries_other, active_begun, active_may_write, active_writes, active_owes, loser_is_closed}
+use Rattle.log_laws.proofs.StandingTables.{table_stands}
 use Rattle.log_laws.proofs.Values.{closed_same}
 use Rattle.lock_table.specs.declared.lock.Lock.{Lock}
 use Rattle.lock_table.specs.Locks as locks
@@ -36,7 +37,7 @@ use Rattle.redo_undo.specs.Stores.{Represents, MayGrow, shown_in, update_by}
 use Rattle.redo_undo.specs.StoreRollback.{ConcernsOnly}
 use Rattle.engine.specs.OneWrite.{HasOneWrite}
 use Rattle.engine.specs.Representation.{Matches, SessionsAre, LocksAre}
-use Rattle.engine.proofs.Meanings.{busy_write_is, begins_late, free, fresh_behind, none_of, undoable}
+use Rattle.engine.proofs.Meanings.{busy_write_is, begins_late, free, fresh_behind, none_of, stands_for, table_is, undoable}
 use Rattle.log_laws.proofs.Follow.{undoable_behind}
 use Rattle.engine.proofs.Actives.{some_active, not_fresh}
 use Rattle.engine.proofs.Aborts.{others_go_on}
@@ -133,7 +134,7 @@ module _ (engine : Engine) (old : Site) (s : State) (number : ℕ) (fits : Match
       record {
         log = log ++ e ∷ [];
         fresh = fresh;
-        concerns = concerns_more fits.newest txn fits.records log e refl (concerns_more fits.newest txn fits.records fits.records (begin_at txn) refl (record { under_way = λ t last writes differ active. active; losers = λ t differ. refl; left = λ t differ. refl }));
+        concerns = concerns_more fits.newest txn fits.records log e refl (concerns_more fits.newest txn fits.records fits.records (begin_at txn) refl (record { under_way = λ t last writes differ active. active; losers = λ t differ. refl; left = λ t differ. refl; entries = λ t differ. refl }));
         holds = holds;
         last = lsn;
         active = subst (λ (n : ℕ). IsActive (master_of fits.newest) (log ++ e ∷ []) txn lsn ((n, after) ∷ [])) place (active_writes (master_of fits.newest) log lsn txn txn (number / 32) (number % 32) [] before after begun
@@ -159,6 +160,14 @@ unconcerned newest records log active s txn are fresh concerns closed same = rec
 pub may_commit_one : (store : TransactionStore) (site : Site) (newest : Option Master) (records : List Entry) (table : List Content) (commits txn number next : ℕ) (after : Content) (w : HasOneWrite store site newest records table commits txn number after) → next ≡ commits → MayCommit newest w.log txn (next + 1) commits
 may_commit_one store site newest records table commits txn number next after w is = record { begun = w.active.lives; chain = w.active.chain; number_is = ap (λ (n : ℕ). n + 1) is }
 
+-- It leaves the one write.
+pub sets_one : {store : TransactionStore} {site : Site} {newest : Option Master} {records : List Entry} {table : List Content} {commits txn number : ℕ} {after : Content} (w : HasOneWrite store site newest records table commits txn number after) →
+    table_with table (writes_in txn w.log) ≡ table_with table ((number, after) ∷ [])
+sets_one {store = store} {site = site} {newest = newest} {table = table} {commits = commits} {txn = txn} w =
+    let versions = versions_on (sizes_of store) site.image in
+    stands_for (writes_in txn w.log) (follow.standing_in txn w.log) (table_is store site newest w.log table commits w.holds) (table_stands w.log versions txn (undoable store site newest w.log table commits w.holds) w.active.lives.not_closed w.active.chain)
+    ∙ ap (table_with table) (sym w.active.writes_are)
+
 -- It is committed.
 pub set_fits : (engine one last : Engine) (old between new : Site) (s : State) (number txn lsn : ℕ) (after : Content) (fits : Matches engine old s) (w : HasOneWrite one.store between fits.newest fits.records s.table s.commits txn number after) → IsTrue new.honest →
     Represents last.store new fits.newest (w.log ++ record { lsn = lsn; rec = Commit txn (one.commits + 1) } ∷ []) (table_with s.table (writes_in txn w.log)) (s.commits + 1) →
@@ -178,7 +187,7 @@ set_fits engine one last old between new s number txn lsn after fits w honest ho
       honest = honest;
       newest = fits.newest;
       records = log;
-      holds = subst (λ (ws : List Write). Represents last.store new fits.newest log (table_with s.table ws) (s.commits + 1)) (sym w.active.writes_are) holds;
+      holds = subst (λ (t : List Content). Represents last.store new fits.newest log t (s.commits + 1)) (sets_one w) holds;
       counts = record {
         commits = commits ∙ ap (λ (n : ℕ). n + 1) (ap (λ (x : Engine). x.commits) rest_one ∙ fits.counts.commits);
         made = omega (arith, made_last, made_one, fits.counts.made);

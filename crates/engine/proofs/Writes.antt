@@ -32,8 +32,6 @@ use Rattle.redo_undo.specs.Stores.{Represents, MayGrow, shown_in, update_by}
 use Rattle.engine.specs.Representation.{Matches, LocksAre, SessionIs, SessionsAre, with_write, with_read}
 use Rattle.engine.proofs.Actives.{some_active}
 use Rattle.engine.proofs.Changes.{wrote_more}
-use Rattle.engine.proofs.Undoing.{last_seen}
-use Rattle.log_records.specs.Unfinished.{left_open}
 use Rattle.engine.proofs.Locks.{at_set}
 use Rattle.engine.proofs.Meanings.{busy_write_is, free_for, undoable}
 use Rattle.txn_table.proofs.Owing.{entry_is}
@@ -167,9 +165,7 @@ write_fits engine last old new s entry number lsn before after fits table at hon
     let more : SessionsAre fits.newest (fits.records ++ e ∷ []) last.active (with_write s n (number, after)) =
     subst (λ (k : ℕ). SessionsAre fits.newest (fits.records ++ e ∷ []) last.active (with_write s n (k, after))) (page_and_slot number)
     (wrote_more fits.newest fits.records engine.active last.active s n lsn (number / 32) (number % 32) entry before after fits.sessions small at changes owes
-    ((undoable last.store new fits.newest (fits.records ++ e ∷ []) s.table s.commits holds).undone entry.begin)
-    (λ x found_there. there ∙ ap (λ (o : Option Session). unwrap_or (last_write (writes_of o) number) (content_at s.table number)) found.is
-    ∙ ap (λ (o : Option Content). unwrap_or o (content_at s.table number)) (last_seen found.under_way number x (ap (λ (k : ℕ). find (is_on k) (left_open fits.records entry.begin)) (sym (page_and_slot number)) ∙ found_there)))) in
+    ((undoable last.store new fits.newest (fits.records ++ e ∷ []) s.table s.commits holds).undone entry.begin)) in
     record {
       honest = honest;
       newest = fits.newest;
@@ -194,7 +190,7 @@ read_more newest records active s n number entry are small at =
           (λ (same : m ≡ n). subst (λ (k : ℕ). SessionIs newest s.kept records (entry_of active k) (slice_index_or (slice_set s.sessions n now) k None)) (sym same)
           (subst (λ (a : Option Active). SessionIs newest s.kept records a (slice_index_or (slice_set s.sessions n now) n None)) (sym at)
           (subst (λ (o : Option Session). SessionIs newest s.kept records (Some entry) o) (sym (get_or-set_same s.sessions n now None (omega (arith, small, are.count)) ∙ ap (option_map (having_read (number ∷ []))) found.is))
-          (record { is_active = under.is_active; born = under.born; count = under.count; mark = under.mark; wrote = under.wrote; runs_on = under.runs_on }))))
+          (record { is_active = under.is_active; born = under.born; count = under.count; mark = under.mark; wrote = under.wrote}))))
           (λ differ. subst (λ (o : Option Session). SessionIs newest s.kept records (entry_of active m) o) (sym (get_or-set_other s.sessions n m now None differ)) (are.each m))
           (cases_eq m n);
       all = are.all;

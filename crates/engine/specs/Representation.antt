@@ -1,5 +1,5 @@
 -- The database of an honest site, and the model's state.
-use Rattle.std.specs.Prelude.{◌≡◌, ℕ, ◌+◌, ◌<◌, List, [], ◌∷◌, length, filter_map, find, Option, Some, None, option_map, IsTrue, ⊤}
+use Rattle.std.specs.Prelude.{◌≡◌, ℕ, ◌+◌, ◌<◌, List, [], ◌∷◌, length, filter_map, Option, Some, None, option_map, IsTrue, ⊤}
 use Rattle.std.specs.Prelude.{Bool, if◌then◌else◌}
 use Rattle.site.specs.State.{State as Site}
 use Rattle.record_model.specs.State.{Session, State, Write, session_at, kept_by_checkpoint}
@@ -11,7 +11,7 @@ use Rattle.record_model.specs.Touches.{command_touches, record_touches}
 use Rattle.ring_machine.specs.Commands.{command_work, record_work}
 use Rattle.record_model.specs.declared.words.Reply.{Reply}
 use Rattle.record_model.specs.declared.words.Reply.TheVariants as reply
-use Rattle.log_records.specs.Log.{Entry, entries_of, updates_in, is_loser, is_on, number_of, before_of, after_of}
+use Rattle.log_records.specs.Log.{Entry, entries_of, updates_in, is_loser, number_of}
 use Rattle.log_laws.specs.Follow.{IsActive}
 use Rattle.checkpoint.specs.declared.master.Master.{Master}
 use Rattle.image_meaning.specs.Meaning.{master_of}
@@ -23,13 +23,6 @@ use Rattle.txn_table.specs.Entries as entries
 use Rattle.log_records.specs.Unfinished as unfinished
 use Rattle.engine.specs.declared.engine.Engine.{Engine}
 use Rattle.redo_undo.specs.Stores.{Represents}
-
--- Of these Updates, the last one first, one that is on a record that an earlier one is on begins with what the last
--- such one left there.
-abbrev pub RunOn : List Entry → Type 0
-RunOn [] = ⊤
-RunOn (u ∷ earlier) = ((number : ℕ) → number_of u.rec ≡ Some number → (e : Entry)
-    → find (is_on number) earlier ≡ Some e → before_of u.rec ≡ after_of e.rec) × RunOn earlier
 
 -- the record of each Update of these entries
 abbrev pub updated : List Entry → List ℕ
@@ -45,7 +38,6 @@ pub record IsUnderWay (newest : Option Master) (kept : ℕ) (records : List Entr
   pub mark : entry.mark ≡ session.mark
   -- it has written the record of each Update, of those too that no longer stand
   pub wrote : session.wrote ≡ updated (entries_of entry.begin records)
-  pub runs_on : RunOn (unfinished.left_open records entry.begin)
 
 -- a session is active in both or in neither
 abbrev pub SessionIs : Option Master → ℕ → List Entry → Option Active → Option Session → Type 0

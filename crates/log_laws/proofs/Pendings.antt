@@ -91,7 +91,7 @@ none_there : (n : ℕ) (xs : List Entry) → AllByRecursion (λ v. v.lsn < n) xs
 none_there n [] all = refl
 none_there n (x ∷ xs) all = grind (arith, ne_eqb, (none_there n xs all.1))
 
-not_closing : (rec : LogRecord) → is_clr rec ≡ true → (is_closing rec ≡ false) × (is_update rec ≡ false)
+pub not_closing : (rec : LogRecord) → is_clr rec ≡ true → (is_closing rec ≡ false) × (is_update rec ≡ false)
 not_closing (Clr txn prev undo_next page slot after) clr = (refl, refl)
 not_closing _ clr = absurd (true≢false (sym clr))
 

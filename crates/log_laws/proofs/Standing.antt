@@ -24,7 +24,7 @@ writes_of us = filter_map (λ e. write_of e.rec) (reverse us)
 pub writes_more : (u : Entry) (us : List Entry) → writes_of (u ∷ us) ≡ writes_of us ++ filter_map (λ e. write_of e.rec) (u ∷ [])
 writes_more u us = ap (filter_map (λ e. write_of e.rec)) (reverse-append (u ∷ []) us) ∙ filter_map-append (λ e. write_of e.rec) (reverse us) (u ∷ [])
 
-abbrev AreUpdates : List Entry → Type 0
+abbrev pub AreUpdates : List Entry → Type 0
 AreUpdates us = AllByRecursion (λ u. is_update u.rec ≡ true) us
 
 one_write : (u : Entry) → is_update u.rec ≡ true → length (filter_map (λ e. write_of e.rec) (u ∷ [])) ≡ 1
@@ -88,7 +88,7 @@ open_are_updates us (e ∷ entries) all = by e.rec refl (λ vs are. open_are_upd
     by (Commit txn number) is f = f us all
     by (End txn) is f = f us all
 
-left_are_updates : (log : List Entry) (t : ℕ) → AreUpdates (left_open log t)
+pub left_are_updates : (log : List Entry) (t : ℕ) → AreUpdates (left_open log t)
 left_are_updates log t = open_are_updates [] (entries_of t log) tt
 
 pub standing_count : (log : List Entry) (t : ℕ) → length (standing_in t log) ≡ length (left_open log t)

@@ -1,13 +1,12 @@
 -- No value that log and pages hold is longer than values may be.
 use Rattle.std.proofs.Common.{◌≡◌, ℕ, ◌+◌, ◌*◌, ◌/◌, ◌%◌, ◌<◌, ◌≤◌, Bool, true, false, List, [], ◌∷◌, ◌++◌, length, Option, None, Some, refl, sym, ap, subst, ◌∙◌, arith, ⊎_elim}
-use Rattle.std.specs.Prelude.{if◌then◌else◌}
+use Rattle.std.specs.Prelude.{IfSome, if◌then◌else◌}
 use Rattle.std.specs.List.{AllByRecursion, range_with_len}
 use Rattle.std.proofs.lemmas.Bool.{cases_lt}
 use Rattle.std.proofs.lemmas.List.{get_or_past}
 use Rattle.std_lemmas.proofs.AllOf.{all_append, all_each, all_filter, all_map}
 use Rattle.site.specs.State.{State}
 use Rattle.site.specs.declared.geometry.Geometry.{Geometry}
-use Rattle.byte_fields.specs.declared.TheConstants.{VALUE_MAX}
 use Rattle.record_model.specs.State.{Content, content_at}
 use Rattle.log_records.specs.declared.log_record.LogRecord.{LogRecord}
 use Rattle.log_records.specs.declared.log_record.LogRecord.TheVariants.{Begin, Update, Clr, Commit, End}
@@ -58,7 +57,7 @@ short_before (End txn) form = tt
 
 -- The slots of versions.
 
-of_length : (content : Content) → content_length content ≤ VALUE_MAX → IsShort content
+of_length : {most : ℕ} (content : Content) → content_length content ≤ most → IfSome content (λ value. length value ≤ most)
 of_length None few = tt
 of_length (Some value) few = few
 

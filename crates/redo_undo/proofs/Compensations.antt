@@ -173,7 +173,7 @@ module _ (log : LogStore) (pages : PageStore) (site : State) (newest : Option Ma
 
 -- it was logged
 pub undone : (g : Geometry) (log : LogStore) (pages : PageStore) (image : Image) (site : State) (newest : Option Master) (records : List Entry) (table : List Content) (commits : ℕ) (x : Unfinished) (at : UndoCursor) (u : Entry) (rest : List Entry) (w : Wanted) (lsn : ℕ) →
-    IsUnfinished records x → IsAt at x → x.chain ≡ u ∷ rest → is_update u.rec ≡ true → 0 < x.remaining → IsWanted g image newest records x u w → x.last ≤ lsn →
+    IsUnfinished records x → IsAt at x → x.chain ≡ u ∷ rest → is_update u.rec ≡ true → 0 < x.remaining → IsWanted g image newest records x u w → x.last < lsn →
     Represents log pages site newest (records ++ record { lsn = lsn; rec = Clr at.txn at.last w.prev w.page w.slot w.before } ∷ []) table commits →
     owed records ≡ owed (records ++ record { lsn = lsn; rec = Clr at.txn at.last w.prev w.page w.slot w.before } ∷ []) + 1 →
     (AreOrderly records → AreOrderly (records ++ record { lsn = lsn; rec = Clr at.txn at.last w.prev w.page w.slot w.before } ∷ [])) → Undone log pages site newest records table commits x (record { txn = at.txn; last = lsn; next = w.prev })
@@ -188,8 +188,9 @@ undone g log pages image site newest records table commits x at u rest w lsn unf
       clr = refl;
       own = is.txn;
       holds = holds;
-      left = clr_is_written records x unfinished u rest e split update refl is.txn (sym wanted.back) late;
+      left = clr_is_written records x unfinished u rest e split update refl is.txn (sym wanted.back) (omega (arith, late));
       at = record { txn = is.txn; last = refl; next = refl };
+      later = late;
       fewer = omega (arith, some);
       owes = owes;
       orderly = orderly;

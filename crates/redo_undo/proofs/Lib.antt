@@ -15,6 +15,7 @@ pub mod NextRecords
 pub mod TakenRecords
 pub mod LeftUpdates
 pub mod UndoSoFar
+pub mod UpTo
 pub mod UndoneUpdates
 pub mod RedoWorks
 pub mod UndoneNumbers

@@ -3,10 +3,11 @@ use Rattle.log_laws.proofs.Losers.{loser_is_closed, loser_is_not_closed, loser_s
 use Rattle.log_laws.proofs.Owing.{owed_closing}
 use Rattle.log_laws.proofs.UndoingSteps.{chain_ends, undo_end}
 use Rattle.log_laws.proofs.UndoingSteps.{none_remains as nothing_remains}
-use Rattle.std.proofs.Common.{◌≡◌, ◌≢◌, ℕ, ◌+◌, ◌-◌, ◌≤◌, true, List, [], ◌∷◌, ◌++◌, length, refl, sym, ap, subst, ◌∙◌, arith, append_assoc, append-nil, Option}
+use Rattle.std.proofs.Common.{◌≡◌, ◌≢◌, ℕ, ◌+◌, ◌-◌, ◌^◌, ◌≤◌, true, List, [], ◌∷◌, ◌++◌, length, refl, sym, ap, subst, ◌∙◌, arith, append_assoc, append-nil, Option}
 use Rattle.std.proofs.lemmas.Bool.{ne_eqb}
 use Rattle.std.proofs.lemmas.List.{length-append}
 use Rattle.site.specs.State.{State}
+use Rattle.site.specs.declared.geometry.Geometry.{Geometry}
 use Rattle.record_model.specs.State.{Content}
 use Rattle.log_records.specs.declared.log_record.LogRecord.TheVariants.{End}
 use Rattle.log_records.specs.Log.{Entry, txn_of, is_loser}
@@ -20,7 +21,7 @@ use Rattle.page_store.specs.declared.store.PageStore.{PageStore}
 use Rattle.checkpoint.specs.declared.master.Master.{Master}
 use Rattle.image_meaning.specs.Meaning.{logical_image_under, master_of, versions_on}
 use Rattle.redo_undo.specs.declared.undo.UndoCursor.{UndoCursor}
-use Rattle.redo_laws.specs.Holding.{Represents, MayGrow, blocks_to}
+use Rattle.redo_laws.specs.Holding.{Invariant, Represents, MayGrow, blocks_to}
 use Rattle.redo_undo.specs.Undoing.{IsAt, Undone, Passed}
 use Rattle.redo_undo.specs.Rollback.{AreClrsOf, Compensates, RollsBack}
 use Rattle.redo_undo.proofs.Compensations.{chain}
@@ -122,6 +123,17 @@ module _ (log : LogStore) (pages : PageStore) (site : State) (newest : Option Ma
           no_commit = refl;
           room = omega (arith, owes_less lsn, c.holds.log_holds.room);
         })
+
+-- a log has blocks for all Updates of an unfinished transaction that are left
+pub few_left : (log : LogStore) (pages : PageStore) (site : State) (newest : Option Master) (records : List Entry) (table : List Content) (commits : ℕ) → Represents log pages site newest records table commits → Invariant log pages site → (x : Unfinished) → IsUnfinished records x →
+    length (left_open records x.txn) ≤ 2 ^ 64 - 1
+few_left log pages site newest records table commits h going x unfinished =
+    let owes = owed_closing records (record { lsn = 0; rec = End x.txn }) refl (loser_is_not_closed records x.txn unfinished.loser) (chain log pages site newest records table commits h x unfinished) in
+    let all = ap (λ (k : Geometry). k.blocks) going.sizes in
+    let room = h.log_holds.room in
+    let kept = going.log_going.kept in
+    let most = going.log_going.limits.blocks in
+    omega (arith, owes, all, room, kept, most)
 
 -- all other transactions are as they were
 others_stay : (records clrs : List Entry) (txn t : ℕ) → t ≢ txn → AreClrsOf txn clrs → is_loser (records ++ clrs) t ≡ is_loser records t

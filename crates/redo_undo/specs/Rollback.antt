@@ -43,13 +43,14 @@ pub record CompensatesUpTo (log : LogStore) (pages : PageStore) (site : State) (
   pub many : length made.clrs ≡ min count (length (left_open records txn))
 
 -- The last Updates of a transaction that are left are undone, so many: the log has a CLR for each, the last of them at
--- this LSN where there is one, the pages show that, and the others are left.
+-- this LSN where there is one, the pages show that, and the others are left. It is unfinished as before.
 pub record UndoesLast (log : LogStore) (pages : PageStore) (site : State) (newest : Option Master)
     (records : List Entry) (table : List Content) (commits : ℕ) (txn count : ℕ) (last : ℕ) : Type 0 where
   pub clrs : List Entry
   pub own : AreClrsOf txn clrs
   pub many : length clrs ≡ count
   pub holds : Represents log pages site newest (records ++ clrs) table commits
+  pub loser : is_loser (records ++ clrs) txn ≡ true
   pub last_is : last ≡ last_lsn (entries_of txn (records ++ clrs))
   pub left : left_open (records ++ clrs) txn ≡ drop count (left_open records txn)
   pub owes : owed (records ++ clrs) + count ≡ owed records

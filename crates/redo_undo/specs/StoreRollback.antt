@@ -16,6 +16,7 @@ pub record ConcernsOnly (newest : Option Master) (txn : ℕ) (before now : List 
       → IsActive (master_of newest) now t last writes
   pub losers : (t : ℕ) → t ≢ txn → is_loser now t ≡ is_loser before t
   pub left : (t : ℕ) → t ≢ txn → left_open now t ≡ left_open before t
+  pub entries : (t : ℕ) → t ≢ txn → entries_of t now ≡ entries_of t before
 
 -- A transaction of so many writes is undone, and its End is logged. It owes nothing any more.
 pub record RollsBack (store : TransactionStore) (site : State) (newest : Option Master) (records : List Entry)

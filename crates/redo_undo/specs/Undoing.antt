@@ -67,6 +67,7 @@ pub record Undone (log : LogStore) (pages : PageStore) (site : State) (newest : 
   pub holds : Represents log pages site newest (records ++ e ∷ []) table commits
   pub left : IsUnfinished (records ++ e ∷ []) (after_clr x e)
   pub at : IsAt now (after_clr x e)
+  pub later : x.last < now.last
   pub fewer : (after_clr x e).remaining + 1 ≡ x.remaining
   pub owes : owed records ≡ owed (records ++ e ∷ []) + 1
   pub orderly : AreOrderly records → AreOrderly (records ++ e ∷ [])

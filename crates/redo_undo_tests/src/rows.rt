@@ -15,7 +15,7 @@ use log_store::LogStore;
 use mem_site::MemSite;
 use page_store::PageStore;
 use record_model::Octets;
-use redo_undo::{fits_front, log_change, log_record, redo, touch, undo_all, undo_one};
+use redo_undo::{fits_front, log_change, log_record, redo, touch, undo_all, undo_one, undo_to};
 use site::{Dev, Geometry, Site, Stop};
 use std::alloc::Global;
 
@@ -47,6 +47,9 @@ pub(crate) enum Row {
     Redo(u64),
     // A transaction is undone, from its last record, which is sealed, on.
     Undo(u64, u64),
+    // The last Updates of a transaction that are left are undone, so many, from its last record on, which is sealed.
+    // Its last record has this LSN then.
+    UndoTo(u64, u64, u64, u64),
     // The unfinished transactions are undone, and so many are left.
     UndoAll(usize),
     // Whether a slot has a value whose first octet is this one.
@@ -210,6 +213,24 @@ fn undo<S: Site>(
     Ok(true)
 }
 
+// Undoes the last Updates of a transaction from a record on that is sealed, and answers the LSN of its last record.
+fn undo_last<S: Site>(
+    log: &mut LogStore,
+    pages: &mut PageStore,
+    site: &mut S,
+    txn: u64,
+    last: u64,
+    count: u64,
+) -> Result<u64, Stop>
+    requires going { Invariant log.old pages.old (S.state site.old) }
+    ensures going { OnOk result (Invariant log.new pages.new (S.state site.new)) }
+{
+    if last >= log.sealed_end() {
+        return Err(Stop::Foreign);
+    }
+    undo_to(site, log, pages, txn, last, count)
+}
+
 // Whether a slot has a value whose first octet is this one.
 fn has_value<S: Site>(
     log: &mut LogStore,
@@ -324,6 +345,9 @@ fn carry_out<S: Site>(alloc: Global, life: &mut Life, site: &mut S, row: Row) ->
             Ok(change_and_undo(&mut life.log, &mut life.pages, site, txn)? == lsn)
         }
         Row::Undo(txn, last) => undo(&mut life.log, &mut life.pages, site, txn, last),
+        Row::UndoTo(txn, last, count, lsn) => {
+            Ok(undo_last(&mut life.log, &mut life.pages, site, txn, last, count)? == lsn)
+        }
         Row::Value(slot, octet, wanted) => {
             Ok(has_value(&mut life.log, &mut life.pages, site, slot, octet)? == wanted)
         }

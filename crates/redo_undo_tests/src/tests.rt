@@ -13,8 +13,9 @@ ghost use Rattle.redo_undo.specs.Stores.{MayWork, MayLog, sizes_of};
 use crate::rows;
 use crate::rows::{Row, run};
 use crate::undo_tests::{
-    ANOTHERS_CLR, ANOTHERS_UPDATE, BEHIND_A_CLR, BEHIND_A_CLR_RESTARTED, COMPENSATED, FROM_A_CLR,
-    NONE, TWO, TWO_CLRS, TWO_CLRS_RESTARTED,
+    ANOTHERS_CLR, ANOTHERS_UPDATE, BACK_AND_RESTARTED, BACK_OVER_A_CLR, BACK_TO_A_CLR, BACK_TWICE,
+    BEHIND_A_CLR, BEHIND_A_CLR_RESTARTED, COMPENSATED, FROM_A_CLR, NONE, TWO, TWO_CLRS,
+    TWO_CLRS_RESTARTED,
 };
 use checkpoint::{Master, Pairs, newest};
 use log_records::LogRecord;
@@ -263,7 +264,7 @@ fn a_checkpoint_of_no_transaction_keeps_no_block(rt: HostRuntime) -> Result<(), 
 }
 
 // The tests by their names.
-const TESTS: [(&str, &[Row]); 12] = [
+const TESTS: [(&str, &[Row]); 16] = [
     ("two_transactions_are_undone_from_the_last_update_on", TWO),
     ("a_transaction_with_a_clr_is_undone", COMPENSATED),
     ("an_update_behind_a_clr_is_undone", BEHIND_A_CLR),
@@ -274,6 +275,13 @@ const TESTS: [(&str, &[Row]); 12] = [
     ("two_clrs_are_passed_over", TWO_CLRS),
     ("two_clrs_are_passed_over_at_restart", TWO_CLRS_RESTARTED),
     ("a_transaction_is_undone_from_a_clr_on", FROM_A_CLR),
+    (
+        "an_update_is_undone_and_then_all_at_restart",
+        BACK_AND_RESTARTED,
+    ),
+    ("two_updates_are_undone_in_turn_and_then_all", BACK_TWICE),
+    ("a_clr_between_two_updates_is_passed_over", BACK_OVER_A_CLR),
+    ("none_or_one_update_is_undone", BACK_TO_A_CLR),
     ("where_none_is_unfinished_nothing_is_logged", NONE),
     ("a_change_is_seen", SEEN),
     ("a_transaction_is_undone", UNDONE),

@@ -118,6 +118,83 @@ pub(crate) const FROM_A_CLR: &[Row] = &[
     Row::PageLsn(514),
 ];
 
+// Two Updates at 3 and 30, of which the last one is undone by the CLR at 514: the other one is left. The transaction
+// writes on at 546. All of it is sealed, and at the restart the five records are redone, and the Updates at 546 and 3
+// are undone, by CLRs at 1026 and 1058.
+pub(crate) const BACK_AND_RESTARTED: &[Row] = &[
+    Row::Begin(2),
+    Row::Update(3, 2, 2, 5),
+    Row::Update(30, 2, 3, 6),
+    Row::Reopen,
+    Row::UndoTo(2, 30, 1, 514),
+    Row::Value(6, 0x07, true),
+    Row::Value(5, 0x07, false),
+    Row::PageLsn(514),
+    Row::Update(546, 2, 514, 7),
+    Row::Reopen,
+    Row::Redo(5),
+    Row::Losers(1),
+    Row::Value(5, 0x0a, true),
+    Row::Value(6, 0x07, true),
+    Row::Value(7, 0x0a, true),
+    Row::UndoAll(0),
+    Row::Value(7, 0x07, true),
+    Row::Value(6, 0x07, true),
+    Row::Value(5, 0x07, true),
+    Row::PageLsn(1058),
+];
+
+// Three Updates, of which the last one is undone, and then, over its CLR, the one before it. Then the transaction is
+// undone as a whole: the first one has its CLR at 1538.
+pub(crate) const BACK_TWICE: &[Row] = &[
+    Row::Begin(2),
+    Row::Update(3, 2, 2, 5),
+    Row::Update(30, 2, 3, 6),
+    Row::Update(57, 2, 30, 7),
+    Row::Reopen,
+    Row::UndoTo(2, 57, 1, 514),
+    Row::Flush,
+    Row::UndoTo(2, 514, 1, 1026),
+    Row::Value(7, 0x07, true),
+    Row::Value(6, 0x07, true),
+    Row::Value(5, 0x07, false),
+    Row::Flush,
+    Row::Undo(2, 1026),
+    Row::Value(5, 0x07, true),
+    Row::PageLsn(1538),
+];
+
+// One more Update stands behind a CLR. Of the two that are left both are undone, and the CLR between them is passed
+// over; or only the last one is, or none.
+pub(crate) const BACK_OVER_A_CLR: &[Row] = &[
+    Row::Begin(2),
+    Row::Update(3, 2, 2, 5),
+    Row::Update(30, 2, 3, 6),
+    Row::Clr(57, 2, 30, 3, 6),
+    Row::Update(89, 2, 57, 7),
+    Row::Reopen,
+    Row::UndoTo(2, 89, 2, 546),
+    Row::Value(7, 0x07, true),
+    Row::Value(6, 0x07, false),
+    Row::Value(5, 0x07, true),
+    Row::PageLsn(546),
+];
+
+pub(crate) const BACK_TO_A_CLR: &[Row] = &[
+    Row::Begin(2),
+    Row::Update(3, 2, 2, 5),
+    Row::Update(30, 2, 3, 6),
+    Row::Clr(57, 2, 30, 3, 6),
+    Row::Update(89, 2, 57, 7),
+    Row::Reopen,
+    Row::UndoTo(2, 89, 0, 89),
+    Row::TailEmpty,
+    Row::UndoTo(2, 89, 1, 514),
+    Row::Value(7, 0x07, true),
+    Row::Value(5, 0x07, false),
+    Row::PageLsn(514),
+];
+
 // The Update of transaction 2 names one of transaction 3 as the record before it, and a CLR of it.
 pub(crate) const ANOTHERS_UPDATE: &[Row] = &[
     Row::Begin(2),

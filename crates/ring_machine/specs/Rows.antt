@@ -1,6 +1,6 @@
 -- Runs that were worked out by hand. Of each, the units that it appends.
-use Rattle.std.specs.Prelude.{◌≡◌, ℕ, List, [], ◌∷◌, ◌++◌, replicate, Some}
-use Rattle.record_model.specs.declared.words.Command.TheVariants.{Begin, Write, Abort, Set, Checkpoint}
+use Rattle.std.specs.Prelude.{◌≡◌, ℕ, List, [], ◌∷◌, ◌++◌, replicate, Some, None}
+use Rattle.record_model.specs.declared.words.Command.TheVariants.{Begin, Write, Abort, Mark, Back, Set, Checkpoint}
 use Rattle.record_model.specs.Run.{Line, turns}
 use Rattle.record_model.specs.Rows.{fresh}
 use Rattle.second_chance.specs.Machine.{rules_of}
@@ -41,6 +41,16 @@ UndonePagesWait = (run_with 1 (three_writes ++ Some (Abort 0) ∷ [])).tail
 abbrev pub OneTailForAll : Type 0
 OneTailForAll = (run_with 4 (three_writes ++ Some (Abort 0) ∷ [])).tail
     ≡ record { next = 1; used = 182; waiting = 0 ∷ 1 ∷ 2 ∷ 2 ∷ 1 ∷ 0 ∷ [] }
+
+-- a way back to the Begin takes them back too, and ends nothing
+abbrev pub BackEndsNothing : Type 0
+BackEndsNothing = (run_with 4 (three_writes ++ Some (Back 0 None) ∷ [])).tail
+    ≡ record { next = 1; used = 173; waiting = 0 ∷ 1 ∷ 2 ∷ 2 ∷ 1 ∷ 0 ∷ [] }
+
+-- a mark asks nothing, and behind it is nothing to go back over
+abbrev pub MarksAskNothing : Type 0
+MarksAskNothing = (run_with 4 (three_writes ++ Some (Mark 0) ∷ Some (Back 0 None) ∷ [])).tail
+    ≡ record { next = 1; used = 80; waiting = 2 ∷ 1 ∷ 0 ∷ [] }
 
 -- long values fill a block, and a checkpoint seals what is left
 abbrev pub long_value : List ℕ

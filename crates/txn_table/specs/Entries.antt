@@ -1,6 +1,6 @@
 -- The table of active sessions, as a list of entries.
-use Rattle.std.specs.Prelude.{◌≡◌, ◌≢◌, ℕ, ◌+◌, ◌-◌, ◌^◌, ◌<◌, ◌≤◌, ◌==◌, List, [], ◌∷◌, find, sum_by, All, Contains, min}
-use Rattle.std.specs.Prelude.{Option, Some, None}
+use Rattle.std.specs.Prelude.{◌≡◌, ◌≢◌, ℕ, ◌+◌, ◌-◌, ◌^◌, ◌<◌, ◌≤◌, ◌==◌, List, [], ◌∷◌, find, sum_by, min}
+use Rattle.std.specs.Prelude.{All, Contains, Option, Some, None}
 use Rattle.std.specs.List.{AllByRecursion}
 use Rattle.txn_table.specs.declared.active.Active.{Active}
 
@@ -36,14 +36,18 @@ after_mark entry = record entry { mark = entry.writes }
 
 -- an entry whose last writes were undone: the LSN of its last record, and a mark that isn't above what is left
 abbrev pub after_undone : Active → ℕ → ℕ → Active
-after_undone entry count lsn = record entry { last = lsn; writes = entry.writes - count; mark = min entry.mark (entry.writes - count) }
+after_undone entry count lsn = record entry {
+  last = lsn;
+  writes = entry.writes - count;
+  mark = min entry.mark (entry.writes - count);
+}
 
 -- an entry where records are counted from a later one on
 abbrev pub counted_from : ℕ → Active → Active
 counted_from first entry = record entry { born = entry.born - first }
 
--- the log records that the active sessions may still make: one for each of their writes that stand, and one more for each
--- of them
+-- the log records that the active sessions may still make: one for each of their writes that stand, and one more for
+-- each of them
 abbrev pub owed : List Active → ℕ
 owed entries = sum_by (λ entry. entry.writes + 1) entries
 

@@ -116,8 +116,8 @@ impl TxnTable {
         entry.mark = entry.writes;
     }
 
-    /// So many of a session's writes, the last ones, were undone, and its last log record is at this LSN. Where its mark
-    /// was above what is left of them, it falls to that.
+    /// So many of a session's writes, the last ones, were undone, and its last log record is at this LSN. Where its
+    /// mark was above what is left of them, it falls to that.
     pub fn undone(&mut self, session: u32, count: u64, lsn: u64)
         requires active { IsSome (entry_of self.old session) }
         requires count { ForSome (entry_of self.old session) (λ entry. count ≤ entry.writes) }

@@ -41,7 +41,7 @@ returns g c =
           let may = may_compensate log pages site newest records table commits h x unfinished c.args.at u w 0 at some wanted in
           undoes_answered (undoes_as (clr_is u (32 * w.page + w.slot) w.before wanted.number wanted.before) (sym (work_is u w.page w.slot c.requires.form.0 wanted.number))
           (c.in-Ok.ensures.does newest records table commits 0 h may));
-      last = grind (arith, common_steps);
+      last = c.in-Ok.ensures.rises;
       next = search rules;
       same = search rules;
       works = works_answered c.in-Ok.ensures.works;

@@ -1,4 +1,4 @@
-use Rattle.std.proofs.Common.{Some, Err, ℕ, sym, ap, subst, ◌∙◌, arith}
+use Rattle.std.proofs.Common.{Err, ℕ, sym, ap, subst, ◌∙◌, arith}
 use Rattle.log_records.specs.declared.log_record.LogRecord.{LogRecord}
 use Rattle.redo_undo.specs.Undoing.{IsStepOf}
 use Rattle.site.specs.declared.geometry.Geometry.{Geometry}

@@ -2,7 +2,7 @@ use Rattle.page_store.specs.declared.store.PageStore.{PageStore}
 use Rattle.redo_undo.specs.UndoCalls.{UndoesWork}
 use Rattle.redo_undo.proofs.UndoCalls.{undoes_answered, undoes_as, undoes_beside, undoes_failed, undoes_few, undoes_stopped, undoes_then}
 use Rattle.std.specs.Prelude.{⊤, Option, Result}
-use Rattle.std.proofs.Common.{List, Ok, Err, ◌≡◌, ◌+◌, ◌++◌, ◌∷◌, [], length, refl, sym, ap, subst, ◌∙◌, arith, ℕ, true≢false, append-nil}
+use Rattle.std.proofs.Common.{List, Ok, Err, ◌≡◌, ◌+◌, ◌-◌, ◌^◌, ◌≤◌, ◌++◌, ◌∷◌, [], length, refl, sym, ap, subst, ◌∙◌, arith, ℕ, true≢false, append-nil}
 use Rattle.site.specs.declared.geometry.Geometry.{Geometry}
 use Rattle.log_records.specs.declared.log_record.LogRecord.TheVariants.{End}
 use Rattle.log_records.specs.Unfinished.{left_open, owed}
@@ -15,7 +15,8 @@ use Rattle.site.specs.State.{State}
 use Rattle.site.specs.declared.outside.Stop.{Stop}
 use Rattle.redo_undo.specs.Rollback.{AreClrsOf, Compensates}
 use Rattle.redo_undo.specs.Undoing.{IsAt}
-use Rattle.redo_undo.proofs.Rollbacks.{none_remains, room_for_end, may_end, owes_all, rolls_back}
+use Rattle.redo_undo.proofs.Rollbacks.{few_left, room_for_end, may_end, owes_all, rolls_back}
+use Rattle.redo_undo.proofs.UpTo.{all_done, does_all}
 use Rattle.page_store.specs.Caching.{rules}
 use Rattle.redo_laws.specs.MachineSteps.{undo_one_works}
 use Rattle.redo_undo.proofs.Calling.{works_answered, works_appended, works_foreign, works_stopped, works_then}
@@ -46,11 +47,15 @@ module _ (g : Over) (c : In-Ok g) (newest : Option Master) (records : List Entry
   at : IsAt (record { txn = c.args.txn; last = c.args.last; next = c.args.last }) x
   at = record { txn = sym own; last = sym last; next = sym next }
 
-  done : Compensates log pages site newest records table commits x.txn (blocks_to c.args.log.now) c.in-Ok.at
-  done = c.in-Ok.ensures.undone newest records table commits x h unfinished at
+  abbrev done : Compensates log pages site newest records table commits x.txn (blocks_to c.args.log.now) c.in-Ok.at
+  done = (c.in-Ok.ensures.undone newest records table commits x h unfinished at).made
+
+  -- no transaction has as many Updates as may be undone
+  few : length (left_open records x.txn) ≤ 2 ^ 64 - 1
+  few = few_left c.args.log.now c.args.pages.now old newest records table commits h c.requires.going x unfinished
 
   none : done.x.remaining ≡ 0
-  none = none_remains log pages site newest records table commits x.txn (blocks_to c.args.log.now) c.in-Ok.at done c.in-Ok.ensures.none
+  none = all_done (c.in-Ok.ensures.undone newest records table commits x h unfinished at) few
 
   -- and the End behind it
   behind : (r : Result ℕ Stop) (log' : LogStore) (new : State) → UndoesWork r ends [] log log' pages pages site new newest table commits 1 0 →
@@ -58,7 +63,7 @@ module _ (g : Over) (c : In-Ok g) (newest : Option Master) (records : List Entry
   behind r log' new end =
       subst (λ (t : ℕ). UndoesWork r (undo_one_work records t) (undo_one_works records t) c.args.log.now log' c.args.pages.now pages old new newest table commits (x.remaining + 1) (length x.chain)) own
       (undoes_few (omega arith) (omega arith) (undoes_as refl (sym (append-nil (undo_one_works records x.txn)))
-      (undoes_then h c.in-Ok.ensures.works (c.in-Ok.ensures.does newest records table commits x h unfinished at) end)))
+      (undoes_then h c.in-Ok.ensures.works (does_all x unfinished few (c.in-Ok.ensures.does newest records table commits x h unfinished at)) end)))
 
 pub returns-in-Ok-log_record : goal.returns-in-Ok-log_record
 returns-in-Ok-log_record g c =
@@ -133,4 +138,5 @@ returns-in-Err-clause-does g c newest records table commits x h unfinished own l
     let at : IsAt (record { txn = c.args.txn; last = c.args.last; next = c.args.last }) x = record { txn = sym own; last = sym last; next = sym next } in
     subst (λ (t : ℕ). UndoesWork {T = ⊤} (Err c.in-Err.stop) (undo_one_work records t) (undo_one_works records t) c.args.log.now c.undo_updates.new.log pages c.undo_updates.new.pages old now newest table commits (x.remaining + 1) (length x.chain)) own
     (undoes_few (omega arith) (omega arith) (undoes_as refl (sym (append-nil (undo_one_works records x.txn)))
-    (undoes_stopped ends [] c.requires.going (c.in-Err.ensures.does newest records table commits x h unfinished at))))
+    (undoes_stopped ends [] c.requires.going
+    (does_all x unfinished (few_left c.args.log.now pages old newest records table commits h c.requires.going x unfinished) (c.in-Err.ensures.does newest records table commits x h unfinished at)))))

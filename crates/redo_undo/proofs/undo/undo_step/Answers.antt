@@ -1,10 +1,13 @@
-use Rattle.std.proofs.Common.{[], ◌∷◌, refl, subst, arith}
+use Rattle.std.proofs.Common.{[], ◌∷◌, ◌≤◌, ◌<◌, refl, subst, arith}
+use Rattle.std.proofs.lemmas.Result.{IfOk-weaker}
+use Rattle.log_store.specs.Representation.{end_of}
+use Rattle.redo_laws.specs.Holding.{blocks_to}
+use Rattle.redo_undo.proofs.UndoSoFar.{logged_blocks}
 use Rattle.log_laws.proofs.UndoingSteps.{clr_is_read}
 use Rattle.redo_laws.specs.UndoWorks.{works_of}
 use Rattle.redo_laws.proofs.CallsInSequence.{going_still}
 use Rattle.ring_machine.specs.Restart.{clr_work}
 use Rattle.redo_undo.specs.Undoing.{IsStepOf}
-use Rattle.redo_undo.specs.declared.undo.Step.{Step}
 use Rattle.redo_undo.proofs.Calling.{held_read, works_answered, works_read, works_then}
 use Rattle.redo_undo.proofs.Compensations.{is_a_clr, is_an_update, no_update}
 use Rattle.redo_undo.proofs.UndoCalls.{undoes_answered, undoes_nothing, undoes_read, undoes_unread}
@@ -52,6 +55,14 @@ returns-in-Ok-Compensate-clause-passes g c newest records table commits x e rest
     let is = c.in-Ok-Compensate.ensures.step c.args.pages.now newest records table commits x e rest c.requires.going.sizes h unfinished at split in
     let update = is_an_update c.args.at c.args.log.now.geometry.pages e.rec c.in-Ok-Compensate.wanted (subst (IsStepOf c.args.at c.args.log.now.geometry.pages e.rec) c.in-Ok-Compensate.field-0-is is) in
     absurd (no_update e.rec clr update)
+
+pub returns-in-Ok-Compensate-clause-last : goal.returns-in-Ok-Compensate-clause-last
+returns-in-Ok-Compensate-clause-last g c =
+    IfOk-weaker c.put_back.result (λ now. (end_of c.args.log.now ≤ now.last) × (now.last < end_of c.put_back.new.log)) (λ now. (c.args.at.last ≤ now.last) × (now.last < end_of c.put_back.new.log))
+    (λ now last. (omega (arith, c.requires.last, last.0), last.1)) c.put_back.ensures.last
+
+pub returns-in-Ok-Compensate-clause-blocks : goal.returns-in-Ok-Compensate-clause-blocks
+returns-in-Ok-Compensate-clause-blocks g c = logged_blocks c.put_back.result c.args.at (end_of c.args.log.now) (end_of c.put_back.new.log) (blocks_to c.args.log.now) (blocks_to c.put_back.new.log) c.requires.last c.put_back.ensures.last c.put_back.ensures.blocks
 
 -- A CLR is read.
 

@@ -1,9 +1,10 @@
-use Rattle.std.proofs.Common.{[], ◌∷◌, subst, arith}
+use Rattle.std.proofs.Common.{[], ◌∷◌, ◌≤◌, ◌<◌, subst, arith}
+use Rattle.std.proofs.lemmas.Result.{IfOk-weaker}
+use Rattle.log_store.specs.Representation.{end_of}
 use Rattle.redo_laws.specs.UndoWorks.{works_of}
 use Rattle.redo_laws.proofs.CallsInSequence.{going_still}
 use Rattle.ring_machine.specs.Restart.{clr_work}
 use Rattle.redo_undo.specs.Undoing.{IsStepOf}
-use Rattle.redo_undo.specs.declared.undo.Step.{Step}
 use Rattle.redo_undo.proofs.Calling.{held_read, works_read, works_then}
 use Rattle.redo_undo.proofs.Compensations.{is_a_clr, no_update}
 use Rattle.redo_undo.proofs.UndoCalls.{undoes_read, undoes_unread}
@@ -39,3 +40,6 @@ returns-in-Ok-Pass-clause-does g c newest records table commits x u rest h unfin
 pub returns-in-Err-clause-does : goal.returns-in-Err-clause-does
 returns-in-Err-clause-does g c newest records table commits x u rest h unfinished at split update =
     undoes_unread (clr_work u) (works_of (u ∷ [])) c.requires.going h c.in-Err.ensures.reads (c.in-Err.ensures.readable c.args.pages.now newest records table commits x u rest c.requires.going.sizes h unfinished at split) (omega arith)
+
+pub returns-in-Ok-Compensate-clause-last : goal.returns-in-Ok-Compensate-clause-last
+returns-in-Ok-Compensate-clause-last g c = IfOk-weaker c.put_back.result (λ now. (end_of c.args.log.now ≤ now.last) × (now.last < end_of c.put_back.new.log)) (λ now. now.last < end_of c.put_back.new.log) (λ now last. last.1) c.put_back.ensures.last

@@ -1,27 +1,27 @@
-use Rattle.std.proofs.Common.{◌≡◌, ◌<◌, ℕ, List, length, Option}
+use Rattle.std.proofs.Common.{◌≡◌, ◌<◌, ◌≤◌, ◌+◌, ℕ, List, length, Option}
 use Rattle.record_model.specs.State.{Content}
 use Rattle.log_records.specs.Log.{Entry}
 use Rattle.log_laws.specs.Analysis.{Unfinished, IsUnfinished}
 use Rattle.log_store.specs.Representation.{end_of}
 use Rattle.checkpoint.specs.declared.master.Master.{Master}
-use Rattle.redo_laws.specs.Holding.{Represents}
+use Rattle.redo_laws.specs.Holding.{Represents, blocks_to}
 use Rattle.redo_laws.specs.Calls.{KeepsInvariant}
 use Rattle.std.specs.Prelude.{Ok}
 use Rattle.redo_undo.specs.Undoing.{IsAt}
 use Rattle.redo_undo.proofs.UndoSoFar.{UndoesSoFar}
 use Rattle.redo_undo.proofs.undo.undo_updates.Given as goal
 
-abbrev pub invariant-loop-at : goal.invariant-loop-at
-invariant-loop-at g l =
+abbrev pub invariant-loop-more : goal.invariant-loop-more
+invariant-loop-more g l =
     let old = g.S.Site.state l.fn.site in
     let now = g.S.Site.state l.site in
     record {
       works : KeepsInvariant {T = Unit {0}} (Ok tt) l.fn.log l.log l.fn.pages l.pages old now;
-      last : l.at.last < end_of l.log;
-      same : l.at.txn ≡ l.fn.first.txn;
+      last : (l.fn.first.last ≤ l.at.last) × (l.at.last < end_of l.log);
+      blocks : blocks_to l.log + l.more ≤ blocks_to l.fn.log + l.fn.count;
       undone : (newest : Option Master) (records : List Entry) (table : List Content) (commits : ℕ) (x : Unfinished) → Represents l.fn.log l.fn.pages old newest records table commits → IsUnfinished records x → IsAt l.fn.first x →
-          UndoesSoFar l.log l.pages now newest records table commits x.txn l.at l.fn.log l.fn.pages old (length x.chain);
+          UndoesSoFar l.log l.pages now newest records table commits x.txn l.at l.fn.log l.fn.pages old (length x.chain) l.fn.count l.more;
     }
 
-abbrev pub decreases-loop-at : goal.decreases-loop-at
-decreases-loop-at g l = l.at.next
+abbrev pub decreases-loop-more : goal.decreases-loop-more
+decreases-loop-more g l = l.at.next

@@ -9,6 +9,8 @@ use Rattle.txn_table.proofs.Owing.{owes, entry_is}
 use Rattle.engine.proofs.Actives.{some_active}
 use Rattle.engine.proofs.Aborts.{aborted_fits}
 use Rattle.engine.proofs.Undoing.{abort_is}
+use Rattle.engine.proofs.Updated.{updated_count}
+use Rattle.log_records.specs.Log.{entries_of}
 use Rattle.ring_machine.proofs.Performing.{performs_answered, performs_as, performs_failed}
 use Rattle.engine.proofs.Calling.{does_of}
 use Rattle.redo_undo.proofs.StoreCalling.{keeps_answered, keeps_failed}
@@ -68,15 +70,15 @@ pub returns-in-Ok-clause-log_reads : goal.returns-in-Ok-clause-log_reads
 returns-in-Ok-clause-log_reads g c s fits =
     let found = some_active fits.newest fits.records c.args.self.now.active s fits.sessions c.args.entry.session c.args.entry c.requires.active in
     let count = sym found.under_way.count in
-    let read = c.roll_back.ensures.log_reads fits.newest fits.records s.table s.commits fits.holds found.session.writes found.under_way.is_active count in
-    omega (arith, read, count, ap undo_reads found.is)
+    let read = c.roll_back.ensures.log_reads fits.newest fits.records s.table s.commits fits.holds found.session.writes found.under_way.is_active in
+    omega (arith, read, ap undo_reads found.is, ap length found.under_way.wrote, updated_count (entries_of c.args.entry.begin fits.records))
 
 pub returns-in-Err-clause-log_reads : goal.returns-in-Err-clause-log_reads
 returns-in-Err-clause-log_reads g c s fits =
     let found = some_active fits.newest fits.records c.args.self.now.active s fits.sessions c.args.entry.session c.args.entry c.requires.active in
     let count = sym found.under_way.count in
-    let read = c.roll_back.ensures.log_reads fits.newest fits.records s.table s.commits fits.holds found.session.writes found.under_way.is_active count in
-    omega (arith, read, count, ap undo_reads found.is)
+    let read = c.roll_back.ensures.log_reads fits.newest fits.records s.table s.commits fits.holds found.session.writes found.under_way.is_active in
+    omega (arith, read, ap undo_reads found.is, ap length found.under_way.wrote, updated_count (entries_of c.args.entry.begin fits.records))
 
 pub returns-in-Ok-clause-performs : goal.returns-in-Ok-clause-performs
 returns-in-Ok-clause-performs g c s fits =

@@ -5,7 +5,7 @@ use Rattle.record_model.specs.Step.{making, committed}
 use Rattle.log_laws.specs.Follow.{writes_in}
 use Rattle.engine.specs.declared.engine.Engine.{Engine}
 use Rattle.engine.specs.Invariant.{sizes_of}
-use Rattle.engine.proofs.Settings.{may_commit_one, set_fits}
+use Rattle.engine.proofs.Settings.{may_commit_one, sets_one, set_fits}
 use Rattle.engine.proofs.Calling.{early, late_commit, serves_still, serves_stopped, does_of}
 use Rattle.redo_undo.proofs.StoreCalling.{works_then, keeps_then, keeps_weaker, keeps_failed}
 use Rattle.redo_laws.proofs.Asking.{asks_then}
@@ -26,7 +26,7 @@ returns-in-Err-seal_commit-clause-does g c s fits =
     let w = c.in-Ok.ensures.logged s fits in
     let commits = ap (λ (x : Engine). x.commits) c.log_set.ensures.rest ∙ fits.counts.commits in
     let may = may_commit_one c.log_set.new.self.store (g.S.Site.state c.log_set.new.site) fits.newest fits.records s.table s.commits c.in-Ok.txn c.args.number c.log_set.new.self.commits c.args.after.now w commits in
-    does_of (omega arith) tt (keeps_then fits.honest (early (sizes_of engine.store) s after old.told) (late_commit (sizes_of engine.store) (sizes_of c.log_set.new.self.store) old _ s c.args.number c.args.after.now (writes_in c.in-Ok.txn w.log) c.log_set.ensures.works.sizes (sym w.active.writes_are))
+    does_of (omega arith) tt (keeps_then fits.honest (early (sizes_of engine.store) s after old.told) (late_commit (sizes_of engine.store) (sizes_of c.log_set.new.self.store) old _ s c.args.number c.args.after.now (writes_in c.in-Ok.txn w.log) c.log_set.ensures.works.sizes (sets_one w))
     c.in-Ok.ensures.works (c.in-Ok.ensures.keeps s fits) (c.in-Err-seal_commit.ensures.keeps fits.newest w.log s.table s.commits w.holds may))
 
 pub returns-in-Ok-seal_commit-clause-does : goal.returns-in-Ok-seal_commit-clause-does
@@ -43,7 +43,7 @@ returns-in-Ok-seal_commit-clause-does g c s fits =
     does_of (omega arith)
     (set_fits engine one c.seal_commit.new.self old _ _ s c.args.number c.in-Ok.txn sealed.0 c.args.after.now fits w (stays_honest old _ works.calls.preserves fits.honest) sealed.1
     c.log_set.ensures.rest c.seal_commit.ensures.rest c.in-Ok-seal_commit.ensures.commits c.in-Ok.ensures.works.made c.in-Ok-seal_commit.ensures.works.made)
-    (keeps_then fits.honest (early (sizes_of engine.store) s after old.told) (late_commit (sizes_of engine.store) (sizes_of one.store) old _ s c.args.number c.args.after.now (writes_in c.in-Ok.txn w.log) c.log_set.ensures.works.sizes (sym w.active.writes_are))
+    (keeps_then fits.honest (early (sizes_of engine.store) s after old.told) (late_commit (sizes_of engine.store) (sizes_of one.store) old _ s c.args.number c.args.after.now (writes_in c.in-Ok.txn w.log) c.log_set.ensures.works.sizes (sets_one w))
     c.in-Ok.ensures.works (c.in-Ok.ensures.keeps s fits) (c.in-Ok-seal_commit.ensures.keeps fits.newest w.log s.table s.commits w.holds may))
 
 pub returns-in-Ok-seal_commit-clause-serves : goal.returns-in-Ok-seal_commit-clause-serves

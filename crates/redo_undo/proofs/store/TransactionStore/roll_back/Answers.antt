@@ -8,7 +8,7 @@ use Rattle.log_laws.specs.Analysis.{IsUnfinished}
 use Rattle.log_laws.specs.Follow.{IsActive}
 use Rattle.record_model.specs.Touches.{write_touch}
 use Rattle.record_model.specs.State.{Content, Write}
-use Rattle.log_records.specs.Log.{Entry}
+use Rattle.log_records.specs.Log.{Entry, entries_of, updates_in}
 use Rattle.checkpoint.specs.declared.master.Master.{Master}
 use Rattle.redo_undo.proofs.store.TransactionStore.roll_back.Goals.{After-undo_one, In-Ok}
 use Rattle.redo_undo.proofs.store.TransactionStore.roll_back.Given.{Over}
@@ -35,18 +35,20 @@ use Rattle.redo_undo.proofs.MirroringStores.{store_performs, undoing_saves_none}
 -- What undoing it leaves.
 module _ (g : Over) (c : After-undo_one g) (newest : Option Master) (records : List Entry) (table : List Content) (commits : ℕ) (h : Represents c.args.self.now (g.S.Site.state c.args.site.now) newest records table commits)
     (writes : List Write) (active : IsActive (master_of newest) records c.args.entry.begin c.args.entry.last writes) where
-  left : IsUnfinished records (record { txn = c.args.entry.begin; last = c.args.entry.last; next = c.args.entry.last; remaining = length writes; chain = left_open records c.args.entry.begin })
-  left = active_left c.args.self.now (g.S.Site.state c.args.site.now) newest records table commits c.args.entry.begin c.args.entry.last writes h active
+  found : (chain : List Entry) × IsUnfinished records (record { txn = c.args.entry.begin; last = c.args.entry.last; next = c.args.entry.last; remaining = length writes; chain = chain }) × (length chain ≤ length (updates_in (entries_of c.args.entry.begin records)))
+  found = active_left c.args.self.now (g.S.Site.state c.args.site.now) newest records table commits c.args.entry.begin c.args.entry.last writes h active
+
+  left : IsUnfinished records (record { txn = c.args.entry.begin; last = c.args.entry.last; next = c.args.entry.last; remaining = length writes; chain = found.0 })
+  left = found.1
 
   asked : {T : Type 0} {r : Result T Stop} {pages : PageStore} {now : State} → StepsMachine r (undo_one_works records c.args.entry.begin) c.args.self.now.pages pages (g.S.Site.state c.args.site.now) now →
       StepsMachine r (map (λ (write : Write). write_touch write.0) (reverse writes)) c.args.self.now.pages pages (g.S.Site.state c.args.site.now) now
   asked {r = r} {pages = pages} {now = now} asks = asks_same r _ _ c.args.self.now.pages pages (g.S.Site.state c.args.site.now) now (sym (active_is_undone_by newest records c.args.entry.begin c.args.entry.last writes active)) asks
 
-  read : length writes ≡ c.args.entry.writes → (g.S.Site.state c.undo_one.new.site).log_reads ≤ (g.S.Site.state c.args.site.now).log_reads + (c.args.entry.writes + 1)
-  read count =
+  read : (g.S.Site.state c.undo_one.new.site).log_reads ≤ (g.S.Site.state c.args.site.now).log_reads + length (updates_in (entries_of c.args.entry.begin records))
+  read =
       let few = (c.undo_one.ensures.does newest records table commits _ h.both left refl refl refl).log_reads in
-      let many = left.remaining_is in
-      omega (arith, few, count, many)
+      omega (arith, few, found.2)
 
 module _ (g : Over) (c : In-Ok g) (newest : Option Master) (records : List Entry) (table : List Content) (commits : ℕ) (h : Represents c.args.self.now (g.S.Site.state c.args.site.now) newest records table commits)
     (writes : List Write) (active : IsActive (master_of newest) records c.args.entry.begin c.args.entry.last writes) (count : length writes ≡ c.args.entry.writes) where
@@ -55,7 +57,7 @@ module _ (g : Over) (c : In-Ok g) (newest : Option Master) (records : List Entry
 
   back : RollsBack after (g.S.Site.state c.undo_one.new.site) newest records table commits c.args.entry.begin c.args.entry.writes
   back =
-      let left = active_left c.args.self.now (g.S.Site.state c.args.site.now) newest records table commits c.args.entry.begin c.args.entry.last writes h active in
+      let left = (active_left c.args.self.now (g.S.Site.state c.args.site.now) newest records table commits c.args.entry.begin c.args.entry.last writes h active).1 in
       rolls_back c.args.self.now after _ _ newest records table commits c.args.entry.begin c.args.entry.last c.args.entry.writes writes h active count (c.in-Ok.ensures.undone newest records table commits _ h.both left refl refl refl)
       (finds_kept c.args.self.now.masters _ _ c.requires.going.shape ((c.in-Ok.ensures.does newest records table commits _ h.both left refl refl refl).keeps.masters refl) h.masters)
 
@@ -68,7 +70,7 @@ returns-in-Err g c =
           keeps_of (under_leaves_for newest _ _ _ table commits _) (keeps_few (omega (arith, count)) (keeps_failed (c.in-Err.ensures.does newest records table commits _ h.both (left g s newest records table commits h writes active) refl refl refl).keeps));
       asks = λ newest records table commits h writes active.
           asked g s newest records table commits h writes active (asks_err c.in-Err.stop _ _ _ _ _ (c.in-Err.ensures.does newest records table commits _ h.both (left g s newest records table commits h writes active) refl refl refl).asks);
-      log_reads = λ newest records table commits h writes active count. read g s newest records table commits h writes active count;
+      log_reads = λ newest records table commits h writes active. read g s newest records table commits h writes active;
       performs = λ newest records table commits h writes active.
           store_performs (undoing_saves_none (left_open records c.args.entry.begin)) refl (c.in-Err.ensures.does newest records table commits _ h.both (left g s newest records table commits h writes active) refl refl refl).performs;
       works = works_at_error c.requires.going refl c.in-Err.ensures.works;
@@ -85,7 +87,7 @@ returns-then-blocks-before g c =
           absurd (omega (arith, c.in-Ok.ensures.blocks newest records table commits _ h.both (left g s newest records table commits h writes active) refl refl refl, c.blocks-before.ensures, c.if-blocks-before.true, c.blocks-blocks.ensures, count));
       asks = λ newest records table commits h writes active.
           asked g s newest records table commits h writes active (asks_fails c.in-Ok.field-0 Foreign _ _ _ _ _ (c.in-Ok.ensures.does newest records table commits _ h.both (left g s newest records table commits h writes active) refl refl refl).asks);
-      log_reads = λ newest records table commits h writes active count. read g s newest records table commits h writes active count;
+      log_reads = λ newest records table commits h writes active. read g s newest records table commits h writes active;
       performs = λ newest records table commits h writes active. performs_refused (λ dev same. cc);
       works = works_at_error {A = Unit {0}} c.requires.going refl (works_foreign c.in-Ok.ensures.works);
       room = search rules;
@@ -107,7 +109,7 @@ returns-then-blocks-owed g c =
           absurd (omega (arith, room, c.if-blocks-owed.true, c.blocks-blocks.ensures, sizes, own, going.log_going.limits.blocks, c.kept.ensures));
       asks = λ newest records table commits h writes active.
           asked g s newest records table commits h writes active (asks_fails c.in-Ok.field-0 Foreign _ _ _ _ _ (c.in-Ok.ensures.does newest records table commits _ h.both (left g s newest records table commits h writes active) refl refl refl).asks);
-      log_reads = λ newest records table commits h writes active count. read g s newest records table commits h writes active count;
+      log_reads = λ newest records table commits h writes active. read g s newest records table commits h writes active;
       performs = λ newest records table commits h writes active. performs_refused (λ dev same. cc);
       works = works_at_error {A = Unit {0}} c.requires.going refl (works_foreign c.in-Ok.ensures.works);
       room = search rules;

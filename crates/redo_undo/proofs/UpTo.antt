@@ -1,0 +1,128 @@
+-- Of so many Updates of a transaction that are to be undone as many are as there are.
+use Rattle.std.proofs.Common.{◌≡◌, ℕ, zero, suc, ◌+◌, ◌-◌, ◌≤◌, min, List, [], ◌∷◌, length, take, ◌++◌, true, drop, refl, sym, ap, ◌∙◌, arith, append-nil, append_assoc}
+use Rattle.std.specs.Prelude.{Option, ⊤, Ok, Result}
+use Rattle.std.proofs.Math.ListN.{drop_of_length-le}
+use Rattle.std.proofs.lemmas.List.{take-append-drop}
+use Rattle.log_records.specs.Sound.{last_lsn}
+use Rattle.log_laws.proofs.OpenUpdates.{left_after_clr}
+use Rattle.site.specs.State.{State}
+use Rattle.site.specs.declared.outside.Stop.{Stop}
+use Rattle.record_model.specs.State.{Content}
+use Rattle.log_records.specs.Log.{Entry, updates_in, entries_of, is_loser}
+use Rattle.log_records.specs.Unfinished.{is_clr, left_open}
+use Rattle.log_laws.specs.Analysis.{Unfinished, IsUnfinished, past_clr}
+use Rattle.log_laws.proofs.UndoingSteps.{clr_is_read}
+use Rattle.log_store.specs.declared.store.LogStore.{LogStore}
+use Rattle.page_store.specs.declared.store.PageStore.{PageStore}
+use Rattle.checkpoint.specs.declared.master.Master.{Master}
+use Rattle.redo_laws.specs.Holding.{blocks_to}
+use Rattle.redo_laws.specs.UndoWorks.{works_of}
+use Rattle.redo_undo.specs.declared.undo.UndoCursor.{UndoCursor}
+use Rattle.redo_undo.specs.Mirroring.{clrs_for}
+use Rattle.redo_undo.specs.Rollback.{AreClrsOf, Compensates, CompensatesUpTo, UndoesLast}
+use Rattle.redo_undo.specs.UndoCalls.{UndoesWork}
+use Rattle.redo_undo.proofs.UndoCalls.{undoes_answered, undoes_as, undoes_few}
+use Rattle.redo_undo.proofs.UndoSoFar.{UndoesSoFar}
+
+-- undoing reads no fewer records than there are Updates among them
+updates_few : (entries : List Entry) → length (updates_in entries) ≤ length entries
+updates_few [] = omega arith
+updates_few (e ∷ entries) = grind (arith, (updates_few entries))
+
+pub chain_is_longer : (records : List Entry) (x : Unfinished) → IsUnfinished records x → x.remaining ≤ length x.chain
+chain_is_longer records x is = let few = updates_few x.chain in let reads = ap length is.left_is in let many = is.remaining_is in omega (arith, few, reads, many)
+
+-- nothing more is wanted where none is left
+pub take_none : (n : ℕ) (xs : List Entry) → length xs ≡ 0 → take n xs ≡ []
+take_none zero [] none = refl
+take_none (suc n) [] none = refl
+take_none n (x ∷ xs) none = absurd (omega (arith, none))
+
+module _ {log : LogStore} {pages : PageStore} {site : State} {newest : Option Master} {records : List Entry} {table : List Content} {commits : ℕ} {now : UndoCursor} {first : LogStore} {old : PageStore} {before : State} {count more : ℕ} (x : Unfinished) (is : IsUnfinished records x)
+    (so_far : UndoesSoFar log pages site newest records table commits x.txn now first old before (length x.chain) count more) where
+  pub own_left : length (left_open (records ++ so_far.made.clrs) x.txn) ≡ so_far.made.x.remaining
+  own_left = ap (λ (t : ℕ). length (left_open (records ++ so_far.made.clrs) t)) (sym so_far.made.same) ∙ sym so_far.made.left.remaining_is
+
+  -- so many records were read, at most
+  pub reads_few : so_far.read ≤ length so_far.made.clrs + (length x.chain - x.remaining)
+  reads_few =
+      let long = chain_is_longer (records ++ so_far.made.clrs) so_far.made.x so_far.made.left in
+      let all = chain_is_longer records x is in
+      let read = so_far.reads_are in let count = so_far.made.count in let remain = is.remaining_is in
+      omega (arith, long, all, read, count, remain)
+
+  -- one fewer where a CLR is read next
+  pub passed_few : (e : Entry) (rest : List Entry) → so_far.made.x.chain ≡ e ∷ rest → is_clr e.rec ≡ true → so_far.read + 1 ≤ length so_far.made.clrs + (length x.chain - x.remaining)
+  passed_few e rest split clr =
+      let behind = clr_is_read (records ++ so_far.made.clrs) so_far.made.x so_far.made.left e rest split clr in
+      let long = chain_is_longer (records ++ so_far.made.clrs) (past_clr so_far.made.x e) behind in
+      let shorter = ap (λ (l : List Entry). length (drop 1 l)) split in
+      let longer = ap length split in
+      let all = chain_is_longer records x is in
+      let read = so_far.reads_are in let count = so_far.made.count in let remain = is.remaining_is in
+      omega (arith, long, shorter, longer, all, read, count, remain)
+
+  -- where no more are wanted, or none is left, those are done that were to be
+  module _ (end : take more (left_open (records ++ so_far.made.clrs) x.txn) ≡ []) (many : length so_far.made.clrs ≡ min count x.remaining) where
+    pub up_to : CompensatesUpTo log pages site newest records table commits x.txn count (blocks_to first) now
+    up_to = record { made = so_far.made; many = many ∙ ap (min count) is.remaining_is }
+
+    pub does_up_to : {T : Type 0} {answer : T} → UndoesWork {T = T} (Ok answer) (clrs_for (take count (left_open records x.txn))) (works_of (take count (left_open records x.txn))) first log old pages before site newest table commits (min count x.remaining) (min count x.remaining + (length x.chain - x.remaining))
+    does_up_to =
+        let all : take count (left_open records x.txn) ≡ so_far.done = so_far.are ∙ ap (λ (l : List Entry). so_far.done ++ l) end ∙ append-nil so_far.done in
+        undoes_few (omega (arith, many)) (omega (arith, many, reads_few)) (undoes_as (ap clrs_for all) (ap works_of all) (undoes_answered so_far.does))
+
+  -- no more are wanted
+  pub none_wanted : more ≡ 0 → (take more (left_open (records ++ so_far.made.clrs) x.txn) ≡ []) × (length so_far.made.clrs ≡ min count x.remaining)
+  none_wanted none =
+      let many = so_far.many in let count = so_far.made.count in let remain = is.remaining_is in
+      (ap (λ (n : ℕ). take n (left_open (records ++ so_far.made.clrs) x.txn)) none, omega (arith, many, count, remain, none))
+
+  -- none is left
+  pub none_left : so_far.made.x.remaining ≡ 0 → (take more (left_open (records ++ so_far.made.clrs) x.txn) ≡ []) × (length so_far.made.clrs ≡ min count x.remaining)
+  none_left none =
+      let many = so_far.many in let count = so_far.made.count in let remain = is.remaining_is in
+      (take_none more (left_open (records ++ so_far.made.clrs) x.txn) (own_left ∙ none), omega (arith, many, count, remain, none))
+
+-- Where all are wanted all are done.
+pub does_all : {T : Type 0} {r : Result T Stop} {first log : LogStore} {old pages : PageStore} {before site : State} {newest : Option Master} {records : List Entry} {table : List Content} {commits count : ℕ} (x : Unfinished) → IsUnfinished records x → length (left_open records x.txn) ≤ count →
+    UndoesWork r (clrs_for (take count (left_open records x.txn))) (works_of (take count (left_open records x.txn))) first log old pages before site newest table commits (min count x.remaining) (min count x.remaining + (length x.chain - x.remaining)) →
+    UndoesWork r (clrs_for (left_open records x.txn)) (works_of (left_open records x.txn)) first log old pages before site newest table commits x.remaining (length x.chain)
+does_all {records = records} {count = count} x is all does =
+    let long = chain_is_longer records x is in
+    let same : left_open records x.txn ≡ take count (left_open records x.txn) =
+    sym (take-append-drop count (left_open records x.txn)) ∙ ap (λ (l : List Entry). take count (left_open records x.txn) ++ l) (drop_of_length-le (left_open records x.txn) all) ∙ append-nil (take count (left_open records x.txn)) in
+    undoes_few (omega arith) (omega (arith, long)) (undoes_as (ap clrs_for same) (ap works_of same) does)
+
+pub all_done : {log : LogStore} {pages : PageStore} {site : State} {newest : Option Master} {records : List Entry} {table : List Content} {commits txn count blocks : ℕ} {now : UndoCursor} (u : CompensatesUpTo log pages site newest records table commits txn count blocks now) → length (left_open records txn) ≤ count → u.made.x.remaining ≡ 0
+all_done u few = let many = u.many in let count = u.made.count in omega (arith, many, count, few)
+
+-- What the last ones leave.
+
+pub left_after_clrs : (records clrs : List Entry) (t : ℕ) → AreClrsOf t clrs → left_open (records ++ clrs) t ≡ drop (length clrs) (left_open records t)
+left_after_clrs records [] t own = ap (λ (l : List Entry). left_open l t) (append-nil records)
+left_after_clrs records (e ∷ clrs) t own =
+    ap (λ (l : List Entry). left_open l t) (sym (append_assoc records (e ∷ []) clrs)) ∙ left_after_clrs (records ++ e ∷ []) clrs t own.1
+    ∙ ap (drop (length clrs)) (left_after_clr records e t own.0.0 own.0.1) ∙ one_more (length clrs) (left_open records t)
+  where
+    one_more : (n : ℕ) (us : List Entry) → drop n (drop 1 us) ≡ drop (suc n) us
+    one_more zero [] = refl
+    one_more (suc n) [] = refl
+    one_more n (u ∷ us) = refl
+
+pub undoes_last : {log : LogStore} {pages : PageStore} {site : State} {newest : Option Master} {records : List Entry} {table : List Content} {commits txn count blocks : ℕ} {now : UndoCursor} → CompensatesUpTo log pages site newest records table commits txn count blocks now → count ≤ length (left_open records txn) →
+    UndoesLast log pages site newest records table commits txn count now.last
+undoes_last {records = records} {txn = txn} {count = count} u few =
+    let made = u.made in
+    let many : length made.clrs ≡ count = let many = u.many in omega (arith, many, few) in
+    record {
+      clrs = made.clrs;
+      own = made.own;
+      many = many;
+      holds = made.holds;
+      loser = ap (is_loser (records ++ made.clrs)) (sym made.same) ∙ made.left.loser;
+      last_is = made.at.last ∙ made.left.last_is ∙ ap (λ (t : ℕ). last_lsn (entries_of t (records ++ made.clrs))) made.same;
+      left = left_after_clrs records made.clrs txn made.own ∙ ap (λ (n : ℕ). drop n (left_open records txn)) many;
+      owes = let owes = made.owes in omega (arith, owes, many);
+      orderly = made.orderly;
+    }
