@@ -18,6 +18,7 @@ HERE = os.path.dirname(os.path.abspath(__file__))
 sys.path[:0] = [HERE, f"{HERE}/../../checks"]
 from storage_model import Model  # noqa: E402
 from vulzhorn import (Busy, Damaged, Database, DeviceFailed, Ended, Error, InUse, LogFull, NoDatabase,  # noqa: E402
+                      NoSuchMark, PageFull,
                       NoSession, NoSuchRecord, Refused, Unanswered, Unusable, ValueTooLong, Worn, WrongSizes, find_program)
 from vulzhorn.errors import ended, refusal  # noqa: E402
 
@@ -113,6 +114,26 @@ class Transactions(Case):
                 one.abort()
             for use in (lambda: one.read(7), one.commit, one.abort):
                 self.assertRaises(NoSession, use)
+
+    def test_savepoints(self):
+        with self.open() as db:
+            with db.transaction() as one:
+                one.write(1, b"a")
+                with self.assertRaises(KeyError), one.savepoint():
+                    one.write(1, b"b")
+                    with self.assertRaises(Refused), one.savepoint():  # one in the other
+                        replies = [one.submit("write", record, b"c") for record in (2, 512, 3)]
+                        [reply.result() for reply in replies]
+                    self.assertEqual([one.read(record) for record in (1, 2, 3)], [b"b", None, None])
+                    one.erase(2)
+                    raise KeyError
+                with one.savepoint():
+                    one.write(3, b"d")
+                self.assertRaises(NoSuchMark, one.back, 3)
+                one.submit("mark").result()
+                one.write(4, b"e")
+                self.assertEqual((one.back(), one.back(2)), (1, 0))
+            self.assertEqual(db.scan(0, 64), [(1, b"a"), (3, b"d")])
 
     def test_eight_sessions(self):
         with self.open() as db:
@@ -313,7 +334,8 @@ class Openings(Case):
     def test_texts(self):
         """What can't be brought about in a second."""
         self.assertIsInstance(ended(8, "fault worn log", ""), Worn)
-        self.assertEqual(refusal("full page 3 4000").numbers, [3, 4000])
+        full = refusal("full page 3 4000")
+        self.assertEqual((type(full), full.numbers), (PageFull, [3, 4000]))
         self.assertEqual([kind for kind in Error.__subclasses__() if not kind.__doc__], [])
 
     def test_word(self):
@@ -410,7 +432,8 @@ class Packages(Case):
         done = subprocess.run([*pip, "install", "--no-index", "--no-compile", "--target", self.path("to"), HERE],
                               capture_output=True, text=True, check=False)
         self.assertEqual(done.returncode, 0, done.stderr)
-        code = "import vulzhorn, sys; sys.exit(not vulzhorn.__file__.startswith(sys.argv[1]))"
+        code = ("import sys, vulzhorn.__main__ as shell\n"
+                "sys.exit(not (shell.__file__.startswith(sys.argv[1]) and 'get' in shell.COMMANDS))")
         subprocess.run([sys.executable, "-c", code, self.path("to")], cwd=self.folder, check=True,
                        env={**os.environ, "PYTHONPATH": self.path("to")})
 

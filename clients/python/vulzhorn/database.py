@@ -6,8 +6,8 @@ import os
 import queue
 import random
 import time
-from contextlib import AbstractContextManager, suppress
-from typing import Any, Callable, List, Optional, Tuple, Type, TypeVar, Union
+from contextlib import AbstractContextManager, contextmanager, suppress
+from typing import Any, Callable, Iterator, List, Optional, Tuple, Type, TypeVar, Union
 
 from .errors import Busy, Ended, Error, NoSession, NoSuchRecord, NotBlank, WrongSizes
 from .program import Program, Reply, find_program
@@ -33,12 +33,15 @@ class Transaction(AbstractContextManager):
 
     def __init__(self, database: Database, session: int) -> None:
         self._database, self.session, self.is_open = database, session, True
+        self._writes: List[Reply] = []
 
     def submit(self, word: str, *arguments: Union[int, bytes]) -> Reply:
-        """Sends `read`, `write`, `erase` or `scan` with its arguments, and answers the future of the reply."""
+        """Sends `read`, `write`, `erase`, `scan` or `mark` with its arguments, and answers the future of the reply."""
         if not self.is_open:
             raise NoSession("the transaction has ended")
-        return self._database.submit(word, self.session, *arguments)
+        reply = self._database.submit(word, self.session, *arguments)
+        self._writes += [reply] * (word in ("write", "erase"))
+        return reply
 
     def read(self, record: int) -> Optional[bytes]:
         """The value of a record as this transaction sees it, or None."""
@@ -57,6 +60,27 @@ class Transaction(AbstractContextManager):
         end = first + count
         replies = [self.submit("scan", at, min(SCAN_MAX, end - at)) for at in range(first, end, SCAN_MAX)]
         return [item for reply in replies for item in reply.result()]
+
+    def _standing(self) -> List[Reply]:
+        self._writes = [reply for reply in self._writes if reply.is_done()]
+        return self._writes
+
+    def back(self, standing: Optional[int] = None) -> int:
+        """Takes back what it wrote behind its mark, or all but the first so many writes; answers how many these were."""
+        dropped = self.submit("back", *([] if standing is None else [standing])).result()
+        del self._standing()[len(self._standing()) - dropped:]
+        return dropped
+
+    @contextmanager
+    def savepoint(self) -> Iterator[None]:
+        """A `with` that takes back what was written in it where an exception leaves it. The transaction may then go on."""
+        standing = len(self._standing())
+        try:
+            yield
+        except BaseException:
+            with suppress(Error):
+                self.back(standing)
+            raise
 
     def commit(self) -> int:
         """Commits, and answers how many commits the database then has. All of it is durable when this returns."""

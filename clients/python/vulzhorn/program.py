@@ -9,7 +9,7 @@ from collections import deque
 from contextlib import suppress
 from typing import Any, Deque, Optional, Sequence
 
-from .errors import Ended, Error, Unanswered, ValueTooLong, ended, refusal
+from .errors import Ended, Error, Refused, Unanswered, ValueTooLong, ended, refusal
 
 LINE_MAX = 500  # octets of a line, so a pipe takes it by one write, whole or not at all
 
@@ -53,6 +53,13 @@ class Reply:
             raise self._error
         return self._result
 
+    def is_done(self) -> bool:
+        """Whether it was carried out, and not refused: waits for it."""
+        with suppress(Refused):
+            self.result()
+            return True
+        return False
+
     def hear(self, line: str) -> bool:
         """Takes a line, and answers whether it is the last of this reply. Raises ValueError where it is none."""
         word, _, rest = line.partition(" ")
@@ -62,7 +69,7 @@ class Reply:
             return False
         if word == "value":
             self._result = octets(rest)
-        elif word in ("open", "ready", "committed"):
+        elif word in ("open", "ready", "committed", "back"):
             self._result = int(rest.split(" ")[0])
         elif word == "stat":
             words = rest.split(" ")

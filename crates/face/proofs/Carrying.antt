@@ -16,15 +16,17 @@ use Rattle.site.specs.Telling.{TellsPart}
 use Rattle.site.proofs.Working.{ok_always}
 use Rattle.record_model.specs.declared.words.CacheLine.{CacheLine}
 use Rattle.record_model.specs.declared.words.Command.{Command}
-use Rattle.record_model.specs.declared.words.Command.TheVariants.{Cache, Quit, Stat}
+use Rattle.record_model.specs.declared.words.Command.TheVariants.{Cache, Mark, Quit, Stat}
 use Rattle.record_model.specs.declared.words.Reply.TheVariants.{Listing}
 use Rattle.record_model.specs.declared.words.Reply.{Reply}
 use Rattle.record_model.specs.State.{State}
-use Rattle.record_model.specs.Step.{Outcome}
+use Rattle.record_model.specs.Step.{Outcome, is_accepted, is_page_full}
 use Rattle.record_model.specs.Run.{Line, is_cache}
 use Rattle.record_model.specs.Touches.{CacheOp, line_touches}
 use Rattle.page_store.proofs.StagingLaws.{last_none}
 use Rattle.redo_undo.specs.Mirroring.{MirrorsStore, PerformsStore}
+use Rattle.redo_undo.specs.StoreCalls.{AreNext}
+use Rattle.redo_undo.specs.declared.store.TransactionStore.{TransactionStore}
 use Rattle.ring_machine.specs.Performing.{Performs}
 use Rattle.ring_machine.specs.Commands.{line_work}
 use Rattle.ring_machine.proofs.Performing.{performs_answered, performs_as, performs_nothing}
@@ -36,6 +38,7 @@ use Rattle.engine.specs.Invariant.{Invariant, sizes_of}
 use Rattle.engine.specs.Leaves.{LeavesEither, LeavesTable}
 use Rattle.engine.specs.Listings.{listing_of}
 use Rattle.engine.specs.LogReads.{log_reads_by}
+use Rattle.engine.proofs.RingCounts.{run_makes}
 use Rattle.image_changes.specs.Costs.{CallsForUnits}
 use Rattle.shell_text.specs.Texts.{reply_lines, reply_text}
 use Rattle.front_end.specs.declared.halt.Halt.{Halt}
@@ -43,7 +46,7 @@ use Rattle.front_end.specs.declared.halt.Halt.TheVariants as halt
 use Rattle.front_end.specs.Faults.{RunFaults}
 use Rattle.front_end.specs.Tells.{HandsLines, TellsText}
 use Rattle.front_end.proofs.Replies.{hands_as}
-use Rattle.face.specs.Carrying.{CarriesOut, CarriesUntold, DoesLine, HandsReply, LineStepsMachine, TellsAnswer, halted}
+use Rattle.face.specs.Carrying.{CarriesOut, CarriesUntold, DoesLine, HandsReply, LinePerforms, LineStepsMachine, TellsAnswer, halted}
 use Rattle.face.specs.Causes.{AnswerFailsBy}
 use Rattle.face.specs.Run.{IsAsked, StandsFor, line_checkpoints, line_log_reads, step, LeavesAnswer}
 use Rattle.face.proofs.CommandLaws.{fails_by}
@@ -53,7 +56,7 @@ use Rattle.face.proofs.Logs.{fits_stands, goes_on, still_fits}
 use Rattle.face.proofs.NextUnits.{next_later}
 use Rattle.face.proofs.Pagings.{after_same, reads_still}
 use Rattle.face.proofs.Quiet.{is_told, no_change, not_told, says_nothing}
-use Rattle.face.proofs.WornRuns.{cache_work, quit_work, stat_work}
+use Rattle.face.proofs.WornRuns.{cache_work, mark_work, neither, quit_work, stat_work}
 use Rattle.face.proofs.Writings.{last_told, writes_nothing, writes_told}
 
 quiet_always : {T : Type 0} (result : Result T Halt) (P : Type 0) → P → IfErr result (λ h. ((d : Dev) → h ≢ halt.Stop (Device d)) → P)
@@ -145,78 +148,110 @@ pub may_commit : (command : Command) → is_cache (Some command) ≡ false → (
 may_commit command plain line is result old new before now c =
     carried command old new before now plain (λ s. LeavesEither (sizes_of old.store) s (step s (Some command) []).after before.told) (λ s snapshot e. e) line is result c
 
--- A line that changes nothing, and asks for nothing.
+-- A line that asks for nothing. The record table stays as it is.
 pub record IsIdle (line : Line) : Type 0 where
-  pub after : (s : State) → (step s line []).after ≡ s
   pub touches : (s : State) → line_touches s line ≡ []
   pub work : (s : State) → line_work s line ≡ []
   pub checkpoints : (s : State) → line_checkpoints s line ≡ 0
+  pub made : (s : State) → s.made ≤ (step s line []).after.made
 
-pub none_idles : IsIdle None
-none_idles = record { after = λ s. refl; touches = λ s. refl; work = λ s. refl; checkpoints = λ s. refl }
-
-pub stat_idles : IsIdle (Some Stat)
-stat_idles = record { after = λ s. refl; touches = λ s. refl; work = stat_work; checkpoints = λ s. refl }
-
-pub quit_idles : IsIdle (Some Quit)
-quit_idles = record { after = λ s. refl; touches = λ s. refl; work = quit_work; checkpoints = λ s. refl }
-
-pub cache_idles : IsIdle (Some Cache)
-cache_idles = record { after = λ s. refl; touches = λ s. refl; work = cache_work; checkpoints = λ s. refl }
-
-pub carries_idle : (line other : Line) → line ≡ other → IsIdle other → (result : Result Reply Stop) (engine : Engine) (site : Site) → Invariant engine site → IfErr result (λ stop. stop ≡ Memory) →
-    ((s : State) (listing : List CacheLine) → IsAsked line (listing_of engine) listing → Matches engine site s → IfOk (halted result) (λ reply. reply ≡ (step s line listing).reply)) → CarriesUntold (halted result) line engine engine site site
-carries_idle line other is idles result engine site going stops reply = record {
-  course = by result stops;
-  reply = reply;
-  any_moment = λ s fits quiet. no_change (sizes_of engine.store) site s _ quiet (fits_stands engine site s going.store.both.sizes fits);
+pub mark_idles : (n : ℕ) → IsIdle (Some (Mark n))
+mark_idles n = record {
+  touches = λ s. neither (is_accepted s (Mark n)) (is_page_full s (Mark n));
+  work = mark_work n;
+  checkpoints = λ s. refl;
+  made = λ s. run_makes s (Mark n);
 }
-  where
-    idle : IsIdle line
-    idle = subst IsIdle (sym is) idles
 
-    does_it : {T : Type 0} (h : Result T Halt) → ((dev : Dev) → IsErrOf h (halt.Stop (Worn dev)) → ⊥) → (s : State) → Matches engine site s → DoesLine h s line engine engine site site
-    does_it h never s fits = record {
-      fits = ok_always h _ (subst (Matches engine site) (sym (idle.after s)) fits);
-      asks = subst (λ (w : List CacheOp). LineStepsMachine h w (line_log_reads s line) engine.store.pages engine.store.pages site site) (sym (idle.touches s)) (record {
-        machine = ok_always h _ refl;
-        reads = record { flash = omega arith; disk = omega arith };
-        log_reads = omega arith;
-        writes = λ has quiet. writes_nothing engine.store.pages site has quiet;
-        last = λ has quiet. ok_always h _ (last_none engine.store.pages.flash.geometry [] site site refl);
-        rules_are = refl;
-      });
-      performs = record {
-        done = ok_always h _ (performs_as (idle.work s) (performs_nothing (λ m is. is) (λ dev says. absurd cc)));
-        worn = λ m is dev says. absurd (never dev says);
-      };
-      numbers = λ quiet. counts_idle h line engine site s fits going quiet (idle.after s) (idle.checkpoints s);
-      quiet = λ quiet. quiet_always h (IsQuiet site) quiet;
-    }
+module _ (line : Line) (idle : IsIdle line) (old new : Engine) (site : Site) (same : new.store ≡ old.store) (going : Invariant old site) (goes : Invariant new site) (fits_after : (s : State) → Matches old site s → Matches new site (step s line []).after) where
+  does_nothing : {T : Type 0} (h : Result T Halt) → ((dev : Dev) → IsErrOf h (halt.Stop (Worn dev)) → ⊥) → (s : State) → Matches old site s → DoesLine h s line old new site site
+  does_nothing h never s fits = record {
+    fits = ok_always h _ (fits_after s fits);
+    asks = subst (λ (t : TransactionStore). LineStepsMachine h (line_touches s line) (line_log_reads s line) old.store.pages t.pages site site) (sym same)
+        (subst (λ (w : List CacheOp). LineStepsMachine h w (line_log_reads s line) old.store.pages old.store.pages site site) (sym (idle.touches s)) (record {
+          machine = ok_always h _ refl;
+          reads = record { flash = omega arith; disk = omega arith };
+          log_reads = omega arith;
+          writes = λ has quiet. writes_nothing old.store.pages site has quiet;
+          last = λ has quiet. ok_always h _ (last_none old.store.pages.flash.geometry [] site site refl);
+          rules_are = refl;
+        }));
+    performs = subst (λ (t : TransactionStore). LinePerforms h (line_work s line) old.store t site site) (sym same) (record {
+      done = ok_always h _ (performs_as (idle.work s) (performs_nothing (λ m is. is) (λ dev says. absurd cc)));
+      worn = λ m is dev says. absurd (never dev says);
+    });
+    numbers = λ quiet. counts_idle h line old new site s same fits going quiet (idle.made s) (idle.checkpoints s);
+    quiet = λ quiet. quiet_always h (IsQuiet site) quiet;
+  }
 
-    by : (r : Result Reply Stop) → IfErr r (λ stop. stop ≡ Memory) → CarriesOut (halted r) line engine engine site site
-    by (Ok x) memory = record {
-      does = does_it (Ok x) (λ dev says. cc);
-      left = λ honest. refl;
-      stays_quiet = λ honest quiet. quiet;
-      going = going;
-      cause = tt;
-      next = λ honest is. is;
-      preserves = goes_nowhere site;
-      sizes = refl;
-      faults = refl;
-    }
-    by (Err stop) memory = subst (λ (e : Stop). CarriesOut {T = Reply} (Err (halt.Stop e)) line engine engine site site) (sym memory) (record {
-      does = does_it (Err (halt.Stop Memory)) (λ dev says. cc);
-      left = λ honest. refl;
-      stays_quiet = λ honest quiet. tt;
-      going = tt;
-      cause = tt;
-      next = λ honest is. tt;
-      preserves = goes_nowhere site;
-      sizes = refl;
-      faults = refl;
-    })
+  nothing_carried : (r : Result Reply Stop) → IfErr r (λ stop. stop ≡ Memory) → CarriesOut (halted r) line old new site site
+  nothing_carried (Ok x) memory = record {
+    does = does_nothing (Ok x) (λ dev says. cc);
+    left = λ honest. refl;
+    stays_quiet = λ honest quiet. quiet;
+    going = goes;
+    cause = tt;
+    next = λ honest is. subst (λ (t : TransactionStore). AreNext t site) (sym same) is;
+    preserves = goes_nowhere site;
+    sizes = ap sizes_of same;
+    faults = refl;
+  }
+  nothing_carried (Err stop) memory = subst (λ (e : Stop). CarriesOut {T = Reply} (Err (halt.Stop e)) line old new site site) (sym memory) (record {
+    does = does_nothing (Err (halt.Stop Memory)) (λ dev says. cc);
+    left = λ honest. refl;
+    stays_quiet = λ honest quiet. tt;
+    going = tt;
+    cause = tt;
+    next = λ honest is. tt;
+    preserves = goes_nowhere site;
+    sizes = ap sizes_of same;
+    faults = refl;
+  })
+
+  carries_nothing : (result : Result Reply Stop) → IfErr result (λ stop. stop ≡ Memory) →
+      ((s : State) (listing : List CacheLine) → IsAsked line (listing_of old) listing → Matches old site s → IfOk (halted result) (λ reply. reply ≡ (step s line listing).reply)) → CarriesUntold (halted result) line old new site site
+  carries_nothing result stops reply = record {
+    course = nothing_carried result stops;
+    reply = reply;
+    any_moment = λ s fits quiet. no_change (sizes_of old.store) site s _ quiet (fits_stands old site s going.store.both.sizes fits);
+  }
+
+-- a session's mark is set
+pub carries_mark : (line : Line) (n : ℕ) → line ≡ Some (Mark n) → (reply : Reply) (old new : Engine) (site : Site) → new.store ≡ old.store → Invariant old site → Invariant new site →
+    ((s : State) → Matches old site s → (reply ≡ (step s (Some (Mark n)) []).reply) × Matches new site (step s (Some (Mark n)) []).after) → CarriesUntold (Ok reply) line old new site site
+carries_mark line n is reply old new site same going goes marks =
+    subst (λ (l : Line). CarriesUntold (Ok reply) l old new site site) (sym is)
+    (carries_nothing (Some (Mark n)) (mark_idles n) old new site same going goes (λ s fits. (marks s fits).1) (Ok reply) tt
+    (λ s listing asked fits. (marks s fits).0 ∙ ap (λ (o : Outcome). o.reply) (sym (same_step s (Some (Mark n)) listing refl))))
+
+-- A line that changes nothing, and asks for nothing.
+pub record IsStill (line : Line) : Type 0 where
+  pub after : (s : State) → (step s line []).after ≡ s
+  pub idle : IsIdle line
+
+stays_still : (line : Line) → ((s : State) → (step s line []).after ≡ s) → ((s : State) → line_touches s line ≡ []) → ((s : State) → line_work s line ≡ []) → ((s : State) → line_checkpoints s line ≡ 0) → IsStill line
+stays_still line after touches work checkpoints = record {
+  after = after;
+  idle = record { touches = touches; work = work; checkpoints = checkpoints; made = λ s. let is = ap (λ (a : State). a.made) (after s) in omega (arith, is) };
+}
+
+pub none_idles : IsStill None
+none_idles = stays_still None (λ s. refl) (λ s. refl) (λ s. refl) (λ s. refl)
+
+pub stat_idles : IsStill (Some Stat)
+stat_idles = stays_still (Some Stat) (λ s. refl) (λ s. refl) stat_work (λ s. refl)
+
+pub quit_idles : IsStill (Some Quit)
+quit_idles = stays_still (Some Quit) (λ s. refl) (λ s. refl) quit_work (λ s. refl)
+
+pub cache_idles : IsStill (Some Cache)
+cache_idles = stays_still (Some Cache) (λ s. refl) (λ s. refl) cache_work (λ s. refl)
+
+pub carries_idle : (line other : Line) → line ≡ other → IsStill other → (result : Result Reply Stop) (engine : Engine) (site : Site) → Invariant engine site → IfErr result (λ stop. stop ≡ Memory) →
+    ((s : State) (listing : List CacheLine) → IsAsked line (listing_of engine) listing → Matches engine site s → IfOk (halted result) (λ reply. reply ≡ (step s line listing).reply)) → CarriesUntold (halted result) line engine engine site site
+carries_idle line other is idles result engine site going stops reply =
+    let stays = subst IsStill (sym is) idles in
+    carries_nothing line stays.idle engine engine site refl going going (λ s fits. subst (Matches engine site) (sym (stays.after s)) fits) result stops reply
 
 -- the listing of the cache, which may want memory
 pub listing_is : (line : Line) → is_cache line ≡ true → (result : Result Reply Stop) (engine : Engine) (s : State) (listing : List CacheLine) → IsAsked line (listing_of engine) listing → IfOk result (λ reply. reply ≡ Listing (listing_of engine)) → IfOk (halted result) (λ reply. reply ≡ (step s line listing).reply)

@@ -20,8 +20,9 @@ use Rattle.record_model.specs.Run.{Line, Turn, is_quit, later_listings, next_lis
 use Rattle.log_records.specs.Log.{Entry}
 use Rattle.log_store.specs.declared.store.LogStore.{LogStore}
 use Rattle.redo_laws.specs.Holding.{blocks_to}
-use Rattle.redo_laws.specs.Numbers.{HasNumbers}
+use Rattle.redo_laws.specs.Numbers.{HasNumbers, SkipsNone}
 use Rattle.redo_laws.proofs.RingNumbers.{leaves_more, leaves_unchanged}
+use Rattle.redo_undo.specs.declared.store.TransactionStore.{TransactionStore}
 use Rattle.engine.specs.declared.engine.Engine.{Engine}
 use Rattle.engine.specs.Representation.{Matches}
 use Rattle.engine.specs.Invariant.{Invariant, sizes_of}
@@ -71,13 +72,17 @@ counts_err e f old new before now s after n c = record {
   skips = record { log = tt; any_moment = c.any_moment; device_calls = tt };
 }
 
--- a line that asks for no call
-pub counts_idle : {T F : Type 0} (r : Result T F) (line : Line) (engine : Engine) (site : Site) (s : State) → Matches engine site s → Invariant engine site → IsQuiet site → (step s line []).after ≡ s → line_checkpoints s line ≡ 0 →
-    CountsOn r engine engine site site s (step s line []).after (line_checkpoints s line)
-counts_idle {T} {F} r line engine site s fits going quiet stays none =
-    subst (λ (n : ℕ). CountsOn r engine engine site site s (step s line []).after n) (sym none)
-    (subst (λ (a : State). CountsOn r engine engine site site s a 0) (sym stays)
-    (counts_as reply.Done r engine engine site site s s 0 (count_nothing {E = F} reply.Done engine site s s fits going quiet (omega arith))))
+-- a line that asks for no call, and leaves log and pages as they are
+pub counts_idle : {T F : Type 0} (r : Result T F) (line : Line) (old new : Engine) (site : Site) (s : State) → new.store ≡ old.store → Matches old site s → Invariant old site → IsQuiet site → s.made ≤ (step s line []).after.made → line_checkpoints s line ≡ 0 →
+    CountsOn r old new site site s (step s line []).after (line_checkpoints s line)
+counts_idle {T} {F} r line old new site s same fits going quiet few none =
+    let after = (step s line []).after in
+    let c = counts_as reply.Done r old old site site s after 0 (count_nothing {E = F} reply.Done old site s after fits going quiet few) in
+    subst (λ (n : ℕ). CountsOn r old new site site s after n) (sym none) (record {
+      records = c.records;
+      made = c.made;
+      skips = subst (λ (t : TransactionStore). SkipsNone r (sizes_of old.store) old.store.log t.log site site c.records 0) (sym same) c.skips;
+    })
 
 -- What the turns of a run make.
 

@@ -8,7 +8,7 @@ use Rattle.record_model.specs.declared.words.Reply.{Reply}
 use Rattle.record_model.specs.declared.words.Reply.TheVariants.{Listing}
 use Rattle.record_model.specs.declared.words.CacheLine.{CacheLine}
 use Rattle.record_model.specs.State.{State}
-use Rattle.record_model.specs.Step.{refusal, outcome}
+use Rattle.record_model.specs.Step.{Outcome, carried_through, fills_page, full, lacks_room, outcome, ready, refusal}
 use Rattle.record_model.specs.Run.{Line, Turn, is_cache, next_listing, later_listings}
 use Rattle.engine.specs.declared.engine.Engine.{Engine}
 use Rattle.engine.specs.Listings.{listing_of}
@@ -34,10 +34,16 @@ pub never_cache : (line : Line) (command : Command) → is_cache line ≡ false 
 never_cache line command not_cache says is = true≢false (sym (ap is_cache (says ∙ ap Some is)) ∙ not_cache)
 
 -- what the others are answered doesn't depend on it
+same_through : (s : State) (command : Command) (listing : List CacheLine) (o : Option Reply) → is_cache (Some command) ≡ false → carried_through s command listing o ≡ carried_through s command [] o
+same_through s command listing (Some refused) not_cache = refl
+same_through s Cache listing None not_cache = absurd (true≢false not_cache)
+same_through s other listing None not_cache = refl
+
 same_outcome : (s : State) (command : Command) (listing : List CacheLine) (o : Option Reply) → is_cache (Some command) ≡ false → outcome s command listing o ≡ outcome s command [] o
 same_outcome s command listing (Some refused) not_cache = refl
-same_outcome s Cache listing None not_cache = absurd (true≢false not_cache)
-same_outcome s other listing None not_cache = refl
+same_outcome s command listing None not_cache =
+    let r = ready s command in
+    ap (λ (o : Outcome). if lacks_room r command then record { after = r; reply = full r } else o) (same_through r command listing (fills_page r command) not_cache)
 
 pub same_step : (s : State) (line : Line) (listing : List CacheLine) → is_cache line ≡ false → step s line listing ≡ step s line []
 same_step s None listing not_cache = refl

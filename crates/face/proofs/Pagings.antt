@@ -10,7 +10,7 @@ use Rattle.site.specs.declared.outside.Stop.{Stop}
 use Rattle.site.specs.State.{State as Site, Image}
 use Rattle.record_model.specs.State.{State}
 use Rattle.record_model.specs.Run.{Line, Turn, is_quit, left_by, turns, next_listing, later_listings}
-use Rattle.record_model.specs.Step.{Outcome, refusal, outcome, ready, effect, answer, full, lacks_room}
+use Rattle.record_model.specs.Step.{Outcome, refusal, outcome, ready, carried_through, fills_page, full, lacks_room}
 use Rattle.record_model.specs.declared.words.CacheLine.{CacheLine}
 use Rattle.record_model.specs.declared.words.Reply.{Reply}
 use Rattle.record_model.specs.declared.words.Command.{Command}
@@ -51,20 +51,21 @@ plain_after s [] = s
 plain_after s (line ∷ lines) = plain_after (step s line []).after lines
 
 -- what a line leaves doesn't
-abbrev chosen : State → Command → List CacheLine → Bool → Outcome
-chosen s command listing lacks = if lacks then record { after = s; reply = full s } else record { after = effect s command; reply = answer s command listing }
+abbrev chosen : State → Command → List CacheLine → Bool → Option Reply → Outcome
+chosen s command listing lacks fills = if lacks then record { after = s; reply = full s } else carried_through s command listing fills
 
 pub after_same : (s : State) (line : Line) (listing other : List CacheLine) → (step s line listing).after ≡ (step s line other).after
 after_same s None listing other = refl
 after_same s (Some command) listing other = by (refusal s command)
   where
-    way : (b : Bool) → (chosen (ready s command) command listing b).after ≡ (chosen (ready s command) command other b).after
-    way true = refl
-    way false = refl
+    way : (b : Bool) (o : Option Reply) → (chosen (ready s command) command listing b o).after ≡ (chosen (ready s command) command other b o).after
+    way true o = refl
+    way false (Some refused) = refl
+    way false None = refl
 
     by : (o : Option Reply) → (outcome s command listing o).after ≡ (outcome s command other o).after
     by (Some refused) = refl
-    by None = way (lacks_room (ready s command) command)
+    by None = way (lacks_room (ready s command) command) (fills_page (ready s command) command)
 
 plain_is : (s : State) (lines : List Line) (listings : List (List CacheLine)) → plain_after s lines ≡ after_lines s lines listings
 unfolding plain_after

@@ -10,8 +10,8 @@ use Rattle.site.proofs.Laws.{holds_now}
 use Rattle.record_model.specs.declared.words.CacheLine.{CacheLine}
 use Rattle.record_model.specs.Run.{Line, Turn, is_quit, turns, next_listing, later_listings}
 use Rattle.record_model.specs.State.{State}
-use Rattle.record_model.specs.declared.words.Command.TheVariants.{Stat, Quit, Cache}
-use Rattle.record_model.specs.Step.{is_accepted}
+use Rattle.record_model.specs.declared.words.Command.TheVariants.{Stat, Quit, Cache, Mark}
+use Rattle.record_model.specs.Step.{is_accepted, is_page_full}
 use Rattle.log_records.specs.declared.log_record.LogRecord.{LogRecord}
 use Rattle.checkpoint.specs.declared.master.Master.{Master}
 use Rattle.image_changes.specs.Rings.{group_shape, segment_shape, units_on}
@@ -57,6 +57,12 @@ idle : (b : Bool) → ◌≡◌ {A = List RingOp} (if b then [] else []) []
 idle true = refl
 idle false = refl
 
+-- nor where neither is the case
+pub neither : {T : Type 0} (b c : Bool) → ◌≡◌ {A = List T} (if b then [] else (if c then [] else [])) []
+neither true c = refl
+neither false true = refl
+neither false false = refl
+
 pub stat_work : (s : State) → line_work s (Some Stat) ≡ []
 stat_work s = idle (is_accepted s Stat)
 
@@ -65,6 +71,9 @@ quit_work s = idle (is_accepted s Quit)
 
 pub cache_work : (s : State) → line_work s (Some Cache) ≡ []
 cache_work s = idle (is_accepted s Cache)
+
+pub mark_work : (n : ℕ) (s : State) → line_work s (Some (Mark n)) ≡ []
+mark_work n s = neither (is_accepted s (Mark n)) (is_page_full s (Mark n))
 
 -- A line more does its own work behind that of the others.
 

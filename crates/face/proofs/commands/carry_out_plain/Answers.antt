@@ -4,7 +4,7 @@ use Rattle.record_model.specs.declared.words.Reply.TheVariants as reply
 use Rattle.record_model.specs.declared.words.Why.TheVariants.{BadLine}
 use Rattle.record_model.specs.Run.{Line}
 use Rattle.face.specs.Run.{step}
-use Rattle.face.proofs.Carrying.{carries_idle, keeps_table, may_commit, none_idles, quit_idles, stat_idles}
+use Rattle.face.proofs.Carrying.{carries_idle, carries_mark, keeps_table, may_commit, none_idles, quit_idles, stat_idles}
 use Rattle.face.proofs.Listed.{never_cache}
 use Rattle.face.proofs.commands.carry_out_plain.Goals as goal
 
@@ -28,6 +28,14 @@ returns-in-Commit g c = may_commit _ refl c.args.line (c.in-Some.is ∙ ap Some 
 
 pub returns-in-Abort : goal.returns-in-Abort
 returns-in-Abort g c = keeps_table _ refl c.args.line (c.in-Some.is ∙ ap Some c.in-Abort.is) c.abort.result _ _ _ _ (record { keeps = c.abort.ensures.serves; log_reads = c.abort.ensures.log_reads; answers = c.abort.ensures.answers; performs = c.abort.ensures.performs })
+
+pub returns-in-Mark : goal.returns-in-Mark
+returns-in-Mark g c =
+    let site = g.S.Site.state c.args.site.now in
+    carries_mark c.args.line _ (c.in-Some.is ∙ ap Some c.in-Mark.is) c.mark.result c.args.engine.now c.mark.new.engine site c.mark.ensures.store c.requires.going (c.mark.ensures.going site c.requires.going) (λ s fits. c.mark.ensures.answers s site fits)
+
+pub returns-in-Back : goal.returns-in-Back
+returns-in-Back g c = keeps_table _ refl c.args.line (c.in-Some.is ∙ ap Some c.in-Back.is) c.back.result _ _ _ _ (record { keeps = c.back.ensures.serves; log_reads = c.back.ensures.log_reads; answers = c.back.ensures.answers; performs = c.back.ensures.performs })
 
 pub returns-in-Get : goal.returns-in-Get
 returns-in-Get g c = keeps_table _ refl c.args.line (c.in-Some.is ∙ ap Some c.in-Get.is) c.get.result _ _ _ _ (record { keeps = c.get.ensures.serves.keeps; log_reads = λ s fits. omega (arith, c.get.ensures.serves.log_reads); answers = c.get.ensures.answers; performs = c.get.ensures.performs })
