@@ -15,7 +15,7 @@ METADATA = f"Metadata-Version: 2.1\nName: {NAME}\nVersion: {VERSION}\nRequires-P
 def _package():
     folder = os.path.join(HERE, NAME)
     for name in sorted(os.listdir(folder)):
-        if name.endswith((".py", ".typed")):
+        if name.endswith((".py", ".typed", ".json")):
             with open(os.path.join(folder, name), "rb") as file:
                 yield f"{NAME}/{name}", file.read()
 

@@ -410,7 +410,8 @@ class Packages(Case):
         done = subprocess.run([*pip, "install", "--no-index", "--no-compile", "--target", self.path("to"), HERE],
                               capture_output=True, text=True, check=False)
         self.assertEqual(done.returncode, 0, done.stderr)
-        code = "import vulzhorn, sys; sys.exit(not vulzhorn.__file__.startswith(sys.argv[1]))"
+        code = ("import sys, vulzhorn.__main__ as shell\n"
+                "sys.exit(not (shell.__file__.startswith(sys.argv[1]) and 'get' in shell.COMMANDS))")
         subprocess.run([sys.executable, "-c", code, self.path("to")], cwd=self.folder, check=True,
                        env={**os.environ, "PYTHONPATH": self.path("to")})
 
