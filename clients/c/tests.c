@@ -99,6 +99,13 @@ static void try_sessions(void) {
     check(vulzhorn_read(database, sessions[1], 7, &value) == VULZHORN_OK && value.length == 2, "others see it");
     check(vulzhorn_write(database, sessions[2], 7, "x", 1) == VULZHORN_BUSY, "what one has read isn't written");
     check(vulzhorn_erase(database, sessions[1], 7) == VULZHORN_OK, "a session erases");
+    check(vulzhorn_mark(database, sessions[1]) == VULZHORN_OK, "marks");
+    check(vulzhorn_write(database, sessions[1], 7, "x", 1) == VULZHORN_OK, "writes behind it");
+    check(vulzhorn_back(database, sessions[1], -1) == VULZHORN_OK, "goes back");
+    check(vulzhorn_read(database, sessions[1], 7, &value) == VULZHORN_OK && !value.there, "to what it had");
+    check(vulzhorn_back(database, sessions[1], 2) == VULZHORN_REFUSED, "not to more");
+    check(vulzhorn_back(database, sessions[1], 0) == VULZHORN_OK, "goes back to nothing");
+    check(vulzhorn_read(database, sessions[1], 7, &value) == VULZHORN_OK && value.there, "and sees the table");
     check(vulzhorn_abort(database, sessions[1]) == VULZHORN_OK, "and aborts");
     check(vulzhorn_read(database, sessions[0], 7, &value) == VULZHORN_NO_SESSION, "a session that has ended");
     check(vulzhorn_begin(database, &sessions[0]) == VULZHORN_OK, "its number is free again");

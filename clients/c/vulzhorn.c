@@ -62,9 +62,9 @@ static const char *spell(char hex[HEX_ROOM], const unsigned char *octets, size_t
 
 /* Takes the last line of a reply; answers whether it is one. */
 static bool read_reply(const char *line, vulzhorn_request *request) {
-    static const char *const done[] = {"none", "ok", "committed ", "aborted", "end ", "open ", "ready "};
+    static const char *const done[] = {"none", "ok", "committed ", "aborted", "back ", "end ", "open ", "ready "};
     static const char *const refused[] = {/* in the order of the errors, from VULZHORN_BUSY to VULZHORN_REFUSED */
-        "busy ", "full ", "refused record", "refused long", "refused session", "refused "};
+        "busy ", "full page ", "full ", "refused record", "refused long", "refused session", "refused "};
     const char *rest = behind(line, "value ");
     if (rest != NULL) return read_value(rest, &request->value);
     for (size_t i = 0; rest == NULL && i < sizeof done / sizeof *done; i++) rest = behind(line, done[i]);
@@ -383,6 +383,10 @@ vulzhorn_error vulzhorn_scan(vulzhorn *db, unsigned session, uint32_t first, uns
     return request.error;
 }
 
+vulzhorn_error vulzhorn_mark(vulzhorn *db, unsigned session) { return ask(db, NULL, "mark %u\n", session, 0); }
+vulzhorn_error vulzhorn_back(vulzhorn *db, unsigned session, int standing) {
+    return ask(db, NULL, standing < 0 ? "back %u\n" : "back %u %u\n", session, number_of((uint32_t)standing));
+}
 vulzhorn_error vulzhorn_commit(vulzhorn *db, unsigned session) { return leave(db, "commit %u\n", session); }
 vulzhorn_error vulzhorn_abort(vulzhorn *db, unsigned session) { return leave(db, "abort %u\n", session); }
 

@@ -12,6 +12,7 @@
 #define VULZHORN_ERRORS(ERROR)                                                                                         \
     ERROR(OK, "It is done.")                                                                                           \
     ERROR(BUSY, "Another session holds the record: abort, and try again behind a pause.")                              \
+    ERROR(PAGE_FULL, "The record's page has no room for the value: erase others of its 32 records.")                   \
     ERROR(FULL, "The log has no room for a further write: commit or abort what is open.")                              \
     ERROR(NO_RECORD, "No record has this number: the first is 0, and there are 32 for each page.")                     \
     ERROR(TOO_LONG, "The value has more octets than the program takes: cut it, or spread it over records.")            \
@@ -83,6 +84,8 @@ vulzhorn_error vulzhorn_write(vulzhorn *db, unsigned session, uint32_t record, c
 vulzhorn_error vulzhorn_erase(vulzhorn *db, unsigned session, uint32_t record);
 vulzhorn_error vulzhorn_scan(vulzhorn *db, unsigned session, uint32_t first, unsigned count, vulzhorn_item *items,
                              size_t *found);
+vulzhorn_error vulzhorn_mark(vulzhorn *db, unsigned session);
+vulzhorn_error vulzhorn_back(vulzhorn *db, unsigned session, int standing);
 vulzhorn_error vulzhorn_commit(vulzhorn *db, unsigned session);
 vulzhorn_error vulzhorn_abort(vulzhorn *db, unsigned session);
 

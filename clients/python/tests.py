@@ -114,6 +114,23 @@ class Transactions(Case):
             for use in (lambda: one.read(7), one.commit, one.abort):
                 self.assertRaises(NoSession, use)
 
+    def test_marks(self):
+        with self.open() as db:
+            with db.transaction() as one:
+                one.write(1, b"a")
+                one.mark()
+                one.write(1, b"b")
+                replies = [one.submit("write", record, b"c") for record in (2, 512, 3)]
+                self.assertRaises(NoSuchRecord, replies[1].result)
+                self.assertEqual(one.back(), 3)
+                self.assertEqual([one.read(record) for record in (1, 2, 3)], [b"a", None, None])
+                self.assertRaises(Busy, db.__getitem__, 2)
+                self.assertRaisesRegex(Refused, "refused mark", one.back, 2)
+                one.write(3, b"d")
+                one.erase(3)
+                self.assertEqual((one.back(2), one.back(2)), (1, 0))
+            self.assertEqual(db.scan(0, 64), [(1, b"a"), (3, b"d")])
+
     def test_eight_sessions(self):
         with self.open() as db:
             opened = [db.transaction() for _ in range(8)]
@@ -184,10 +201,11 @@ class Kills(Case):
 
     def lines(self, model, choice):
         while True:
-            word = choice.choice(["get", "set", "begin", "read", "write", "write", "erase", "scan", "commit", "commit", "abort"])
+            word = choice.choice(["get", "set", "begin", "read", "write", "write", "erase", "scan", "mark", "back", "commit", "commit", "abort"])
             session, record = [choice.randrange(4)] * (word not in ("get", "set")), [choice.randrange(40)]
             record += [choice.randrange(1, 24)] if word == "scan" else []
-            record = [] if word in ("begin", "commit", "abort") else record
+            record = [] if word in ("begin", "mark", "commit", "abort") else record
+            record = [choice.randrange(4)][:choice.randrange(2)] if word == "back" else record
             value = [bytes(choice.randrange(256) for _ in range(choice.randrange(20)))] if word in ("set", "write") else []
             line = " ".join([word, *map(str, session + record), *(octets.hex() or "-" for octets in value)])
             yield word, (*session, *record, *value), model.answer(line)
@@ -207,7 +225,7 @@ class Kills(Case):
             elif isinstance(answer, bytes):
                 self.assertEqual(f"value {answer.hex() or '-'}", expected)
             else:
-                self.assertIn(expected, [f"committed {answer}", "none", "ok", "aborted"])
+                self.assertIn(expected, [f"committed {answer}", f"back {answer}", "none", "ok", "aborted"])
         return True
 
     def life(self, table, commits, choice):
@@ -313,7 +331,8 @@ class Openings(Case):
     def test_texts(self):
         """What can't be brought about in a second."""
         self.assertIsInstance(ended(8, "fault worn log", ""), Worn)
-        self.assertEqual(refusal("full page 3 4000").numbers, [3, 4000])
+        full = refusal("full page 3 4000")
+        self.assertEqual((type(full), full.numbers), (LogFull, [3, 4000]))
         self.assertEqual([kind for kind in Error.__subclasses__() if not kind.__doc__], [])
 
     def test_word(self):

@@ -12,7 +12,6 @@ from typing import Any, Callable, List, Optional, Tuple, Type, TypeVar, Union
 from .errors import Busy, Ended, Error, NoSession, NoSuchRecord, NotBlank, WrongSizes
 from .program import Program, Reply, find_program
 
-WORD = "run"  # the word that serves lines; a program that doesn't know it is called with `run`
 SESSIONS = 8
 SCAN_MAX = 64  # records of one scan
 Answer = TypeVar("Answer")
@@ -35,7 +34,7 @@ class Transaction(AbstractContextManager):
         self._database, self.session, self.is_open = database, session, True
 
     def submit(self, word: str, *arguments: Union[int, bytes]) -> Reply:
-        """Sends `read`, `write`, `erase` or `scan` with its arguments, and answers the future of the reply."""
+        """Sends `read`, `write`, `erase`, `scan`, `mark` or `back` with its arguments; answers the reply's future."""
         if not self.is_open:
             raise NoSession("the transaction has ended")
         return self._database.submit(word, self.session, *arguments)
@@ -57,6 +56,14 @@ class Transaction(AbstractContextManager):
         end = first + count
         replies = [self.submit("scan", at, min(SCAN_MAX, end - at)) for at in range(first, end, SCAN_MAX)]
         return [item for reply in replies for item in reply.result()]
+
+    def mark(self) -> None:
+        """Sets its mark behind all that it has written so far."""
+        self.submit("mark").result()
+
+    def back(self, *standing: int) -> int:
+        """Takes back the writes behind its mark, or all but the first so many; answers how many these were."""
+        return self.submit("back", *standing).result()
 
     def commit(self) -> int:
         """Commits, and answers how many commits the database then has. All of it is durable when this returns."""
@@ -92,7 +99,7 @@ class Database(AbstractContextManager):
     __iter__ = None  # else `in` and `for` would ask for one record after the other; `scan` asks for many
 
     def __init__(self, folder: str, pool: int = 64, *, sizes: Optional[Tuple[int, int, int]] = None,
-                 program: Optional[str] = None, word: str = WORD) -> None:
+                 program: Optional[str] = None, word: str = "run") -> None:
         self.folder, self._face = os.path.abspath(folder), os.path.abspath(program) if program else find_program()
         self._free: queue.LifoQueue[int] = queue.LifoQueue()
         for session in reversed(range(SESSIONS)):
@@ -102,12 +109,10 @@ class Database(AbstractContextManager):
             with suppress(NotBlank):
                 self._start("new", *sizes)
                 self.close()
-        try:
-            self._start(word, pool)
-        except WrongSizes:
-            if word == "run":
-                raise
-            self._start("run", pool)
+        if word != "run":  # a program that doesn't know it is called with `run`
+            with suppress(WrongSizes):
+                return self._start(word, pool)
+        self._start("run", pool)
 
     def _start(self, *words: Union[str, int]) -> None:
         self._program = Program([self._face, *map(str, words)], self.folder)
@@ -164,9 +169,8 @@ class Database(AbstractContextManager):
         with self.transaction() as transaction:
             return function(transaction)
 
-    def close(self) -> None:
+    def close(self, *_: object) -> None:
         """Waits until all that was asked is answered and the program has ended. Open transactions are undone."""
         self._program.end()
 
-    def __exit__(self, *_: object) -> None:
-        self.close()
+    __exit__ = close

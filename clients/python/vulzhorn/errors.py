@@ -7,7 +7,7 @@ class Error(Exception):
 
 
 class Refused(Error):
-    """The program refused a request, which changed nothing: `reply` is its answer, `numbers` are those in it."""
+    """The program refused a request, which changed nothing: docs/COMMANDS.md says why (`reply`, and its `numbers`)."""
 
     def __init__(self, reply: str) -> None:
         super().__init__(reply)
@@ -16,7 +16,7 @@ class Refused(Error):
 class Busy(Refused):
     """Another session, of this number, holds the record: try again when it has ended."""
 class LogFull(Refused):
-    """The log has no room for a further write (used, owed, at most): commit or abort what is open."""
+    """No room in the log (used, owed, at most), or in the page (page, octets): commit or abort what is open."""
 class NoSuchRecord(Refused, IndexError):
     """No record has this number: the first is 0, and there are 32 for each page."""
 class ValueTooLong(Refused, ValueError):

@@ -62,7 +62,7 @@ class Reply:
             return False
         if word == "value":
             self._result = octets(rest)
-        elif word in ("open", "ready", "committed"):
+        elif word in ("open", "ready", "committed", "back"):
             self._result = int(rest.split(" ")[0])
         elif word == "stat":
             words = rest.split(" ")
@@ -75,11 +75,6 @@ class Reply:
             raise ValueError(line)
         self._awaited.release()
         return True
-
-    def lose(self, error: Error) -> None:
-        """Tells all that wait why no reply comes."""
-        self._error = error
-        self._awaited.release()
 
 
 class Program:
@@ -139,4 +134,5 @@ class Program:
             if cause.status or not self._ended:
                 self._ended = cause
         for reply in self._waiting:
-            reply.lose(cause if reply is self.opening else Unanswered(reply.line, cause))
+            reply._error = cause if reply is self.opening else Unanswered(reply.line, cause)
+            reply._awaited.release()
