@@ -18,7 +18,6 @@ HERE = os.path.dirname(os.path.abspath(__file__))
 sys.path[:0] = [HERE, f"{HERE}/../../checks"]
 from storage_model import Model  # noqa: E402
 from vulzhorn import (Busy, Damaged, Database, DeviceFailed, Ended, Error, InUse, LogFull, NoDatabase,  # noqa: E402
-                      NoSuchMark, PageFull,
                       NoSession, NoSuchRecord, Refused, Unanswered, Unusable, ValueTooLong, Worn, WrongSizes, find_program)
 from vulzhorn.errors import ended, refusal  # noqa: E402
 
@@ -115,24 +114,21 @@ class Transactions(Case):
             for use in (lambda: one.read(7), one.commit, one.abort):
                 self.assertRaises(NoSession, use)
 
-    def test_savepoints(self):
+    def test_marks(self):
         with self.open() as db:
             with db.transaction() as one:
                 one.write(1, b"a")
-                with self.assertRaises(KeyError), one.savepoint():
-                    one.write(1, b"b")
-                    with self.assertRaises(Refused), one.savepoint():  # one in the other
-                        replies = [one.submit("write", record, b"c") for record in (2, 512, 3)]
-                        [reply.result() for reply in replies]
-                    self.assertEqual([one.read(record) for record in (1, 2, 3)], [b"b", None, None])
-                    one.erase(2)
-                    raise KeyError
-                with one.savepoint():
-                    one.write(3, b"d")
-                self.assertRaises(NoSuchMark, one.back, 3)
-                one.submit("mark").result()
-                one.write(4, b"e")
-                self.assertEqual((one.back(), one.back(2)), (1, 0))
+                one.mark()
+                one.write(1, b"b")
+                replies = [one.submit("write", record, b"c") for record in (2, 512, 3)]
+                self.assertRaises(NoSuchRecord, replies[1].result)
+                self.assertEqual(one.back(), 3)
+                self.assertEqual([one.read(record) for record in (1, 2, 3)], [b"a", None, None])
+                self.assertRaises(Busy, db.__getitem__, 2)
+                self.assertRaisesRegex(Refused, "refused mark", one.back, 2)
+                one.write(3, b"d")
+                one.erase(3)
+                self.assertEqual((one.back(2), one.back(2)), (1, 0))
             self.assertEqual(db.scan(0, 64), [(1, b"a"), (3, b"d")])
 
     def test_eight_sessions(self):
@@ -205,10 +201,11 @@ class Kills(Case):
 
     def lines(self, model, choice):
         while True:
-            word = choice.choice(["get", "set", "begin", "read", "write", "write", "erase", "scan", "commit", "commit", "abort"])
+            word = choice.choice(["get", "set", "begin", "read", "write", "write", "erase", "scan", "mark", "back", "commit", "commit", "abort"])
             session, record = [choice.randrange(4)] * (word not in ("get", "set")), [choice.randrange(40)]
             record += [choice.randrange(1, 24)] if word == "scan" else []
-            record = [] if word in ("begin", "commit", "abort") else record
+            record = [] if word in ("begin", "mark", "commit", "abort") else record
+            record = [choice.randrange(4)][:choice.randrange(2)] if word == "back" else record
             value = [bytes(choice.randrange(256) for _ in range(choice.randrange(20)))] if word in ("set", "write") else []
             line = " ".join([word, *map(str, session + record), *(octets.hex() or "-" for octets in value)])
             yield word, (*session, *record, *value), model.answer(line)
@@ -228,7 +225,7 @@ class Kills(Case):
             elif isinstance(answer, bytes):
                 self.assertEqual(f"value {answer.hex() or '-'}", expected)
             else:
-                self.assertIn(expected, [f"committed {answer}", "none", "ok", "aborted"])
+                self.assertIn(expected, [f"committed {answer}", f"back {answer}", "none", "ok", "aborted"])
         return True
 
     def life(self, table, commits, choice):
@@ -335,7 +332,7 @@ class Openings(Case):
         """What can't be brought about in a second."""
         self.assertIsInstance(ended(8, "fault worn log", ""), Worn)
         full = refusal("full page 3 4000")
-        self.assertEqual((type(full), full.numbers), (PageFull, [3, 4000]))
+        self.assertEqual((type(full), full.numbers), (LogFull, [3, 4000]))
         self.assertEqual([kind for kind in Error.__subclasses__() if not kind.__doc__], [])
 
     def test_word(self):

@@ -6,13 +6,12 @@ import os
 import queue
 import random
 import time
-from contextlib import AbstractContextManager, contextmanager, suppress
-from typing import Any, Callable, Iterator, List, Optional, Tuple, Type, TypeVar, Union
+from contextlib import AbstractContextManager, suppress
+from typing import Any, Callable, List, Optional, Tuple, Type, TypeVar, Union
 
 from .errors import Busy, Ended, Error, NoSession, NoSuchRecord, NotBlank, WrongSizes
 from .program import Program, Reply, find_program
 
-WORD = "run"  # the word that serves lines; a program that doesn't know it is called with `run`
 SESSIONS = 8
 SCAN_MAX = 64  # records of one scan
 Answer = TypeVar("Answer")
@@ -33,15 +32,12 @@ class Transaction(AbstractContextManager):
 
     def __init__(self, database: Database, session: int) -> None:
         self._database, self.session, self.is_open = database, session, True
-        self._writes: List[Reply] = []
 
     def submit(self, word: str, *arguments: Union[int, bytes]) -> Reply:
-        """Sends `read`, `write`, `erase`, `scan` or `mark` with its arguments, and answers the future of the reply."""
+        """Sends `read`, `write`, `erase`, `scan`, `mark` or `back` with its arguments; answers the reply's future."""
         if not self.is_open:
             raise NoSession("the transaction has ended")
-        reply = self._database.submit(word, self.session, *arguments)
-        self._writes += [reply] * (word in ("write", "erase"))
-        return reply
+        return self._database.submit(word, self.session, *arguments)
 
     def read(self, record: int) -> Optional[bytes]:
         """The value of a record as this transaction sees it, or None."""
@@ -61,26 +57,13 @@ class Transaction(AbstractContextManager):
         replies = [self.submit("scan", at, min(SCAN_MAX, end - at)) for at in range(first, end, SCAN_MAX)]
         return [item for reply in replies for item in reply.result()]
 
-    def _standing(self) -> List[Reply]:
-        self._writes = [reply for reply in self._writes if reply.is_done()]
-        return self._writes
+    def mark(self) -> None:
+        """Sets its mark behind all that it has written so far."""
+        self.submit("mark").result()
 
-    def back(self, standing: Optional[int] = None) -> int:
-        """Takes back what it wrote behind its mark, or all but the first so many writes; answers how many these were."""
-        dropped = self.submit("back", *([] if standing is None else [standing])).result()
-        del self._standing()[len(self._standing()) - dropped:]
-        return dropped
-
-    @contextmanager
-    def savepoint(self) -> Iterator[None]:
-        """A `with` that takes back what was written in it where an exception leaves it. The transaction may then go on."""
-        standing = len(self._standing())
-        try:
-            yield
-        except BaseException:
-            with suppress(Error):
-                self.back(standing)
-            raise
+    def back(self, *standing: int) -> int:
+        """Takes back the writes behind its mark, or all but the first so many; answers how many these were."""
+        return self.submit("back", *standing).result()
 
     def commit(self) -> int:
         """Commits, and answers how many commits the database then has. All of it is durable when this returns."""
@@ -116,7 +99,7 @@ class Database(AbstractContextManager):
     __iter__ = None  # else `in` and `for` would ask for one record after the other; `scan` asks for many
 
     def __init__(self, folder: str, pool: int = 64, *, sizes: Optional[Tuple[int, int, int]] = None,
-                 program: Optional[str] = None, word: str = WORD) -> None:
+                 program: Optional[str] = None, word: str = "run") -> None:
         self.folder, self._face = os.path.abspath(folder), os.path.abspath(program) if program else find_program()
         self._free: queue.LifoQueue[int] = queue.LifoQueue()
         for session in reversed(range(SESSIONS)):
@@ -126,12 +109,10 @@ class Database(AbstractContextManager):
             with suppress(NotBlank):
                 self._start("new", *sizes)
                 self.close()
-        try:
-            self._start(word, pool)
-        except WrongSizes:
-            if word == "run":
-                raise
-            self._start("run", pool)
+        if word != "run":  # a program that doesn't know it is called with `run`
+            with suppress(WrongSizes):
+                return self._start(word, pool)
+        self._start("run", pool)
 
     def _start(self, *words: Union[str, int]) -> None:
         self._program = Program([self._face, *map(str, words)], self.folder)
@@ -188,9 +169,8 @@ class Database(AbstractContextManager):
         with self.transaction() as transaction:
             return function(transaction)
 
-    def close(self) -> None:
+    def close(self, *_: object) -> None:
         """Waits until all that was asked is answered and the program has ended. Open transactions are undone."""
         self._program.end()
 
-    def __exit__(self, *_: object) -> None:
-        self.close()
+    __exit__ = close

@@ -7,7 +7,7 @@ class Error(Exception):
 
 
 class Refused(Error):
-    """The program refused a request, which changed nothing: `reply` is its answer, `numbers` are those in it."""
+    """The program refused a request, which changed nothing: docs/COMMANDS.md says why (`reply`, and its `numbers`)."""
 
     def __init__(self, reply: str) -> None:
         super().__init__(reply)
@@ -16,15 +16,11 @@ class Refused(Error):
 class Busy(Refused):
     """Another session, of this number, holds the record: try again when it has ended."""
 class LogFull(Refused):
-    """The log has no room for a further write (used, owed, at most): commit or abort what is open."""
-class PageFull(Refused):
-    """The record's page, of this number, would need so many octets, and has 3952: erase others of its 32 records."""
+    """No room in the log (used, owed, at most), or in the page (page, octets): commit or abort what is open."""
 class NoSuchRecord(Refused, IndexError):
     """No record has this number: the first is 0, and there are 32 for each page."""
 class ValueTooLong(Refused, ValueError):
     """The value has more octets than the program takes: cut it, or spread it over records."""
-class NoSuchMark(Refused):
-    """The transaction has fewer writes than were to stay: nothing was taken back."""
 class NoSession(Refused):
     """No session is free, or this transaction has ended: commit or abort one, or begin anew."""
 
@@ -66,8 +62,7 @@ class Unanswered(Ended):
         self.args = (f"{cause}; '{line}' wasn't answered, and may or may not have been committed",)
 
 
-REFUSALS = {"busy": Busy, "record": NoSuchRecord, "long": ValueTooLong, "session": NoSession, "mark": NoSuchMark,
-            "page": PageFull, "full": LogFull}
+REFUSALS = {"busy": Busy, "record": NoSuchRecord, "long": ValueTooLong, "session": NoSession, "full": LogFull}
 STATUSES = {2: WrongSizes, 3: DeviceFailed, 8: Worn, 9: Damaged, 10: NotBlank}
 FOREIGN = {"another program is at work": InUse, "this folder has no database": NoDatabase, "is no file": Unusable,
            "can't be opened": Unusable, "can't be made": Unusable, "these sizes ask for": WrongSizes}
@@ -75,8 +70,8 @@ FOREIGN = {"another program is at work": InUse, "this folder has no database": N
 
 def refusal(reply: str) -> Refused:
     """The error that a reply stands for, which begins with busy, full or refused."""
-    first, second = reply.split(" ")[:2]
-    return REFUSALS.get(second if first == "refused" or second == "page" else first, Refused)(reply)
+    first, *words = reply.split(" ")
+    return REFUSALS.get(words[0] if first == "refused" else first, Refused)(reply)
 
 
 def ended(status: int, fault: str, said: str) -> Ended:

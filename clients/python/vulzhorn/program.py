@@ -83,11 +83,6 @@ class Reply:
         self._awaited.release()
         return True
 
-    def lose(self, error: Error) -> None:
-        """Tells all that wait why no reply comes."""
-        self._error = error
-        self._awaited.release()
-
 
 class Program:
     """The program, run with these words over the files of a folder. Threads may ask it at the same time."""
@@ -146,4 +141,5 @@ class Program:
             if cause.status or not self._ended:
                 self._ended = cause
         for reply in self._waiting:
-            reply.lose(cause if reply is self.opening else Unanswered(reply.line, cause))
+            reply._error = cause if reply is self.opening else Unanswered(reply.line, cause)
+            reply._awaited.release()
