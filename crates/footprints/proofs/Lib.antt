@@ -1,0 +1,4 @@
+pub mod Greatest
+pub mod Lengths
+pub mod Stacked
+pub mod Changed
