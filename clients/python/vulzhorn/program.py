@@ -9,7 +9,7 @@ from collections import deque
 from contextlib import suppress
 from typing import Any, Deque, Optional, Sequence
 
-from .errors import Ended, Error, Refused, Unanswered, ValueTooLong, ended, refusal
+from .errors import Ended, Error, Unanswered, ValueTooLong, ended, refusal
 
 LINE_MAX = 500  # octets of a line, so a pipe takes it by one write, whole or not at all
 
@@ -52,13 +52,6 @@ class Reply:
         if self._error:
             raise self._error
         return self._result
-
-    def is_done(self) -> bool:
-        """Whether it was carried out, and not refused: waits for it."""
-        with suppress(Refused):
-            self.result()
-            return True
-        return False
 
     def hear(self, line: str) -> bool:
         """Takes a line, and answers whether it is the last of this reply. Raises ValueError where it is none."""
