@@ -119,15 +119,11 @@ answers_none s Quit listing h = refl
 commits_none : (s : State) (command : Command) (listing : List CacheLine) (o : Option Reply) → IsNoCommit o → may_commit command ≡ false → is_committed (outcome s command listing o).reply ≡ false
 unfolding IsNoCommit
 commits_none s command listing (Some refused) harmless h = harmless
-commits_none s command listing None harmless h = chosen_reply (lacks_room now command) _ _ refl (through (fills_page now command) (page_refusals now command))
+commits_none s command listing None harmless h = chosen_reply (lacks_room (ready s command) command) _ _ refl (through (fills_page (ready s command) command) (page_refusals (ready s command) command))
   where
-    abbrev now : State
-    now = ready s command
-
-    through : (o : Option Reply) → IsNoCommit o → is_committed (carried_through now command listing o).reply ≡ false
-    unfolding IsNoCommit
+    through : (o : Option Reply) → IsNoCommit o → is_committed (carried_through (ready s command) command listing o).reply ≡ false
     through (Some refused) harmless = harmless
-    through None harmless = answers_none now command listing h
+    through None harmless = answers_none (ready s command) command listing h
 
 pub counts_few : (s : State) (call : Call) → (turn_of s call).after.commits ≤ s.commits + (if may_commit call.command then 1 else 0)
 counts_few s call = by (may_commit call.command) refl

@@ -195,7 +195,7 @@ read_more newest records active s n number entry are small at =
           (λ (same : m ≡ n). subst (λ (k : ℕ). SessionIs newest s.kept records (entry_of active k) (slice_index_or (slice_set s.sessions n now) k None)) (sym same)
           (subst (λ (a : Option Active). SessionIs newest s.kept records a (slice_index_or (slice_set s.sessions n now) n None)) (sym at)
           (subst (λ (o : Option Session). SessionIs newest s.kept records (Some entry) o) (sym (get_or-set_same s.sessions n now None (omega (arith, small, are.count)) ∙ ap (option_map (having_read (number ∷ []))) found.is))
-          (record { is_active = under.is_active; born = under.born; count = under.count; mark = under.mark; wrote = under.wrote}))))
+          (record { is_active = under.is_active; born = under.born; count = under.count; mark = under.mark; wrote = under.wrote }))))
           (λ differ. subst (λ (o : Option Session). SessionIs newest s.kept records (entry_of active m) o) (sym (get_or-set_other s.sessions n m now None differ)) (are.each m))
           (cases_eq m n);
       all = are.all;

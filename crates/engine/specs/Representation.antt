@@ -1,5 +1,6 @@
 -- The database of an honest site, and the model's state.
-use Rattle.std.specs.Prelude.{◌≡◌, ℕ, ◌+◌, ◌<◌, List, [], ◌∷◌, length, filter_map, Option, Some, None, option_map, IsTrue, ⊤}
+use Rattle.std.specs.Prelude.{◌≡◌, ℕ, ◌+◌, ◌<◌, List, [], ◌∷◌, length, filter_map, Option, Some, None, option_map}
+use Rattle.std.specs.Prelude.{IsTrue, ⊤}
 use Rattle.std.specs.Prelude.{Bool, if◌then◌else◌}
 use Rattle.site.specs.State.{State as Site}
 use Rattle.record_model.specs.State.{Session, State, Write, session_at, kept_by_checkpoint}
@@ -28,8 +29,8 @@ use Rattle.redo_undo.specs.Stores.{Represents}
 abbrev pub updated : List Entry → List ℕ
 updated entries = filter_map (λ u. number_of u.rec) (updates_in entries)
 
--- a session's transaction: it is open, and the session's writes are those of its Updates that stand; records are counted
--- from the oldest kept one on
+-- a session's transaction: it is open, and the session's writes are those of its Updates that stand; records are
+-- counted from the oldest kept one on
 pub record IsUnderWay (newest : Option Master) (kept : ℕ) (records : List Entry) (entry : Active)
     (session : Session) : Type 0 where
   pub is_active : IsActive (master_of newest) records entry.begin entry.last session.writes

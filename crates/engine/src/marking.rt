@@ -1,5 +1,6 @@
 // Sessions set marks, and go back.
-ghost use Rattle.std.specs.Prelude.{Option, ◌≡◌, ◌-◌, ◌+◌, ◌≤◌, Ok, Some, IsSome, IfSome, IfNone, IfOk, OnErr, true, unwrap_or};
+ghost use Rattle.std.specs.Prelude.{Option, ◌≡◌, ◌-◌, ◌+◌, ◌≤◌, Some, IsSome, IfSome, IfNone, IfOk, OnErr, true};
+ghost use Rattle.std.specs.Prelude.{unwrap_or};
 ghost use Rattle.site.specs.State.{State as Site};
 ghost use Rattle.record_model.specs.declared.words.Command.{Command};
 ghost use Rattle.record_model.specs.declared.words.Reply.{Reply};
@@ -40,7 +41,8 @@ impl Engine {
     pub fn mark(&mut self, session: u32) -> Reply
         // Of an honest site that the database fits.
         ensures answers { (s : State) (site : Site) → Matches self.old site s
-            → (result ≡ (run s (Command.Mark session)).reply) × Matches self.new site (run s (Command.Mark session)).after }
+            → (result ≡ (run s (Command.Mark session)).reply)
+            × Matches self.new site (run s (Command.Mark session)).after }
 
         // Of every site.
         ensures going { (site : Site) → Invariant self.old site → Invariant self.new site }
@@ -71,7 +73,12 @@ impl Engine {
     }
 
     // Undoes a session's writes but for the first ones, so many. All its locks stay.
-    fn carry_out_back<S: Site>(&mut self, site: &mut S, entry: Active, stays: u64) -> Result<Reply, Stop>
+    fn carry_out_back<S: Site>(
+        &mut self,
+        site: &mut S,
+        entry: Active,
+        stays: u64,
+    ) -> Result<Reply, Stop>
         requires going { Invariant self.old (S.state site.old) }
         requires active { entry_of self.old.active entry.session ≡ Some entry }
         requires stand { stays ≤ entry.writes }
