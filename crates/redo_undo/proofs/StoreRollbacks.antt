@@ -97,7 +97,7 @@ goes_back store last old new newest records table commits begin at count lsn wri
     let undoable : IsUndoable (records ++ u.clrs) = subst IsUndoable now.runs_on.records_are (whole_is_undoable p now.tail now.runs_on.carries) in
     record {
       log = records ++ u.clrs;
-      concerns = concerns_clrs newest begin records records u.clrs u.own (record { under_way = λ t last writes differ active. active; losers = λ t differ. refl; left = λ t differ. refl });
+      concerns = concerns_clrs newest begin records records u.clrs u.own (record { under_way = λ t last writes differ active. active; losers = λ t differ. refl; left = λ t differ. refl; entries = λ t differ. refl });
       holds = record { both = u.holds; orderly = u.orderly h.orderly; masters = masters };
       under_way = record {
         lives = open_stays (master_of newest) records u.clrs begin u.own active.lives;
