@@ -40,7 +40,7 @@ other_session (entry ∷ later) (suc i) (suc j) d table less there = other_sessi
 
 -- what stands where there is no entry
 pub no_active : Active
-no_active = record { session = 0; begin = 0; last = 0; born = 0; writes = 0 }
+no_active = record { session = 0; begin = 0; last = 0; born = 0; writes = 0; mark = 0 }
 
 -- their Begins ascend, where no two sessions have one
 pub ascending : (entries : List Active) → IsTable entries
