@@ -16,7 +16,7 @@ use Rattle.txn_table.specs.Entries.{IsTable, entry_of}
 use Rattle.txn_table.proofs.Owing.{entry_is}
 use Rattle.engine.specs.declared.engine.Engine.{Engine}
 use Rattle.engine.specs.Representation.{IsCarriedOut, Matches, run}
-use Rattle.engine.proofs.Actives.{some_active}
+use Rattle.engine.proofs.Actives.{Finds, some_active}
 use Rattle.engine.proofs.Backs.{count_as, effect_as, reads_as, touches_as, work_as}
 use Rattle.engine.proofs.Calling.{answered, asks_rest, does_failed, does_nothing, still}
 use Rattle.engine.proofs.Performing.{performs_rest}
@@ -24,7 +24,7 @@ use Rattle.engine.proofs.engine.Engine.back.Goals as goal
 
 -- What is carried out, by the number of writes that stay.
 module _ (engine : Engine) (site : Site) (s : State) (n : ℕ) (standing : Option ℕ) (entry : Active) (stays : ℕ) (fits : Matches engine site s) (table : IsTable engine.active) (at : entry_of engine.active n ≡ Some entry) (is : stays ≡ unwrap_or standing entry.mark) (carried : IsCarriedOut s (Back n standing)) where
-  abbrev found : _
+  abbrev found : Finds fits.newest s.kept fits.records entry (session_at s n)
   found = some_active fits.newest fits.records engine.active s fits.sessions n entry at
 
   own : n ≡ entry.session

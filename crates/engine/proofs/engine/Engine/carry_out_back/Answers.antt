@@ -7,6 +7,7 @@ use Rattle.std.proofs.Common.{◌≡◌, ◌+◌, ◌-◌, ◌≤◌, ℕ, refl,
 use Rattle.std.specs.Prelude.{option_map}
 use Rattle.std.proofs.lemmas.List.{length-drop}
 use Rattle.site.proofs.Laws.{stays_honest}
+use Rattle.log_records.specs.Log.{entries_of}
 use Rattle.txn_table.specs.Entries.{after_undone}
 use Rattle.txn_table.proofs.Owing.{owes, entry_is}
 use Rattle.engine.specs.declared.engine.Engine.{Engine}
@@ -33,7 +34,7 @@ returns-in-Ok-clause-does g c s fits =
     let found = some_active fits.newest fits.records engine.active s fits.sessions entry.session entry c.requires.active in
     let less : entry.writes - stays ≤ length found.session.writes = omega (arith, found.under_way.count) in
     does_of (omega (arith, ap (λ (o : Option Session). length (dropped (Some stays) o)) found.is, length-drop stays found.session.writes, found.under_way.count))
-    (back_fits engine c.new.self _ _ s entry stays c.in-Ok.last found.session fits c.requires.going.table c.requires.active found.is found.under_way c.requires.stand (stays_honest _ _ c.back.ensures.works.calls.preserves fits.honest)
+    (back_fits engine (record engine { store = c.back.new.self; active = c.undone.new.active }) _ _ s entry stays c.in-Ok.last found.session fits c.requires.going.table c.requires.active found.is found.under_way c.requires.stand (stays_honest _ _ c.back.ensures.works.calls.preserves fits.honest)
     (c.in-Ok.ensures.undone fits.newest fits.records s.table s.commits fits.holds found.session.writes found.under_way.is_active less) c.in-Ok.ensures.works.made c.undone.ensures.entry c.undone.ensures.owed refl refl refl)
     (keeps_answered (c.in-Ok.ensures.keeps fits.newest fits.records s.table s.commits fits.holds found.session.writes found.under_way.is_active less))
 
@@ -72,13 +73,13 @@ pub returns-in-Ok-clause-log_reads : goal.returns-in-Ok-clause-log_reads
 returns-in-Ok-clause-log_reads g c s fits =
     let found = some_active fits.newest fits.records c.args.self.now.active s fits.sessions c.args.entry.session c.args.entry c.requires.active in
     let less : c.args.entry.writes - c.args.stays ≤ length found.session.writes = omega (arith, found.under_way.count) in
-    reads_few s c.args.entry.session c.args.stays c.args.entry.writes _ _ _ found.session found.is found.under_way.count (sym (ap length found.under_way.wrote ∙ updated_count _)) (c.back.ensures.log_reads fits.newest fits.records s.table s.commits fits.holds found.session.writes found.under_way.is_active less)
+    reads_few s c.args.entry.session c.args.stays c.args.entry.writes _ _ _ found.session found.is found.under_way.count (sym (ap length found.under_way.wrote ∙ updated_count (entries_of c.args.entry.begin fits.records))) (c.back.ensures.log_reads fits.newest fits.records s.table s.commits fits.holds found.session.writes found.under_way.is_active less)
 
 pub returns-in-Err-clause-log_reads : goal.returns-in-Err-clause-log_reads
 returns-in-Err-clause-log_reads g c s fits =
     let found = some_active fits.newest fits.records c.args.self.now.active s fits.sessions c.args.entry.session c.args.entry c.requires.active in
     let less : c.args.entry.writes - c.args.stays ≤ length found.session.writes = omega (arith, found.under_way.count) in
-    reads_few s c.args.entry.session c.args.stays c.args.entry.writes _ _ _ found.session found.is found.under_way.count (sym (ap length found.under_way.wrote ∙ updated_count _)) (c.back.ensures.log_reads fits.newest fits.records s.table s.commits fits.holds found.session.writes found.under_way.is_active less)
+    reads_few s c.args.entry.session c.args.stays c.args.entry.writes _ _ _ found.session found.is found.under_way.count (sym (ap length found.under_way.wrote ∙ updated_count (entries_of c.args.entry.begin fits.records))) (c.back.ensures.log_reads fits.newest fits.records s.table s.commits fits.holds found.session.writes found.under_way.is_active less)
 
 -- What it makes of the machine.
 

@@ -12,7 +12,7 @@ use Rattle.engine.proofs.engine.Engine.mark.Goals as goal
 pub mark-requires : goal.mark-requires
 mark-requires c =
     let at = sym c.find.ensures.entry ∙ c.in-Some.is in
-    ap (entry_of c.args.self.now.active) (entry_is c.args.self.now.active c.args.session c.in-Some.entry c.find.ensures.table at).session ∙ at
+    record { active = ap (entry_of c.args.self.now.active) (entry_is c.args.self.now.active c.args.session c.in-Some.entry c.find.ensures.table at).session ∙ at }
 
 pub returns-in_default-clause-answers : goal.returns-in_default-clause-answers
 returns-in_default-clause-answers c s site fits =
