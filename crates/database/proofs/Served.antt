@@ -125,7 +125,7 @@ module _ (r : Result Reply Stop) (memory : IfErr r (λ stop. stop ≡ Memory)) (
 abbrev none_where : {X : Type 0} → Bool → Bool → List X
 none_where accepted full = if accepted then [] else (if full then [] else [])
 
-none_asked : {X : Type 0} (accepted full : Bool) → none_where {X} accepted full ≡ []
+none_asked : {X : Type 0} (accepted full : Bool) → none_where {X = X} accepted full ≡ []
 none_asked true full = refl
 none_asked false true = refl
 none_asked false false = refl

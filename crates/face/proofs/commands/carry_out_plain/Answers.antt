@@ -32,7 +32,7 @@ returns-in-Abort g c = keeps_table _ refl c.args.line (c.in-Some.is ∙ ap Some 
 pub returns-in-Mark : goal.returns-in-Mark
 returns-in-Mark g c =
     let site = g.S.Site.state c.args.site.now in
-    carries_mark c.args.line _ (c.in-Some.is ∙ ap Some c.in-Mark.is) c.mark.result c.args.engine.now c.mark.new.engine site c.mark.ensures.store c.requires.going (c.mark.ensures.going site c.requires.going) (λ s fits. c.mark.ensures.answers s site fits)
+    carries_mark c.args.line _ (c.in-Some.is ∙ ap Some c.in-Mark.is) c.mark.result c.args.engine.now c.mark.new.self site c.mark.ensures.store c.requires.going (c.mark.ensures.going site c.requires.going) (λ s fits. c.mark.ensures.answers s site fits)
 
 pub returns-in-Back : goal.returns-in-Back
 returns-in-Back g c = keeps_table _ refl c.args.line (c.in-Some.is ∙ ap Some c.in-Back.is) c.back.result _ _ _ _ (record { keeps = c.back.ensures.serves; log_reads = c.back.ensures.log_reads; answers = c.back.ensures.answers; performs = c.back.ensures.performs })
