@@ -10,6 +10,8 @@ mod disk_pages_tests;
 #[cfg(test)]
 mod flash_directory_tests;
 #[cfg(test)]
+mod footprints_tests;
+#[cfg(test)]
 mod lock_table_tests;
 #[cfg(test)]
 mod meta_segments_tests;
