@@ -85,7 +85,7 @@ const WRITTEN_OVER: &[Step] = &[
 const ERASED: &[Step] = &[
     Step::Write(9, 0, 0),
     Step::Longest(9, Some(0)),
-    Step::Need(0, 5, 0, 1, 150),
+    Step::Need(0, 0, 0, 1, 1),
 ];
 
 // A session ends, and the footprints of another one stay.
