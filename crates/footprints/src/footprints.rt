@@ -128,8 +128,8 @@ impl Footprints {
         }
     }
 
-    /// How many octets the values of a page's 32 records need at most, whichever sessions are undone, where they have so
-    /// many now and the one in a slot is to have a value of this length.
+    /// How many octets the values of a page's 32 records need at most, whichever sessions are undone, where they have
+    /// these lengths now and the one in a slot is to have a value of this length.
     pub fn need(&self, page: u32, now: &[u8; 32], slot: u32, length: u8) -> u32
         requires page { page < 65536 }
         requires slot { slot < 32 }

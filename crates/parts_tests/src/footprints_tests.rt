@@ -61,8 +61,8 @@ fn play(alloc: Global, steps: &[Step]) -> Result<usize, AllocError> {
     Ok(steps.len())
 }
 
-// A record's value of ten octets is written over three times; what stood there and what was written count, and each write
-// that is taken back leaves what counted before it.
+// A record's value of ten octets is written over three times; what stood there and what was written count, and each
+// write that is taken back leaves what counted before it.
 const WRITTEN_OVER: &[Step] = &[
     Step::Longest(7, None),
     Step::Write(7, 10, 4),

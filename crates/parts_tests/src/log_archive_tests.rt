@@ -55,7 +55,14 @@ fn a_block_is_read_where_each_octet_is_right(rt: HostRuntime) {
     assert!(rt; read_block(&as_it_is) == Some((7, [171; 503])));
     assert!(rt; read_block(&changed(6, b'0')) == Some((0, [171; 503])));
     assert!(rt; read_block(&as_it_is[..1013]).is_none());
-    for (place, octet) in [(0, b'B'), (5, b'_'), (6, b'-'), (7, b'0'), (8, b'A'), (1013, b'g')] {
+    for (place, octet) in [
+        (0, b'B'),
+        (5, b'_'),
+        (6, b'-'),
+        (7, b'0'),
+        (8, b'A'),
+        (1013, b'g'),
+    ] {
         assert!(rt; read_block(&changed(place, octet)).is_none(), "{place}");
     }
 }
