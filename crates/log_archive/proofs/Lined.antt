@@ -14,9 +14,6 @@ use Rattle.log_archive.proofs.Numbered.{number_in-decimal}
 
 -- The last line.
 
-pub end_long : (line : List ℕ) (n : ℕ) → IsEndLine line n → 4 ≤ length line
-end_long line n is = let len = ap length is.text in omega (arith, len)
-
 pub end_number : (line : List ℕ) (n : ℕ) → IsEndLine line n → number_in (take (length line - 4) (drop 4 line)) ≡ Some n
 end_number line n is = ap number_in (take_rest line 4) ∙ ap (λ l. number_in (drop 4 l)) is.text ∙ number_in-decimal n is.fits
 

@@ -4,6 +4,14 @@ use Rattle.log_archive.specs.Lines.{block_text}
 use Rattle.log_archive.proofs.Lined.{block_long, block_number, block_content}
 use Rattle.log_archive.proofs.read.read_block.Goals as goal
 
+pub returns-then-line-clause-read : goal.returns-then-line-clause-read
+returns-then-line-clause-read c = λ n content is. let long = block_long c.args.line.now n content is in absurd (omega (arith, long))
+
+pub returns-in_err-number-clause-read : goal.returns-in_err-number-clause-read
+returns-in_err-number-clause-read c = λ n content is.
+    let long = block_long c.args.line.now n content is in
+    absurd (none-some n (sym c.in_err-number.was ∙ c.read_number.ensures ∙ block_number c.args.line.now n content is (length c.args.line.now - 1007 - 6) (omega (arith, long))))
+
 pub returns-in_err-content-clause-read : goal.returns-in_err-content-clause-read
 returns-in_err-content-clause-read c = λ n content is.
     let long = block_long c.args.line.now n content is in

@@ -1,4 +1,4 @@
-use Rattle.std.proofs.Common.{◌≡◌, ℕ, zero, suc, ◌%◌, ◌-◌, ◌==◌, Bool, true, false, cond, List, [], ◌∷◌, length, take, filter, slice_set, refl, sym, subst}
+use Rattle.std.proofs.Common.{◌≡◌, ℕ, zero, suc, ◌%◌, ◌==◌, Bool, true, false, cond, List, [], ◌∷◌, take, filter, slice_set, refl, sym, subst}
 use Rattle.std.specs.List.{flat_map}
 use Rattle.footprints.specs.declared.footprint.Footprint.{Footprint}
 use Rattle.footprints.specs.Longest.{of_session, lengths_on, IsOnlyOf}
