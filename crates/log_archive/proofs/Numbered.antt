@@ -35,6 +35,6 @@ number_in-decimal n small =
     let fits : n < 2 ^ 64 = omega (arith, small) in
     let value : digits_value 10 (decimal n) ≡ n = digits_value-decimal own_digits n fits in
     ap (λ (b : Bool). if b then Some (digits_value 10 (decimal n)) else None)
-      (and_from (all_ascii_digits (decimal n)) (nat_lt (digits_value 10 (decimal n)) 10000000000000) (digits_decimal own_digits n fits)
-      (lt-ltb (digits_value 10 (decimal n)) 10000000000000 (omega (arith, value, small))))
+    (and_from (all_ascii_digits (decimal n)) (nat_lt (digits_value 10 (decimal n)) 10000000000000) (digits_decimal own_digits n fits)
+    (lt-ltb (digits_value 10 (decimal n)) 10000000000000 (omega (arith, value, small))))
     ∙ ap Some value
