@@ -23,6 +23,26 @@ fn ends_are_read(rt: HostRuntime) {
     }
 }
 
+// The log's first block where the first command was `set 5 0a0b`, up to its zeros: used 46, a Begin, an Update, a Commit.
+const FIRST: [u8; 46] = [
+    0, 46, 1, 2, 0, 0, 0, 0, 0, 0, 0, 2, 0, 0, 0, 0, 0, 0, 0, 2, 0, 0, 0, 0, 5, 0, 3, 10, 11, 4, 0,
+    0, 0, 0, 0, 0, 0, 2, 0, 0, 0, 0, 0, 0, 0, 1,
+];
+
+const FIRST_TOLD: &[u8] =
+    b"block 0 002e010200000000000000020000000000000002000000000500030a0b0400000000000000020000000000000001";
+
+#[test]
+fn the_first_block_is_told_and_read(rt: HostRuntime) {
+    let mut content = [0u8; 503];
+    content[..46].copy_from_slice(&FIRST);
+    let mut text = [b'0'; 1015];
+    text[..100].copy_from_slice(FIRST_TOLD);
+    text[1014] = b'\n';
+    assert!(rt; block_line(0, &content).as_slice() == text.as_slice());
+    assert!(rt; read_block(&text[..1014]) == Some((0, content)));
+}
+
 #[test]
 fn a_block_is_a_line_of_its_octets(rt: HostRuntime) {
     let mut content = [0u8; 503];
