@@ -23,7 +23,7 @@ fn ends_are_read(rt: HostRuntime) {
     }
 }
 
-// The log's first block where the first command was `set 5 0a0b`, up to its zeros: used 46, a Begin, an Update, a Commit.
+// The log's first block where the first command was `set 5 0a0b`, up to its zeros: Begin, Update, Commit.
 const FIRST: [u8; 46] = [
     0, 46, 1, 2, 0, 0, 0, 0, 0, 0, 0, 2, 0, 0, 0, 0, 0, 0, 0, 2, 0, 0, 0, 0, 5, 0, 3, 10, 11, 4, 0,
     0, 0, 0, 0, 0, 0, 2, 0, 0, 0, 0, 0, 0, 0, 1,
