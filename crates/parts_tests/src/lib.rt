@@ -14,6 +14,8 @@ mod footprints_tests;
 #[cfg(test)]
 mod lock_table_tests;
 #[cfg(test)]
+mod log_archive_tests;
+#[cfg(test)]
 mod meta_segments_tests;
 #[cfg(test)]
 mod record_model_tests;
