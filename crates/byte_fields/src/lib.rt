@@ -14,4 +14,4 @@ pub use frame_head::{
 pub use laws::group_heads;
 
 /// The most octets that a value has.
-pub const VALUE_MAX: usize = 120;
+pub const VALUE_MAX: usize = 200;

@@ -239,12 +239,12 @@ const SPELLINGS: &[Step<'static>] = &[Step::Run(
     "open 0\ncommitted 1\nvalue -\nnone\ncommitted 2\nvalue ab\ncommitted 3\nvalue abcd\n",
 )];
 
-// Sets of record 3 to 120 and to 121 octets.
+// Sets of record 3 to 200 and to 201 octets.
 const LONG_VALUES: &[Step<'static>] = &[
     Step::Feed("set 3 "),
-    Step::FeedMany(120, "5a"),
+    Step::FeedMany(200, "5a"),
     Step::Feed("\nset 3 "),
-    Step::FeedMany(121, "5a"),
+    Step::FeedMany(201, "5a"),
     Step::Feed("\nset 3 -\nget 3\nget 4\n"),
     Step::Call("run 1", 0),
     Step::Told("open 0\ncommitted 1\nrefused long\ncommitted 2\nvalue -\nnone\n"),

@@ -53,12 +53,12 @@ tail_more old new used end records rec t w form fits =
           ∙ (λ i. sym more i ++ behind i);
     }
 
--- a record has at most 264 octets
-content_short : (content : Content) → IsShort content → length (content_spelling content) ≤ 121
+-- a record has at most 424 octets
+content_short : (content : Content) → IsShort content → length (content_spelling content) ≤ 201
 content_short None short = omega arith
 content_short (Some value) short = omega (arith, short)
 
-pub spelling_short : (rec : LogRecord) → HasForm rec → length (spelling rec) ≤ 264
+pub spelling_short : (rec : LogRecord) → HasForm rec → length (spelling rec) ≤ 424
 unfolding spelling
 spelling_short Begin form = omega arith
 spelling_short (Update txn prev page slot before after) form = grind (arith, content_short, length-append)
@@ -67,11 +67,11 @@ spelling_short (Commit txn number) form = omega arith
 spelling_short (End txn) form = omega arith
 
 -- a tail that a record doesn't fit isn't empty
-pub full_tail : (used len : ℕ) → len ≤ 264 → IsTrue (nat_lt block_len (used + len)) → 2 < used
+pub full_tail : (used len : ℕ) → len ≤ 424 → IsTrue (nat_lt block_len (used + len)) → 2 < used
 full_tail used len short over = grind (arith, nat_tests)
 
 -- once the tail was sealed where a record didn't fit, it fits
-pub room_made : (used len left : ℕ) → len ≤ 264 → left ≡ (if nat_lt block_len (used + len) then 2 else used) → left + len ≤ block_len
+pub room_made : (used len left : ℕ) → len ≤ 424 → left ≡ (if nat_lt block_len (used + len) then 2 else used) → left + len ≤ block_len
 room_made used len left short is = grind (arith, cases_Bool, cond-true, cond-false, nat_tests)
 
 -- the end of a log doesn't fall where its tail is sealed

@@ -154,7 +154,7 @@ impl PageStore {
     }
 
     /// Gives a slot, below 32, of the page in front another content, and the page a greater LSN, and marks it as
-    /// changed. The pool isn't empty. A value has at most 120 octets, and fits.
+    /// changed. The pool isn't empty. A value has at most 200 octets, and fits.
     pub fn change(&mut self, slot: u8, value: Option<&[u8]>, lsn: u64)
         requires store { IsStore self.old }
         requires there { 0 < length self.old.pool.frames }

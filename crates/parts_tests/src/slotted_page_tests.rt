@@ -83,9 +83,9 @@ const CHANGES: [(&[(usize, u8)], bool); 16] = [
     (&[(40, 0x0f), (41, 0xff), (43, 2)], false),
     (&[(32, 0x0f), (33, 0xfe), (35, 3)], false),
     (&[(39, 2), (40, 0x0f), (41, 0xff), (43, 2)], true),
-    // The heap takes up 200 octets, and the value in front has 120 or 121.
-    (&[(9, 200), (40, 0x0f), (41, 0x38), (43, 121)], true),
-    (&[(9, 200), (40, 0x0f), (41, 0x38), (43, 122)], false),
+    // The heap takes up 250 octets, and the value in front has 200 or 201.
+    (&[(9, 250), (40, 0x0f), (41, 0x06), (43, 201)], true),
+    (&[(9, 250), (40, 0x0f), (41, 0x06), (43, 202)], false),
 ];
 
 #[test]
@@ -106,6 +106,9 @@ fn a_slot_may_be_emptied(rt: HostRuntime) {
     assert!(rt; page.get(31) == Some([].as_slice()));
 }
 
+// 32 values of so many octets leave room in a page for 16 octets more.
+const LONG: usize = 123;
+
 // What slot `slot` has after `turn` turns of the test below.
 fn length_in(turn: u8, slot: u8) -> usize
     requires turn { turn < 8 }
@@ -113,9 +116,9 @@ fn length_in(turn: u8, slot: u8) -> usize
     ensures { result ≤ VALUE_MAX }
 {
     if turn % 2 == 0 {
-        VALUE_MAX
+        LONG
     } else {
-        VALUE_MAX - slot as usize
+        LONG - slot as usize
     }
 }
 
@@ -154,7 +157,7 @@ fn is_as(page: &Page, lengths: &[usize; 32], octets: &[u8; 32]) -> bool {
     true
 }
 
-// 32 values of 120 octets leave room for 112 octets more, so that the heap is packed anew at nearly each write.
+// The heap is packed anew at nearly each write.
 #[test]
 fn values_stay_when_the_heap_is_packed_anew(rt: HostRuntime) {
     let mut page = Page::empty();

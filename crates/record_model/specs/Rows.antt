@@ -31,7 +31,7 @@ aa = 170 ∷ []
 -- Values: the longest, one that is too long, and the empty one.
 abbrev pub LongestValue : Type 0
 LongestValue =
-    answers 63 (Some (Set 3 (replicate 120 90)) ∷ Some (Set 3 (replicate 121 90)) ∷ Some (Set 3 []) ∷ Some (Get 3)
+    answers 63 (Some (Set 3 (replicate 200 90)) ∷ Some (Set 3 (replicate 201 90)) ∷ Some (Set 3 []) ∷ Some (Get 3)
     ∷ Some (Get 4) ∷ [])
     ≡ reply.Committed 1 ∷ reply.Refused TooLong ∷ reply.Committed 2 ∷ reply.Value [] ∷ reply.Nothing ∷ []
 
@@ -192,9 +192,9 @@ FullToTheLastOctet =
 -- room that a session makes is there when it commits, since it may abort
 abbrev pub RoomAtTheCommit : Type 0
 RoomAtTheCommit =
-    answers_with_much 63 (Some (Begin 0) ∷ Some (Write 0 0 aa) ∷ Some (Set 19 (replicate 120 90)) ∷ Some (Commit 0)
-    ∷ Some (Set 19 (replicate 120 90)) ∷ [])
-    ≡ reply.Done ∷ reply.Done ∷ reply.PageFull 0 3972 ∷ reply.Committed 1 ∷ reply.Committed 2 ∷ []
+    answers_with_much 63 (Some (Begin 0) ∷ Some (Write 0 0 aa) ∷ Some (Set 19 (replicate 200 90)) ∷ Some (Commit 0)
+    ∷ Some (Set 19 (replicate 200 90)) ∷ [])
+    ≡ reply.Done ∷ reply.Done ∷ reply.PageFull 0 4052 ∷ reply.Committed 1 ∷ reply.Committed 2 ∷ []
 
 -- what a session wrote takes up room also where it has written less there since, and until it takes it back
 abbrev pub RoomForPendingWrites : Type 0

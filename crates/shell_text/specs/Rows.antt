@@ -30,7 +30,7 @@ many count = concat (replicate count (codes "5a"))
 
 abbrev pub LongestValue : Type 0
 LongestValue =
-    told (typed ((codes "set 3 " ++ many 120) ∷ (codes "set 3 " ++ many 121) ∷ codes "set 3 -" ∷ codes "get 3"
+    told (typed ((codes "set 3 " ++ many 200) ∷ (codes "set 3 " ++ many 201) ∷ codes "set 3 -" ∷ codes "get 3"
     ∷ codes "get 4" ∷ []))
     ≡ codes "open 0\ncommitted 1\nrefused long\ncommitted 2\nvalue -\nnone\n"
 

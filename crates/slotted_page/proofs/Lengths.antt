@@ -24,7 +24,7 @@ short_content octets slot sound below =
 
 -- short contents one after another
 module _ (slots : List (Option (List ℕ))) (short : (k : ℕ) → k < length slots → content_length (get_or slots k None) ≤ VALUE_MAX) where
-  first_total : (n : ℕ) → n ≤ length slots → total_length (take n slots) ≤ 120 * n
+  first_total : (n : ℕ) → n ≤ length slots → total_length (take n slots) ≤ 200 * n
   first_total zero inside = omega arith
   first_total (suc n) inside = omega (
     arith,
@@ -34,27 +34,8 @@ module _ (slots : List (Option (List ℕ))) (short : (k : ℕ) → k < length sl
     ap (λ m. total_length (take m slots)) (add-one n),
   )
 
-  pub total_short : total_length slots ≤ 120 * length slots
+  pub total_short : total_length slots ≤ 200 * length slots
   total_short = let e = ap total_length (take_all (length slots) slots (omega arith)) in omega (arith, e, first_total (length slots) (omega arith))
-
--- a short content among the slots of a sound page
-pub short_after : (octets : List ℕ) (slot : ℕ) (content : Option (List ℕ)) (k : ℕ) → IsSound octets → slot < 32 → content_length content ≤ VALUE_MAX → k < 32
-    → content_length (get_or (set (slots_of octets) slot content) k None) ≤ VALUE_MAX
-short_after octets slot content k sound inside short below =
-    ⊎_elim (λ (here : k ≡ slot). let P : ℕ → Type 0 = λ n. content_length (get_or (set (slots_of octets) slot content) n None) ≤ VALUE_MAX in
-    subst P (sym here) (omega (arith, short, ap content_length (get_or-set_same (slots_of octets) slot content None (omega (arith, inside, length-slots_of octets))))))
-    (λ (other : k ≢ slot). omega (
-      arith,
-      short_content octets k sound below,
-      ap content_length (get_or-set_other (slots_of octets) slot k content None other ∙ get_or-slots_of octets k None below),
-    ))
-    (cases_eq k slot)
-
-pub always_fits : (octets : List ℕ) (slot : ℕ) (content : Option (List ℕ)) → IsSound octets → slot < 32 → content_length content ≤ VALUE_MAX
-    → FitsPage (slots_of octets) slot content
-always_fits octets slot content sound inside short =
-    let size : length (set (slots_of octets) slot content) ≡ 32 = length-set (slots_of octets) slot content ∙ length-slots_of octets in
-    omega (arith, size, total_short (set (slots_of octets) slot content) (λ k less. short_after octets slot content k sound inside short (omega (arith, less, size))))
 
 -- a content and the others together
 pub total_with : (octets : List ℕ) (slot : ℕ) (content : Option (List ℕ)) → slot < 32

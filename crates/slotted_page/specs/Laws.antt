@@ -19,9 +19,3 @@ pub record HasSlots (octets : List ℕ) : Type 0 where
 abbrev pub AreShort : Type 0
 AreShort = (octets : List ℕ) (slot : ℕ) → IsSound octets → slot < 32
     → content_length (content_of octets slot) ≤ VALUE_MAX
-
--- as long as values are so short, each fits into each slot of a sound page
-abbrev pub EachValueFits : Type 0
-EachValueFits =
-    (octets : List ℕ) (slot : ℕ) (content : Option (List ℕ)) → IsSound octets → slot < 32 →
-    content_length content ≤ VALUE_MAX → FitsPage (slots_of octets) slot content

@@ -16,7 +16,7 @@ mod room;
 mod slotted;
 mod soundness;
 
-pub use laws::{each_value_fits, slots_of_a_page};
+pub use laws::slots_of_a_page;
 pub use slotted::Page;
 
 /// The octets of a page.

@@ -55,7 +55,7 @@ impl Page {
     }
 
     /// Whether the page is sound: the octets 10 to 15 are zero, the heap takes up no more octets than there are, an
-    /// empty slot's entry is zero, and each value lies in the heap, has at most 120 octets, and overlaps with no other.
+    /// empty slot's entry is zero, and each value lies in the heap, has at most 200 octets, and overlaps with no other.
     pub fn sound(&self) -> bool
         ensures { IsTrue result ↔ IsSound self.now }
     {
@@ -89,7 +89,7 @@ impl Page {
         room::fits(&self.octets, slot, value)
     }
 
-    /// Gives a slot, below 32, of a sound page another content, and the page another LSN. A value has at most 120
+    /// Gives a slot, below 32, of a sound page another content, and the page another LSN. A value has at most 200
     /// octets, and fits. All other slots stay, and the page stays sound.
     pub fn set(&mut self, slot: u8, value: Option<&[u8]>, lsn: u64)
         requires sound { IsSound self.old }
