@@ -3,7 +3,6 @@ pub mod Redos
 pub mod Behind
 pub mod Pushes
 pub mod Versions
-pub mod ShortValues
 pub mod UnchangedImages
 pub mod Seals
 pub mod Stages

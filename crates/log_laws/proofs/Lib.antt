@@ -17,7 +17,6 @@ pub mod StandingTables
 pub mod Orderly
 pub mod Tails
 pub mod Losers
-pub mod Lengths
 pub mod Rows
 pub mod Versions
 pub mod Masters

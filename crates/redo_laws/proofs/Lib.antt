@@ -19,5 +19,3 @@ pub mod WornLogs
 pub mod RingNumbers
 pub mod LeftNumbers
 pub mod Endings
-pub mod ShortRecords
-pub mod ShortContents
