@@ -110,6 +110,7 @@ impl Footprints {
         requires { session < 8 }
         ensures none { IsTrue result ↔ (of_session self.now session ≡ []) }
         ensures eight { length self.now ≡ 8 }
+        ensures owned { (number : ℕ) → (owner : ℕ) × IsOnlyOf self.now owner number }
     {
         self.stacks[session as usize].is_empty()
     }
@@ -120,6 +121,7 @@ impl Footprints {
         ensures gone { self.new ≡ slice_set self.old session [] }
         ensures owned { (number : ℕ) → (owner : ℕ) × IsOnlyOf self.old owner number }
     {
+        let _owned = self.has_none(session);
         while !self.has_none(session) {
             self.take_back(session);
         }
