@@ -1,16 +1,14 @@
 -- Room in the page in front of the pool, as soundness has it.
 use Rattle.std.proofs.lemmas.Grind.{common_steps}
 use Rattle.std.proofs.Common.{◌≡◌, ◌≢◌, ◌⊎◌, inl, inr, ℕ, ◌+◌, ◌*◌, ◌/◌, ◌%◌, ◌<◌, ◌≤◌, ◌==◌, suc, cond, List, [], ◌∷◌, ◌++◌, length, Option, Some, None, refl, sym, ap, subst, ◌∙◌, arith, get_or-set_same, get_or-set_other}
-use Rattle.std.specs.Prelude.{sum_by, slice_set, if◌then◌else◌}
+use Rattle.std.specs.Prelude.{sum_by, slice_set}
 use Rattle.std.specs.List.{range_with_len}
 use Rattle.std.proofs.Math.Nat.{le-max_left}
 use Rattle.std.proofs.lemmas.Bool.{cases_eq, eq-eqb, ne_eqb}
 use Rattle.std.proofs.lemmas.List.Sums.{sum_by-cons}
-use Rattle.std.proofs.lemmas.Nat.{mod_below}
 use Rattle.site.specs.State.{State}
 use Rattle.record_model.specs.State.{Content, content_at, length_of, page_room}
-use Rattle.log_records.specs.declared.log_record.LogRecord.{LogRecord}
-use Rattle.log_records.specs.Log.{Entry, Version, log_from, number_of, after_of, is_number, is_on, shown, version_at}
+use Rattle.log_records.specs.Log.{Entry, Version, log_from, number_of, after_of, is_number, shown}
 use Rattle.log_records.specs.Room.{longest, open_length, put_back, total_on, HasOpenRoom}
 use Rattle.log_records.specs.Sound.{Master as Fields, InTurn, redone}
 use Rattle.log_laws.specs.Follow.{Follows, IsUndoable}

@@ -1,6 +1,5 @@
 use Rattle.std.proofs.Common.{◌≡◌, ◌+◌, ◌*◌, ◌/◌, ◌%◌, ◌++◌, ◌∷◌, [], ℕ, List, refl, sym, subst, arith, rules, Option}
 use Rattle.std.specs.Prelude.{option_copied, IsTrue}
-use Rattle.std.proofs.lemmas.Grind.{common_steps}
 use Rattle.site.specs.State.{State}
 use Rattle.record_model.specs.State.{Content}
 use Rattle.log_records.specs.Log.{Entry, shown}
