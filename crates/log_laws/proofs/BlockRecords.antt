@@ -1,6 +1,6 @@
 -- The records of a block, read one after the other.
 use Rattle.log_records.proofs.Blocks.{some_octet, spelled_next}
-use Rattle.std.proofs.Common.{◌≡◌, ℕ, ◌+◌, ◌*◌, ◌≤◌, ◌<◌, List, [], ◌∷◌, ◌++◌, length, drop, replicate, ◌-◌, refl, sym, ap, subst, ◌∙◌, append_assoc, arith}
+use Rattle.std.proofs.Common.{◌≡◌, ℕ, ◌+◌, ◌*◌, ◌≤◌, ◌<◌, List, ◌∷◌, ◌++◌, length, drop, replicate, ◌-◌, refl, sym, ap, subst, ◌∙◌, append_assoc, arith}
 use Rattle.std.specs.Prelude.{flat_map}
 use Rattle.std.specs.List.{AllByRecursion}
 use Rattle.std.proofs.lemmas.List.{length-append, append-nil, drop-drop, drop_at}
@@ -57,8 +57,7 @@ module _ (one_spelled : OneSpelled) (number : ℕ) (octets : List ℕ) (used at 
     front = a.text ∙ ap (λ (x : List LogRecord). flat_map spelling x ++ drop used octets) is ∙ append_assoc (spelling rec) (flat_map spelling others) (drop used octets)
 
     first_spelled : IsSpelledAt octets at used rec (at + length (spelling rec))
-    first_spelled = spelled_next octets used at rec (flat_map spelling others ++ drop used octets) front (let end = a.end in omega (arith, end, size))
-        (subst (AllByRecursion HasForm) is a.have_form).0 (subst (AllByRecursion FitsFields) is a.fit_fields).0
+    first_spelled = grind (arith, spelled_next, front, size)
 
     abbrev this : Entry
     this = record { lsn = 512 * number + at; rec = rec }

@@ -1,6 +1,6 @@
 -- What an unfinished transaction has on a record of the table.
 use Rattle.std.proofs.lemmas.Grind.{common_steps}
-use Rattle.std.proofs.Common.{◌≡◌, ℕ, ◌+◌, ◌*◌, ◌⊎◌, inl, inr, ⊎_elim, Bool, true, false, true≢false, cond, ◌||◌, List, [], ◌∷◌, ◌++◌, length, drop, Some, None, refl, sym, ap, subst, ◌∙◌, append_assoc, arith}
+use Rattle.std.proofs.Common.{◌≡◌, ℕ, ◌+◌, ◌⊎◌, ⊎_elim, Bool, true, false, true≢false, cond, ◌||◌, List, ◌∷◌, ◌++◌, length, drop, Some, None, refl, sym, ap, subst, ◌∙◌, append_assoc, arith}
 use Rattle.std.specs.Prelude.{Option, option_map, unwrap_or, find, IsTrue, ⊤}
 use Rattle.std.specs.List.{list_any}
 use Rattle.std.specs.Option.{option_or}
@@ -11,7 +11,7 @@ use Rattle.std.proofs.lemmas.Bool.{or_left, or_right, or_cases, or_parts, eqb-tr
 use Rattle.std_lemmas.proofs.Options.{option_or_none}
 use Rattle.record_model.specs.State.{Content}
 use Rattle.log_records.specs.declared.log_record.LogRecord.{LogRecord}
-use Rattle.log_records.specs.declared.log_record.LogRecord.TheVariants.{Begin, Update, Clr, Commit, End}
+use Rattle.log_records.specs.declared.log_record.LogRecord.TheVariants.{Begin, Update, Clr}
 use Rattle.log_records.specs.Log.{Entry, is_on, number_of, is_update, updates_in, last_where, last_on, before_of, before_first, after_of}
 use Rattle.log_records.specs.Unfinished.{clrs_in, open_by, open_updates}
 use Rattle.log_records.specs.Sound.{Compensates, Undoes, Continues, IsLoserChain, InTurn, ShowsLast}
@@ -20,8 +20,7 @@ use Rattle.log_records.proofs.Lists.{one, last_where-append}
 
 -- a CLR and its Update are on one record, and the CLR leaves what stood before
 same_number : (c u : LogRecord) → Compensates c u → number_of c ≡ number_of u
-same_number (Clr t prev undo_next page slot after) (Update t' prev' page' slot' before after') h = ap (λ n. Some (32 * n + slot)) h.0 ∙ ap (λ n. Some (32 * page' + n)) h.1
-same_number _ _ h = absurd h
+same_number _ _ h = grind arith
 
 puts_back : (c u : LogRecord) → Compensates c u → after_of c ≡ before_of u
 puts_back (Clr t prev undo_next page slot after) (Update t' prev' page' slot' before after') h = h.2
@@ -36,23 +35,11 @@ open_append updates (x ∷ xs) ys = open_append (open_by updates x x.rec) xs ys
 
 -- what is left to be undone are Updates of the list
 pub any_open : (test : Entry → Bool) (updates entries : List Entry) → list_any test (open_updates updates entries) ≡ true → (list_any test updates ≡ true) ⊎ (list_any test (updates_in entries) ≡ true)
-any_open test updates [] h = inl h
-any_open test updates (e ∷ entries) h = by_rec e.lsn e.rec updates (any_open test (open_by updates e e.rec) entries h)
-  where
-    by_rec : (lsn : ℕ) (rec : LogRecord) (updates : List Entry) → (list_any test (open_by updates (record { lsn = lsn; rec = rec }) rec) ≡ true) ⊎ (list_any test (updates_in entries) ≡ true) →
-        (list_any test updates ≡ true) ⊎ (list_any test (updates_in (record { lsn = lsn; rec = rec } ∷ entries)) ≡ true)
-    by_rec lsn Begin us r = r
-    by_rec lsn (Commit txn number) us r = r
-    by_rec lsn (End txn) us r = r
-    by_rec lsn (Clr txn prev undo_next page slot after) [] r = r
-    by_rec lsn (Clr txn prev undo_next page slot after) (u ∷ us) r = ⊎_elim (λ a. inl (or_right (test u) (list_any test us) a)) (λ b. inr b) r
-    by_rec lsn (Update txn prev page slot before after) us r = ⊎_elim
-        (λ a. ⊎_elim (λ b. inr (or_left (test (record { lsn = lsn; rec = Update txn prev page slot before after })) (list_any test (updates_in entries)) b)) (λ b. inl b)
-        (or_cases (test (record { lsn = lsn; rec = Update txn prev page slot before after })) (list_any test us) a))
-        (λ b. inr (or_right (test (record { lsn = lsn; rec = Update txn prev page slot before after })) (list_any test (updates_in entries)) b)) r
+any_open test updates [] h = grind arith
+any_open test updates (e ∷ entries) h = grind (arith, or_right, or_left, or_cases, (any_open test (open_by updates e e.rec) entries h))
 
 any_updates : (test : Entry → Bool) (xs ys : List Entry) → list_any test (updates_in xs) ≡ true → list_any test (updates_in (xs ++ ys)) ≡ true
-any_updates test xs ys h = ap (list_any test) (filter-append (λ x. is_update x.rec) xs ys) ∙ list_any-append test (updates_in xs) (updates_in ys) ∙ or_left (list_any test (updates_in xs)) (list_any test (updates_in ys)) h
+any_updates test xs ys h = grind (arith, filter-append, list_any-append, or_left)
 
 -- a record of a chain on a number has an Update there
 here_updates : (number : ℕ) (earlier : List Entry) (e : Entry) → Continues earlier e → is_on number e ≡ true → list_any (is_on number) (updates_in (with_entry earlier e)) ≡ true
@@ -118,27 +105,14 @@ abbrev pub RunsAt : ℕ → List Entry → Type 0
 RunsAt number entries = Runs number (find (is_on number) (updates_in entries)) (last_where (is_on number) entries) (open_updates [] entries)
 
 top_more : (number : ℕ) (first : Content) (e : Entry) (us : List Entry) (b : Bool) → is_on number e ≡ b → top_on number first (e ∷ us) ≡ cond b (after_of e.rec) (top_on number first us)
-top_more number first e us true on = ap (λ (b : Bool). unwrap_or (option_map (λ (u : Entry). after_of u.rec) (cond b (Some e) (find (is_on number) us))) first) on
-top_more number first e us false on = ap (λ (b : Bool). unwrap_or (option_map (λ (u : Entry). after_of u.rec) (cond b (Some e) (find (is_on number) us))) first) on
+top_more number first e us x4 on = grind arith
 
 update_step : (number : ℕ) (f x : Option Entry) (e : Entry) (us : List Entry) (b : Bool) → is_on number e ≡ b → Runs number f x us → (b ≡ true → ShowsLast (before_of e.rec) x) →
     Runs number (option_or f (cond b (Some e) None)) (option_or (cond b (Some e) None) x) (e ∷ us)
-update_step number None None e us true on h n =
-    let none = none_on number (before_of e.rec) us h in
-    (((λ there. sym none.0), none.1), sym (top_more number (before_of e.rec) e us true on))
-update_step number None None e us false on h n = ap (λ (b : Bool). b || list_any (is_on number) us) on ∙ h
-update_step number (Some f) (Some x) e us true on h n = (((λ there. n refl ∙ h.1), h.0), sym (top_more number (before_of f.rec) e us true on))
-update_step number (Some f) (Some x) e us false on h n = (((λ there. absurd (true≢false (sym there ∙ on))), h.0), h.1 ∙ sym (top_more number (before_of f.rec) e us false on))
-update_step number None (Some x) e us b on h n = absurd h
-update_step number (Some f) None e us b on h n = absurd h
+update_step number x1 x2 e us b on h n = grind (arith, none_on, top_more)
 
 clr_step : (number : ℕ) (f x : Option Entry) (e u : Entry) (us : List Entry) (b : Bool) → is_on number u ≡ b → after_of e.rec ≡ before_of u.rec → Runs number f x (u ∷ us) → Runs number f (option_or (cond b (Some e) None) x) us
-clr_step number None None e u us true on p h = absurd (true≢false (sym on ∙ (or_parts (is_on number u) (list_any (is_on number) us) h).0))
-clr_step number None None e u us false on p h = (or_parts (is_on number u) (list_any (is_on number) us) h).1
-clr_step number (Some f) (Some x) e u us true on p h = (h.0.1, p ∙ h.0.0 on)
-clr_step number (Some f) (Some x) e u us false on p h = (h.0.1, h.1 ∙ top_more number (before_of f.rec) u us false on)
-clr_step number None (Some x) e u us b on p h = absurd h
-clr_step number (Some f) None e u us b on p h = absurd h
+clr_step number x1 x2 e u us b on p h = grind (arith, or_parts, top_more)
 
 pub none_any : (test : Entry → Bool) (xs : List Entry) → last_where test xs ≡ None → list_any test xs ≡ false
 none_any test [] h = refl
@@ -190,23 +164,8 @@ undone_by_chain number t entries x chain none e =
 
 -- each CLR takes away one Update
 left_count : (earlier entries : List Entry) → InTurn Continues earlier entries → length (open_updates (open_updates [] earlier) entries) + length (clrs_in entries) ≡ length (open_updates [] earlier) + length (updates_in entries)
-left_count earlier [] c = refl
-left_count earlier (e ∷ entries) c =
-    by_rec e.lsn e.rec (open_updates [] earlier) c.0.undoes
-    (subst (λ (us : List Entry). length (open_updates us entries) + length (clrs_in entries) ≡ length us + length (updates_in entries)) (open_append [] earlier (e ∷ [])) (left_count (with_entry earlier e) entries c.1))
-  where
-    by_rec : (lsn : ℕ) (rec : LogRecord) (us : List Entry) → Undoes us rec →
-        length (open_updates (open_by us (record { lsn = lsn; rec = rec }) rec) entries) + length (clrs_in entries) ≡ length (open_by us (record { lsn = lsn; rec = rec }) rec) + length (updates_in entries) →
-        length (open_updates (open_by us (record { lsn = lsn; rec = rec }) rec) entries) + length (clrs_in (record { lsn = lsn; rec = rec } ∷ entries)) ≡ length us + length (updates_in (record { lsn = lsn; rec = rec } ∷ entries))
-    by_rec lsn (Update txn prev page slot before after) us u h = omega (arith, h)
-    by_rec lsn (Clr txn prev undo_next page slot after) [] u h = absurd u
-    by_rec lsn (Clr txn prev undo_next page slot after) (v ∷ us) u h = omega (arith, h)
-    by_rec lsn Begin [] u h = absurd u
-    by_rec lsn Begin (v ∷ us) u h = absurd u
-    by_rec lsn (Commit txn n) [] u h = absurd u
-    by_rec lsn (Commit txn n) (v ∷ us) u h = absurd u
-    by_rec lsn (End txn) [] u h = absurd u
-    by_rec lsn (End txn) (v ∷ us) u h = absurd u
+left_count earlier [] c = grind arith
+left_count earlier (e ∷ entries) c = grind (arith, open_append, (left_count (with_entry earlier e) entries c.1))
 
 -- so as many are left as the transaction has more Updates than CLRs
 pub left_of_chain : (t : ℕ) (entries : List Entry) → IsLoserChain t entries → length (open_updates [] entries) + length (clrs_in entries) ≡ length (updates_in entries)

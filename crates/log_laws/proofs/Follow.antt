@@ -1,6 +1,6 @@
 -- The table behind one more record.
 use Rattle.std.proofs.lemmas.Grind.{common_steps}
-use Rattle.std.proofs.Common.{◌≡◌, ℕ, ◌*◌, ⊎_elim, true, false, cond, ◌&&◌, List, [], ◌∷◌, ◌++◌, length, map, Some, None, refl, sym, ap, ◌∙◌, arith}
+use Rattle.std.proofs.Common.{◌≡◌, ℕ, ◌*◌, true, false, cond, ◌&&◌, List, ◌∷◌, ◌++◌, length, map, Some, None, refl, sym, ap, ◌∙◌, arith}
 use Rattle.std.specs.Prelude.{Option, option_map, unwrap_or, ◌==◌}
 use Rattle.std.specs.List.{AllByRecursion, range_with_len}
 use Rattle.std.specs.Option.{option_or}
@@ -90,7 +90,7 @@ module _ (m : Master) (pages : List Version) (log : List Entry) (undoable : IsUn
   -- The table.
 
   value_stays : (e : Entry) → is_closing e.rec ≡ false → is_closed log (txn_of e) ≡ false → Follows m pages log e → (number : ℕ) → value_of (with log e) pages number ≡ value_of log pages number
-  value_stays e c lives f number = ⊎_elim (λ on. value_there e number c on lives (is_number-Some number (number_of e.rec) on) f) (λ off. value_elsewhere e number c off) (cases_Bool (is_on number e))
+  value_stays e c lives f number = grind (arith, value_there, is_number-Some, value_elsewhere, cases_Bool)
 
   table_stays : (log' : List Entry) → ((number : ℕ) → value_of log' pages number ≡ value_of log pages number) → table_of log' pages ≡ table_of log pages
   table_stays log' h = ap (λ (v : ℕ → Content). map v (range_with_len 0 (32 * length pages))) (λ i number. h number i)

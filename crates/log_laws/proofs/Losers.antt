@@ -1,6 +1,6 @@
 -- Transactions at work, and transactions that are undone.
 use Rattle.std.proofs.lemmas.Grind.{common_steps}
-use Rattle.std.proofs.Common.{◌≡◌, ℕ, ◌+◌, ◌*◌, ◌/◌, ◌<◌, ◌≤◌, ⊎_elim, Bool, true, false, cond, not, ◌&&◌, ◌||◌, List, [], ◌∷◌, ◌++◌, length, map, drop, Some, refl, sym, ap, subst, ◌∙◌, arith}
+use Rattle.std.proofs.Common.{◌≡◌, ℕ, ◌+◌, ◌*◌, ◌/◌, ◌<◌, ◌≤◌, ⊎_elim, Bool, true, false, cond, not, ◌&&◌, ◌||◌, List, ◌∷◌, ◌++◌, length, map, drop, Some, refl, sym, ap, subst, ◌∙◌, arith}
 use Rattle.std.specs.Prelude.{filter, IsTrue, ◌==◌, nat_lt}
 use Rattle.std.specs.List.{AllByRecursion, list_any}
 use Rattle.std.proofs.lemmas.List.{append-nil}
@@ -74,16 +74,7 @@ active_may_write m pages log lsn t last page slot writes before after undoable a
 pub active_writes : (m : Master) (log : List Entry) (lsn t last page slot : ℕ) (writes : List Write) (before after : Content) → IsActive m log t last writes →
     CanBeUndone (with log (record { lsn = lsn; rec = Update t last page slot before after })) t →
     IsActive m (with log (record { lsn = lsn; rec = Update t last page slot before after })) t lsn (writes ++ (32 * page + slot, after) ∷ [])
-active_writes m log lsn t last page slot writes before after a undone =
-    let e : Entry = record { lsn = lsn; rec = Update t last page slot before after } in
-    let entries = entries_own log e t (eq-eqb t t refl) in
-    record {
-      lives = open_more m log e t a.lives (and_right (t == t) false refl);
-      chain = undone (loser_goes_on log e refl a.lives.not_closed);
-      last_is = sym (ap last_lsn entries ∙ last_number_of 0 (entries_of t log) e);
-      writes_are = ap (λ (l : List Write). l ++ (32 * page + slot, after) ∷ []) a.writes_are
-          ∙ sym (ap writes_of (left_push log e t ∙ ap (λ (b : Bool). cond b (e ∷ left_open log t) (left_open log t)) (eq-eqb t t refl)) ∙ writes_more e (left_open log t));
-    }
+active_writes m log lsn t last page slot writes before after a undone = grind (arith, common_steps, entries_own, eq-eqb, open_more, and_right, loser_goes_on, last_number_of, writes_of, left_push, writes_more)
 
 pub active_stays : (m : Master) (log : List Entry) (e : Entry) (t last : ℕ) (writes : List Write) → IsActive m log t last writes → is_of t e ≡ false → IsActive m (with log e) t last writes
 active_stays m log e t last writes a h = grind (arith, common_steps, entries_other, open_more, and_left)

@@ -1,7 +1,7 @@
 -- A new master keeps a logical image sound, and what it means.
 use Rattle.std.proofs.lemmas.Grind.{common_steps}
-use Rattle.std.proofs.Common.{◌≡◌, ℕ, ◌+◌, ◌-◌, ◌*◌, ◌/◌, ◌%◌, ◌<◌, ◌≤◌, ⊎_elim, Bool, true, false, cond, not, ◌&&◌, ◌||◌, List, [], ◌∷◌, ◌++◌, length, map, drop, Some, None, refl, sym, ap, subst, ◌∙◌, append_assoc, arith}
-use Rattle.std.specs.Prelude.{Option, filter, find, flat_map, IsTrue, nat_lt, nat_le}
+use Rattle.std.proofs.Common.{◌≡◌, ℕ, ◌+◌, ◌-◌, ◌*◌, ◌/◌, ◌%◌, ◌<◌, ◌≤◌, ⊎_elim, Bool, true, false, cond, not, ◌&&◌, ◌||◌, List, ◌∷◌, ◌++◌, length, map, drop, Some, None, refl, sym, ap, subst, ◌∙◌, append_assoc, arith}
+use Rattle.std.specs.Prelude.{Option, filter, find, IsTrue, nat_lt, nat_le}
 use Rattle.std.specs.List.{AllByRecursion, list_any, range_with_len}
 use Rattle.std.specs.Option.{option_or}
 use Rattle.std.proofs.lemmas.List.{append-nil, length-append, drop_at}
@@ -12,8 +12,8 @@ use Rattle.std.proofs.lemmas.Nat.{mod_below}
 use Rattle.std_lemmas.proofs.AllOf.{all_left, all_right, all_both, all_filter, all_weaker, all_passed}
 use Rattle.std_lemmas.proofs.Lists.{map_same, filter_all}
 use Rattle.record_model.specs.State.{Content, content_at, length_of}
-use Rattle.log_records.specs.Log.{Entry, Version, version_at, slot_at, txn_of, is_of, is_on, is_loser, is_closed, is_closing, entries_of, updates_in, last_where, last_on, first_update, number_of, before_first, before_of, after_of, value_after, value_of, shown}
-use Rattle.log_records.specs.Unfinished.{is_begin, left_open, losers, open_updates, owed}
+use Rattle.log_records.specs.Log.{Entry, Version, version_at, slot_at, txn_of, is_of, is_on, is_loser, is_closed, is_closing, entries_of, updates_in, last_where, last_on, first_update, number_of, before_first, after_of, value_after, value_of, shown}
+use Rattle.log_records.specs.Unfinished.{is_begin, losers, owed}
 use Rattle.log_records.specs.Room.{longest, open_length, put_back}
 use Rattle.log_records.specs.Sound.{LogicalImage, IsSound, Means, InTurn, IsOfOpenTransaction, IsOrderly, AreOrderly, IsLoserChain, Pairwise, HoldsOff, FitsLog, ShowsLast, IsInTable, HasRoomInPage, before_block, from_block, last_known, redone, active_in, commit_number, commit_numbers, commit_count}
 use Rattle.log_laws.specs.NewImage.{with_master, MayCheckpoint}
@@ -33,11 +33,8 @@ first_lsn (e ∷ entries) = e.lsn
 -- The closing record of a transaction that has a kept record is kept.
 
 still_open : (before acc xs : List Entry) → ((t : ℕ) → is_closed before t ≡ true → is_closed acc t ≡ true) → InTurn IsOrderly acc xs → AllByRecursion (λ e. is_closed before (txn_of e) ≡ false) xs
-still_open before acc [] c h = tt
-still_open before acc (e ∷ xs) c h = (
-  ⊎_elim (λ closed. absurd (let never = sym (c (txn_of e) closed) ∙ h.0.not_closed in grind arith)) (λ o. o) (cases_Bool (is_closed before (txn_of e))),
-  still_open before (acc ++ e ∷ []) xs (λ t closed. closed_push acc e t ∙ or_left (is_closed acc t) ((is_of t e && is_closing e.rec) || false) (c t closed)) h.1,
-)
+still_open before acc [] c h = grind arith
+still_open before acc (e ∷ xs) c h = grind (arith, cases_Bool, closed_push, or_left, (still_open before (acc ++ e ∷ []) xs (λ t closed. closed_push acc e t ∙ or_left (is_closed acc t) ((is_of t e && is_closing e.rec) || false) (c t closed)) h.1))
 
 in_parts : (p : LogicalImage) (kept : ℕ) → IsSound p → p.log ≡ before_block kept p.log ++ from_block kept p.log
 in_parts p kept sound = parts_at kept (512 * p.master.kept) p.log (512 * p.hi) sound.in_order
@@ -50,14 +47,8 @@ orderly_open p kept sound orderly = still_open (before_block kept p.log) (before
 
 -- a log keeps its order where records before it are left out
 orderly_without : (before acc xs : List Entry) → InTurn IsOrderly (before ++ acc) xs → InTurn IsOrderly acc xs
-orderly_without before acc [] h = tt
-orderly_without before acc (e ∷ xs) h = (
-  record {
-    begun = h.0.begun;
-    not_closed = (or_parts (is_closed before (txn_of e)) (is_closed acc (txn_of e)) (sym (list_any-append (λ x. is_of (txn_of e) x && is_closing x.rec) before acc) ∙ h.0.not_closed)).1;
-  },
-  orderly_without before (acc ++ e ∷ []) xs (subst (λ (l : List Entry). InTurn IsOrderly l xs) (append_assoc before acc (e ∷ [])) h.1),
-)
+orderly_without before acc [] h = grind arith
+orderly_without before acc (e ∷ xs) h = grind (arith, or_parts, list_any-append, append_assoc, (orderly_without before (acc ++ e ∷ []) xs (subst (λ (l : List Entry). InTurn IsOrderly l xs) (append_assoc before acc (e ∷ [])) h.1)))
 
 pub master_is_orderly : (p : LogicalImage) (kept : ℕ) → IsSound p → AreOrderly p.log → AreOrderly (with_master p kept).log
 master_is_orderly p kept sound orderly =
@@ -75,10 +66,10 @@ module _ (p : LogicalImage) (kept : ℕ) (sound : IsSound p) (may : MayCheckpoin
   right P h = all_right P (before_block kept p.log) (from_block kept p.log) (subst (AllByRecursion P) parts h)
 
   is_old : AllByRecursion (λ e. e.lsn < 512 * kept) (before_block kept p.log)
-  is_old = all_weaker (λ e. nat_lt e.lsn (512 * kept) ≡ true) (λ e. e.lsn < 512 * kept) (λ e h. ltb-true e.lsn (512 * kept) h) (before_block kept p.log) (all_passed (λ e. nat_lt e.lsn (512 * kept)) p.log)
+  is_old = grind (arith, all_weaker, ltb-true, all_passed)
 
   is_kept : AllByRecursion (λ e. 512 * kept ≤ e.lsn) (from_block kept p.log)
-  is_kept = all_weaker (λ e. nat_le (512 * kept) e.lsn ≡ true) (λ e. 512 * kept ≤ e.lsn) (λ e h. leb-true (512 * kept) e.lsn h) (from_block kept p.log) (all_passed (λ e. nat_le (512 * kept) e.lsn) p.log)
+  is_kept = grind (arith, all_weaker, leb-true, all_passed)
 
   closed_is : (t : ℕ) → is_closed p.log t ≡ (is_closed (before_block kept p.log) t || is_closed (from_block kept p.log) t)
   closed_is t = ap (λ (l : List Entry). is_closed l t) parts ∙ list_any-append (λ e. is_of t e && is_closing e.rec) (before_block kept p.log) (from_block kept p.log)
@@ -165,10 +156,10 @@ module _ (p : LogicalImage) (kept : ℕ) (sound : IsSound p) (may : MayCheckpoin
   below = right (λ e. e.lsn < 512 * p.hi) (all_below (512 * p.master.kept) p.log (512 * p.hi) sound.in_order)
 
   all_before : before_block p.hi (from_block kept p.log) ≡ from_block kept p.log
-  all_before = filter_all (λ e. nat_lt e.lsn (512 * p.hi)) (from_block kept p.log) (all_weaker (λ e. e.lsn < 512 * p.hi) (λ e. nat_lt e.lsn (512 * p.hi) ≡ true) (λ e h. lt-ltb e.lsn (512 * p.hi) h) (from_block kept p.log) below)
+  all_before = grind (arith, filter_all, all_weaker, lt-ltb, below)
 
   none_behind : from_block p.hi (from_block kept p.log) ≡ []
-  none_behind = filter_none (λ e. nat_le (512 * p.hi) e.lsn) (from_block kept p.log) (all_weaker (λ e. e.lsn < 512 * p.hi) (λ e. nat_le (512 * p.hi) e.lsn ≡ false) (λ e h. lt-leb (512 * p.hi) e.lsn h) (from_block kept p.log) below)
+  none_behind = grind (arith, filter_none, all_weaker, lt-leb, below)
 
   fits_kept : (page : ℕ) → FitsLog p page (version_at p.pages page) → FitsLog (with_master p kept) page (version_at p.pages page)
   fits_kept page f = record {
@@ -212,25 +203,16 @@ module _ (p : LogicalImage) (kept : ℕ) (sound : IsSound p) (may : MayCheckpoin
   -- What pages have room for: each version shows all, and what is left to be undone is the same.
 
   shows_known : (number lsn : ℕ) → number < 32 * length p.pages → ShowsLast (slot_at p.pages number) (last_known p.log (version_at p.pages (number / 32)).lsn number)
-  shows_known number lsn within =
-      let fits = sound.versions_fit (number / 32) (let q = page_and_slot number in omega (arith, q, within)) in
-      subst (λ n. ShowsLast (slot_at p.pages number) (last_known p.log (version_at p.pages (number / 32)).lsn n)) (page_and_slot number) (fits.shows (number % 32) (mod_below number 32 (omega arith)))
+  shows_known number lsn within = grind (arith, page_and_slot, mod_below)
 
   all_known : (number lsn : ℕ) → (version_at p.pages (number / 32)).lsn ≤ lsn → last_known p.log lsn number ≡ last_on p.log number
-  all_known number lsn later =
-      known_on p.log lsn number
-      (all_weaker (λ e. (n : ℕ) → number_of e.rec ≡ Some n → e.lsn ≤ (version_at p.pages (n / 32)).lsn) (λ e. is_on number e ≡ true → e.lsn ≤ lsn)
-      (λ e known on. let k = known number (is_number-Some number (number_of e.rec) on) in omega (arith, k, later)) p.log may.flushed)
+  all_known number lsn later = grind (arith, known_on, all_weaker, is_number-Some)
 
   shows_all : (number lsn : ℕ) → number < 32 * length p.pages → (version_at p.pages (number / 32)).lsn ≤ lsn → ShowsLast (slot_at p.pages number) (last_known p.log lsn number)
-  shows_all number lsn within later =
-      subst (ShowsLast (slot_at p.pages number)) (all_known number (version_at p.pages (number / 32)).lsn (omega arith) ∙ sym (all_known number lsn later)) (shows_known number lsn within)
+  shows_all number lsn within later = grind (arith, all_known, shows_known)
 
   kept_shows : (slot : Content) (test : Entry → Bool) → ShowsLast slot (last_where test p.log) → ShowsLast slot (last_where test (from_block kept p.log))
-  kept_shows slot test shows = by (last_where test (from_block kept p.log)) (subst (ShowsLast slot) (last_parts test) shows) where
-    by : (o : Option Entry) → ShowsLast slot (option_or o (last_where test (before_block kept p.log))) → ShowsLast slot o
-    by None s = tt
-    by (Some e) s = s
+  kept_shows slot test shows = grind (arith, last_parts)
 
   -- whatever is redone, the slot stays
   redone_stays : (number lsn : ℕ) → number < 32 * length p.pages → (version_at p.pages (number / 32)).lsn ≤ lsn → redone (with_master p kept) lsn number ≡ redone p (version_at p.pages (number / 32)).lsn number
@@ -245,11 +227,7 @@ module _ (p : LogicalImage) (kept : ℕ) (sound : IsSound p) (may : MayCheckpoin
       ∙ sym (shows_itself (slot_at p.pages number) (last_on p.log number) shows)
 
   put_back_same : (number : ℕ) → put_back (from_block kept p.log) number ≡ put_back p.log number
-  put_back_same number =
-      ap (λ (us : List Entry). map (λ (u : Entry). before_of u.rec) (filter (is_on number) us))
-      (ap (flat_map (left_open (from_block kept p.log))) (sym losers_same)
-      ∙ flat_same (left_open (from_block kept p.log)) (left_open p.log) (losers p.log)
-      (all_weaker (λ t. IsTrue (is_loser p.log t)) (λ t. left_open (from_block kept p.log) t ≡ left_open p.log t) (λ t loser. ap (open_updates []) (sym (entries_kept t loser))) (losers p.log) (are_losers p.log)))
+  put_back_same number = grind (arith, losers_same, flat_same, all_weaker, entries_kept, are_losers)
 
   room_kept : (page : ℕ) → page < length p.pages → HasRoomInPage (with_master p kept) page
   room_kept page exists = record {

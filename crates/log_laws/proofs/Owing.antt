@@ -1,6 +1,6 @@
 -- What undo may take, record by record.
 use Rattle.std.proofs.lemmas.Grind.{common_steps}
-use Rattle.std.proofs.Common.{◌≡◌, ℕ, ◌+◌, ◌<◌, Bool, true, false, cond, not, ◌&&◌, List, [], ◌∷◌, length, refl, sym, ap, subst, ◌∙◌, arith}
+use Rattle.std.proofs.Common.{◌≡◌, ℕ, ◌+◌, ◌<◌, Bool, true, false, cond, not, ◌&&◌, List, ◌∷◌, length, refl, sym, ap, subst, ◌∙◌, arith}
 use Rattle.std.specs.Prelude.{drop, sum_by, IsTrue, ◌==◌}
 use Rattle.std.specs.List.{AllByRecursion}
 use Rattle.std.proofs.lemmas.List.Elements.{filter-append}
@@ -67,18 +67,11 @@ left_push log e t = grind (arith, common_steps, filter-append, open_append)
 
 -- where one transaction owes more
 more_at : (g c c' h : Bool) (o o' k : ℕ) → c' ≡ c → (h ≡ true → (c ≡ false) × (o' ≡ o + k)) → (h ≡ false → o' ≡ o) → cond (g && not c') o' 0 ≡ cond (g && not c) o 0 + cond (g && h) k 0
-more_at false c c' h o o' k same at other = refl
-more_at true c c' true o o' k same at other = let a = at refl in ap (λ b. cond (not b) o' 0) (same ∙ a.0) ∙ a.1 ∙ sym (ap (λ b. cond (not b) o 0 + k) a.0)
-more_at true c c' false o o' k same at other = ap (λ b. cond (not b) o' 0) same ∙ ap (λ n. cond (not c) n 0) (other refl) ∙ omega arith
+more_at x0 c c' h o o' k same at other = grind arith
 
 -- where one transaction owes nothing any more
 less_at : (g c c' h : Bool) (o o' k : ℕ) → (h ≡ true → (c ≡ false) × (c' ≡ true) × (o ≡ k)) → (h ≡ false → (c' ≡ c) × (o' ≡ o)) → cond (g && not c) o 0 ≡ cond (g && not c') o' 0 + cond (g && h) k 0
-less_at false c c' h o o' k at other = refl
-less_at true c c' true o o' k at other = let a = at refl in ap (λ b. cond (not b) o 0) a.0 ∙ a.2 ∙ none_plus k ∙ sym (ap (λ b. cond (not b) o' 0 + k) a.1)
-  where
-    none_plus : (n : ℕ) → n ≡ 0 + n
-    none_plus n = omega arith
-less_at true c c' false o o' k at other = let a = other refl in sym (ap (λ b. cond (not b) o' 0) a.0 ∙ ap (λ n. cond (not c) n 0) a.1) ∙ omega arith
+less_at x0 c c' h o o' k at other = grind arith
 
 owed_by_same : (log : List Entry) (e : Entry) (t : ℕ) → (is_of t e && is_update e.rec) ≡ false → (is_of t e && is_clr e.rec) ≡ false → owed_by (with log e) t ≡ owed_by log t
 owed_by_same log e t u c = grind (arith, common_steps, left_push)

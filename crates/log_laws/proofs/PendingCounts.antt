@@ -1,6 +1,6 @@
 -- No more Updates wait to be undone than undo owes blocks.
 use Rattle.std.proofs.lemmas.Grind.{common_steps}
-use Rattle.std.proofs.Common.{◌≡◌, ℕ, ◌+◌, ◌<◌, ◌≤◌, ◌==◌, Bool, true, false, cond, not, ◌&&◌, ◌||◌, List, [], ◌∷◌, length, refl, ap, ◌∙◌, arith}
+use Rattle.std.proofs.Common.{◌≡◌, ℕ, ◌+◌, ◌<◌, ◌≤◌, ◌==◌, Bool, true, false, cond, not, ◌&&◌, ◌||◌, List, ◌∷◌, length, refl, ap, ◌∙◌, arith}
 use Rattle.std.specs.Prelude.{sum_by, IsTrue}
 use Rattle.std.specs.List.{AllByRecursion, list_any}
 use Rattle.std.proofs.lemmas.Bool.{eqb-true, ne_eqb}
@@ -26,17 +26,8 @@ none_at n from (e ∷ log) to below order =
     omega (arith, other, sum_by-cons (at n) e log, none_at n (e.lsn + 1) log to (omega (arith, first, below)) order.1)
 
 one_at : (n from : ℕ) (log : List Entry) (to : ℕ) → IsInOrder from log to → sum_by (at n) log ≤ 1
-one_at n from [] to order = omega arith
-one_at n from (e ∷ log) to order = by (n == e.lsn) refl (one_at n (e.lsn + 1) log to order.1)
-  where
-    by : (b : Bool) → (n == e.lsn) ≡ b → sum_by (at n) log ≤ 1 → sum_by (at n) (e ∷ log) ≤ 1
-    by true is rest =
-        let same = eqb-true n e.lsn is in
-        let one : at n e ≡ 1 = ap (λ (b : Bool). cond b 1 0) is in
-        omega (arith, one, sum_by-cons (at n) e log, none_at n (e.lsn + 1) log to (omega (arith, same)) order.1)
-    by false is rest =
-        let none : at n e ≡ 0 = ap (λ (b : Bool). cond b 1 0) is in
-        omega (arith, none, sum_by-cons (at n) e log, rest)
+one_at n from [] to order = grind (arith, common_steps)
+one_at n from (e ∷ log) to order = grind (arith, common_steps, eqb-true, sum_by-cons, none_at, (one_at n (e.lsn + 1) log to order.1))
 
 abbrev pub among : List Entry → Entry → ℕ
 among us e = cond (list_any (λ u. u.lsn == e.lsn) us) 1 0

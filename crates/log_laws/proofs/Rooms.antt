@@ -1,6 +1,6 @@
 -- Room in pages, as records are put behind a log.
 use Rattle.std.proofs.lemmas.Grind.{common_steps}
-use Rattle.std.proofs.Common.{◌≡◌, inl, inr, ℕ, suc, zero, ◌+◌, ◌-◌, ◌*◌, ◌/◌, ◌<◌, ◌≤◌, Bool, true, false, cond, not, ◌&&◌, List, [], ◌∷◌, ◌++◌, map, Some, None, refl, sym, ap, subst, ◌∙◌, append_assoc, append-nil, arith}
+use Rattle.std.proofs.Common.{◌≡◌, inl, inr, ℕ, suc, zero, ◌+◌, ◌-◌, ◌*◌, ◌/◌, ◌<◌, ◌≤◌, Bool, true, false, cond, ◌&&◌, List, ◌∷◌, ◌++◌, map, Some, None, refl, sym, ap, subst, ◌∙◌, append_assoc, append-nil, arith}
 use Rattle.std.specs.Option.{option_or}
 use Rattle.std.specs.Prelude.{Option, IsTrue, filter, flat_map, sum_by, ◌==◌, nat_le}
 use Rattle.std.specs.List.{AllByRecursion, range_with_len, list_any}
@@ -11,9 +11,9 @@ use Rattle.std.proofs.lemmas.List.Folds.{list_any-append}
 use Rattle.std_lemmas.proofs.AllOf.{all_append, all_drop, all_filter, all_left, all_map, all_push, all_right, all_weaker}
 use Rattle.record_model.specs.State.{Content, length_of, page_room}
 use Rattle.log_records.specs.declared.log_record.LogRecord.{LogRecord}
-use Rattle.log_records.specs.declared.log_record.LogRecord.TheVariants.{Begin, Update, Clr, Commit, End}
+use Rattle.log_records.specs.declared.log_record.LogRecord.TheVariants.{Clr}
 use Rattle.log_records.specs.Log.{Entry, Version, txn_of, is_of, is_on, is_update, is_closing, is_closed, is_loser, entries_of, before_of, after_of, shown, version_at}
-use Rattle.log_records.specs.Unfinished.{is_begin, losers, left_open, open_by, open_updates}
+use Rattle.log_records.specs.Unfinished.{is_begin, losers, left_open, open_by}
 use Rattle.log_records.specs.Room.{longest, open_length, put_back, total_on, HasOpenRoom}
 use Rattle.log_records.specs.Log.{slot_at, shown_by, last_on}
 use Rattle.log_records.specs.Sound.{Master, LogicalImage, InTurn, IsInOrder, IsLoserChain, Continues, ShowsLast, Undoes, HasRoomInPage, last_known}
@@ -30,19 +30,12 @@ use Rattle.log_records.proofs.Lists.{last_where-append}
 -- Totals.
 
 sum_in : (f g : ℕ → ℕ) (a n : ℕ) → ((i : ℕ) → a ≤ i → i < a + n → f i ≤ g i) → sum_by f (range_with_len a n) ≤ sum_by g (range_with_len a n)
-sum_in f g a zero each = omega arith
-sum_in f g a (suc n) each =
-    let one = each a (omega arith) (omega arith) in
-    omega (arith, one, sum_by-cons f a (range_with_len (a + 1) n), sum_by-cons g a (range_with_len (a + 1) n), sum_in f g (a + 1) n (λ i low high. each i (omega (arith, low)) (omega (arith, high))))
+sum_in f g a zero each = grind arith
+sum_in f g a (suc n) each = grind (arith, sum_by-cons, (sum_in f g (a + 1) n (λ i low high. each i (omega (arith, low)) (omega (arith, high)))))
 
 sum_few : (f : ℕ → ℕ) (k a n : ℕ) → ((i : ℕ) → a ≤ i → i < a + n → f i ≤ k) → sum_by f (range_with_len a n) ≤ n * k
-sum_few f k a zero each = omega arith
-sum_few f k a (suc n) each =
-    let one = each a (omega arith) (omega arith) in
-    let rest = sum_few f k (a + 1) n (λ i low high. each i (omega (arith, low)) (omega (arith, high))) in
-    omega (arith, one, rest, sum_by-cons f a (range_with_len (a + 1) n), more n k) where
-      more : (n k : ℕ) → suc n * k ≡ k + n * k
-      more n k = grind arith
+sum_few f k a zero each = grind arith
+sum_few f k a (suc n) each = grind (arith, sum_by-cons, (sum_few f k (a + 1) n (λ i low high. each i (omega (arith, low)) (omega (arith, high)))))
 
 -- a total rises with each of its parts
 pub total_within : (page : ℕ) (f g : ℕ → ℕ) → ((slot : ℕ) → slot < 32 → f (32 * page + slot) ≤ g (32 * page + slot)) → total_on page f ≤ total_on page g
@@ -79,18 +72,12 @@ all_mapped P f [] all = tt
 all_mapped P f (x ∷ xs) all = (all.0, all_mapped P f xs all.1)
 
 all_kept : {X : Type 0} (P : X → Type 0) (test : X → Bool) (xs : List X) → AllByRecursion (λ x. test x ≡ true → P x) xs → AllByRecursion P (filter test xs)
-all_kept P test [] all = tt
-all_kept P test (x ∷ xs) all = by (test x) (all.0) (all_kept P test xs all.1) where
-  by : (b : Bool) → (b ≡ true → P x) → AllByRecursion P (filter test xs) → AllByRecursion P (cond b (x ∷ filter test xs) (filter test xs))
-  by true here rest = (here refl, rest)
-  by false here rest = rest
+all_kept P test [] all = grind arith
+all_kept P test (x ∷ xs) all = grind (arith, (all_kept P test xs all.1))
 
 all_unkept : {X : Type 0} (P : X → Type 0) (test : X → Bool) (xs : List X) → AllByRecursion P (filter test xs) → AllByRecursion (λ x. test x ≡ true → P x) xs
-all_unkept P test [] all = tt
-all_unkept {X} P test (x ∷ xs) all = by (test x) (all_unkept P test xs) all where
-  by : (b : Bool) → (AllByRecursion P (filter test xs) → AllByRecursion (λ x. test x ≡ true → P x) xs) → AllByRecursion P (cond b (x ∷ filter test xs) (filter test xs)) → (b ≡ true → P x) × AllByRecursion (λ x. test x ≡ true → P x) xs
-  by true later here = (λ yes. here.0, later here.1)
-  by false later here = (λ yes. absurd (grind arith), later here)
+all_unkept P test [] all = grind arith
+all_unkept {X} P test (x ∷ xs) all = grind (arith, (all_unkept P test xs))
 
 pub flat_same : {X Y : Type 0} (f g : X → List Y) (xs : List X) → AllByRecursion (λ x. f x ≡ g x) xs → flat_map f xs ≡ flat_map g xs
 flat_same f g [] same = refl
@@ -108,10 +95,7 @@ pub record IsWithin (log : List Entry) (pages : List Version) (number k : ℕ) :
   pub left : (t : ℕ) → is_closed log t ≡ false → AllByRecursion (IsNoLonger number k) (left_open log t)
 
 lives : (log : List Entry) (t : ℕ) → IsTrue (is_loser log t) → is_closed log t ≡ false
-lives log t loser = by (is_closed log t) ((and_parts (list_any (is_of t) log) (not (is_closed log t)) loser).1) where
-  by : (b : Bool) → not b ≡ true → b ≡ false
-  by true h = absurd (grind arith)
-  by false h = refl
+lives log t loser = grind (arith, and_parts)
 
 pub within_is_room : (log : List Entry) (pages : List Version) (number k : ℕ) → IsWithin log pages number k → open_length log pages number ≤ k
 within_is_room log pages number k within =
@@ -130,17 +114,10 @@ none_of (e ∷ log) t none = grind (arith, (none_of log t))
 -- the Updates of an open transaction that are left are those of a loser with its Begin in the log, or none
 module _ (log : List Entry) (undoable : IsUndoable log) (P : Entry → Type 0) (all : AllByRecursion (λ t. AllByRecursion P (left_open log t)) (losers log)) where
   of_loser : (t : ℕ) → is_closed log t ≡ false → is_loser log t ≡ true → AllByRecursion P (left_open log t)
-  of_loser t lives loser =
-      let each : AllByRecursion (λ e. (is_begin e.rec && not (is_closed log e.lsn)) ≡ true → AllByRecursion P (left_open log e.lsn)) (entries_of t log) =
-      all_filter (λ e. (is_begin e.rec && not (is_closed log e.lsn)) ≡ true → AllByRecursion P (left_open log e.lsn)) (is_of t) log
-      (all_made (λ t. AllByRecursion P (left_open log t)) (λ (e : Entry). e.lsn) (λ e. is_begin e.rec && not (is_closed log e.lsn)) log all) in
-      (subst (AllByRecursion (λ e. (is_begin e.rec && not (is_closed log e.lsn)) ≡ true → AllByRecursion P (left_open log e.lsn))) (undoable.undone t loser).begins each).0 (ap not lives)
+  of_loser t lives loser = grind (arith, all_filter, all_made, lives)
 
   pub all_left_of : (t : ℕ) → is_closed log t ≡ false → AllByRecursion P (left_open log t)
-  all_left_of t lives = elim (cases_Bool (list_any (is_of t) log)) [
-    | inl some ↦ of_loser t lives (and_from (list_any (is_of t) log) (not (is_closed log t)) some (ap not lives))
-    | inr none ↦ subst (λ (es : List Entry). AllByRecursion P (open_updates [] es)) (sym (none_of log t none)) tt
-  ]
+  all_left_of t lives = grind (arith, cases_Bool, of_loser, lives, and_from, none_of)
 
 pub room_is_within : (log : List Entry) (pages : List Version) (number k : ℕ) → IsUndoable log → open_length log pages number ≤ k → IsWithin log pages number k
 room_is_within log pages number k undoable room =
@@ -170,29 +147,14 @@ continues_last t (x ∷ xs) e other chain =
 -- what a CLR writes was before its Update
 restored_within : (us : List Entry) (lsn t prev undo_next page slot : ℕ) (after : Content) (number k : ℕ) → Undoes us (Clr t prev undo_next page slot after) →
     (32 * page + slot == number) ≡ true → AllByRecursion (IsNoLonger number k) us → length_of after ≤ k
-restored_within [] lsn t prev undo_next page slot after number k undoes on all = absurd undoes
-restored_within (u ∷ us) lsn t prev undo_next page slot after number k undoes on all = by u.lsn u.rec undoes all.0 where
-  by : (lsn : ℕ) (rec : LogRecord) → Undoes (record { lsn = lsn; rec = rec } ∷ us) (Clr t prev undo_next page slot after) → IsNoLonger number k (record { lsn = lsn; rec = rec }) → length_of after ≤ k
-  by lsn (Update t' prev' page' slot' before' after') back short =
-      subst (λ (c : Content). length_of c ≤ k) (sym back.2) (short ((λ i. 32 * sym back.0 i + sym back.1 i == number) ∙ on))
-  by lsn Begin back short = absurd back
-  by lsn (Clr t' prev' next' page' slot' after') back short = absurd back
-  by lsn (Commit t' n) back short = absurd back
-  by lsn (End t') back short = absurd back
+restored_within x0 lsn t prev undo_next page slot after number k undoes on all = grind arith
 
 all_open_by : (P : Entry → Type 0) (us : List Entry) (e : Entry) (rec : LogRecord) → AllByRecursion P us → (is_update rec ≡ true → P e) → AllByRecursion P (open_by us e rec)
-all_open_by P us e (Update t prev page slot before after) all new = (new refl, all)
-all_open_by P us e (Clr t prev undo_next page slot after) all new = all_drop P 1 us all
-all_open_by P us e Begin all new = all
-all_open_by P us e (Commit t n) all new = all
-all_open_by P us e (End t) all new = all
+all_open_by x0 us e x3 all new = grind (arith, all_drop)
 
 -- numbers of different pages differ
 off_page : (a b page : ℕ) → b / 32 ≡ page → (a / 32 == page) ≡ false → (a == b) ≡ false
-off_page a b page is elsewhere = elim (cases_Bool (a == b)) [
-  | inl same ↦ absurd (let never = sym elsewhere ∙ eq-eqb (a / 32) page (ap (λ (n : ℕ). n / 32) (eqb-true a b same) ∙ is) in grind arith)
-  | inr other ↦ other
-]
+off_page a b page is elsewhere = grind (arith, cases_Bool, eq-eqb, eqb-true)
 
 module _ (m : Master) (pages : List Version) (log : List Entry) (undoable : IsUndoable log) where
   loses_nothing : (e : Entry) → is_closing e.rec ≡ false → is_closed log (txn_of e) ≡ false → is_loser (with log e) (txn_of e) ≡ true
@@ -200,17 +162,7 @@ module _ (m : Master) (pages : List Version) (log : List Entry) (undoable : IsUn
 
   -- a CLR shows what it puts back
   shows_within : (e : Entry) (number k : ℕ) → Follows m pages log e → (is_update e.rec && is_on number e) ≡ false → is_on number e ≡ true → IsWithin log pages number k → length_of (after_of e.rec) ≤ k
-  shows_within e number k f off on within = by e.lsn e.rec f off on where
-    by : (lsn : ℕ) (rec : LogRecord) → Follows m pages log (record { lsn = lsn; rec = rec }) → (is_update rec && is_on number (record { lsn = lsn; rec = rec })) ≡ false → is_on number (record { lsn = lsn; rec = rec }) ≡ true → length_of (after_of rec) ≤ k
-    by lsn (Update t prev page slot before after) f off on = absurd (let never = sym off ∙ on in grind arith)
-    by lsn (Clr t prev undo_next page slot after) f off on =
-        let e : Entry = record { lsn = lsn; rec = Clr t prev undo_next page slot after } in
-        let lives = (f.of_open refl).not_closed in
-        let chain = subst (IsLoserChain t) (entries_push m pages log e) (f.can_be_undone (loses_nothing e refl lives)) in
-        restored_within (left_open log t) lsn t prev undo_next page slot after number k (continues_last t (entries_of t log) e refl chain).undoes on (within.left t lives)
-    by lsn Begin f off on = absurd (grind arith)
-    by lsn (Commit t n) f off on = absurd (grind arith)
-    by lsn (End t) f off on = absurd (grind arith)
+  shows_within e number k f off on within = grind (arith, lives, entries_push, loses_nothing, restored_within, continues_last)
 
   pub within_stays : (e : Entry) (number k : ℕ) → Follows m pages log e → (is_update e.rec && is_on number e) ≡ false → IsWithin log pages number k → IsWithin (with log e) pages number k
   within_stays e number k f off within = record {
@@ -239,17 +191,7 @@ module _ (m : Master) (pages : List Version) (log : List Entry) (undoable : IsUn
       omega (arith, fewer, room)
 
   pub room_behind : (e : Entry) (page : ℕ) → Follows m pages log e → HasOpenRoom log pages page → HasOpenRoom (with log e) pages page
-  room_behind e page f room = by e.lsn e.rec f where
-    by : (lsn : ℕ) (rec : LogRecord) → Follows m pages log (record { lsn = lsn; rec = rec }) → HasOpenRoom (with log (record { lsn = lsn; rec = rec })) pages page
-    by lsn (Update t prev p slot before after) f = elim (cases_Bool ((32 * p + slot) / 32 == page)) [
-      | inl here ↦ subst (HasOpenRoom (with log (record { lsn = lsn; rec = Update t prev p slot before after })) pages) (eqb-true ((32 * p + slot) / 32) page here) (f.room_in_page (32 * p + slot) refl refl)
-      | inr elsewhere ↦ room_stays (record { lsn = lsn; rec = Update t prev p slot before after }) page f
-          (λ s less. off_page (32 * p + slot) (32 * page + s) page (omega (arith, less)) elsewhere) room
-    ]
-    by lsn (Clr t prev undo_next p slot after) f = room_stays (record { lsn = lsn; rec = Clr t prev undo_next p slot after }) page f (λ s less. refl) room
-    by lsn Begin f = room_stays (record { lsn = lsn; rec = Begin }) page f (λ s less. refl) room
-    by lsn (Commit t n) f = room_stays (record { lsn = lsn; rec = Commit t n }) page f (λ s less. refl) room
-    by lsn (End t) f = room_stays (record { lsn = lsn; rec = End t }) page f (λ s less. refl) room
+  room_behind e page f room = grind (arith, with, cases_Bool, eqb-true, room_stays, off_page)
 
 -- What is redone.
 

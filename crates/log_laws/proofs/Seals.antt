@@ -1,6 +1,6 @@
 -- Sealing a block that goes on keeps a logical image sound, and changes what it means by the block's commits alone.
 use Rattle.std.proofs.lemmas.Grind.{common_steps}
-use Rattle.std.proofs.Common.{◌≡◌, ℕ, ◌+◌, ◌-◌, ◌*◌, ◌<◌, ◌≤◌, ◌⊎◌, inl, inr, List, [], ◌∷◌, ◌++◌, length, sym, ap, subst, ◌∙◌, append_assoc, arith}
+use Rattle.std.proofs.Common.{◌≡◌, ℕ, ◌+◌, ◌-◌, ◌*◌, ◌<◌, ◌≤◌, ◌⊎◌, inl, inr, List, ◌∷◌, ◌++◌, length, sym, ap, subst, ◌∙◌, append_assoc, arith}
 use Rattle.std.specs.Prelude.{flat_map, IsTrue, ◌==◌, ◌||◌, nat_lt}
 use Rattle.std.specs.List.{AllByRecursion, range_with_len}
 use Rattle.std.proofs.lemmas.Bool.{le-ltb, le-leb, lt-leb, and_right}
@@ -35,11 +35,8 @@ undoable_behind_all m pages log (e ∷ entries) u f = subst IsUndoable (sym (spl
 
 pub table_behind_all : (m : Master) (pages : List Version) (log entries : List Entry) → IsUndoable log → InTurn (Follows m pages) log entries →
     table_of (log ++ entries) pages ≡ table_after_all (table_of log pages) log entries
-table_behind_all m pages log [] u f = ap (λ (l : List Entry). table_of l pages) (append-nil log)
-table_behind_all m pages log (e ∷ entries) u f =
-    ap (λ (l : List Entry). table_of l pages) (split log e entries)
-    ∙ table_behind_all m pages (with log e) entries (undoable_behind m pages log u e f.0) f.1
-    ∙ ap (λ (t : List Content). table_after_all t (with log e) entries) (table_behind m pages log u e f.0)
+table_behind_all m pages log [] u f = grind (arith, append-nil)
+table_behind_all m pages log (e ∷ entries) u f = grind (arith, split, with, undoable_behind, table_behind, (table_behind_all m pages (with log e) entries (undoable_behind m pages log u e f.0) f.1))
 
 module _ (p : LogicalImage) (records : List LogRecord) (sound : IsSound p) (block : AreBlock records) where
   pub undoable : IsUndoable p.log
@@ -77,9 +74,7 @@ module _ (p : LogicalImage) (records : List LogRecord) (sound : IsSound p) (bloc
   undoable_sealed goes = undoable_behind_all p.master p.pages p.log (next_entries p records) undoable goes.follow
 
   whole_in_order : IsInOrder (512 * p.master.kept) (p.log ++ next_entries p records) (512 * (p.hi + 1))
-  whole_in_order =
-      in_order-append (512 * p.master.kept) (512 * p.hi) (512 * (p.hi + 1)) p.log (next_entries p records) sound.in_order
-      (in_order_from (512 * p.hi + 2) (512 * p.hi) (next_entries p records) (512 * (p.hi + 1)) (omega arith) new_in_order)
+  whole_in_order = grind (arith, in_order-append, in_order_from, new_in_order)
 
   sealed_with : GoesOn p records → IsSound (sealed p records)
   sealed_with goes = record {

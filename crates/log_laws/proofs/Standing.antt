@@ -1,15 +1,14 @@
 -- The writes of a transaction that stand, as lists.
-use Rattle.std.proofs.Common.{◌≡◌, ◌≤◌, ℕ, suc, zero, ◌-◌, Bool, true, false, cond, List, [], ◌∷◌, ◌++◌, length, take, drop, Some, None, refl, sym, ap, ◌∙◌, arith}
+use Rattle.std.proofs.Common.{◌≡◌, ◌≤◌, ℕ, suc, zero, ◌-◌, Bool, true, List, ◌∷◌, ◌++◌, length, take, drop, refl, sym, ap, ◌∙◌, arith}
+use Rattle.std.proofs.lemmas.Grind.{common_steps}
 use Rattle.std.specs.Prelude.{option_map, filter_map, find, reverse}
 use Rattle.std.specs.List.{AllByRecursion}
-use Rattle.std.specs.Option.{option_or}
 use Rattle.std.proofs.lemmas.List.{length-append, length-drop, reverse-append, take-append-le, take-append-drop}
 use Rattle.std.proofs.Math.Seq.{take-length, drop-append_seam}
 use Rattle.std.proofs.lemmas.List.Elements.{filter_map-append}
 use Rattle.std_lemmas.proofs.AllOf.{all_drop}
 use Rattle.record_model.specs.State.{Write, last_write}
 use Rattle.log_records.specs.declared.log_record.LogRecord.{LogRecord}
-use Rattle.log_records.specs.declared.log_record.LogRecord.TheVariants.{Begin, Update, Clr, Commit, End}
 use Rattle.log_records.specs.Log.{Entry, is_on, is_update, entries_of, last_where, after_of}
 use Rattle.log_records.specs.Unfinished.{open_by, open_updates, left_open}
 use Rattle.log_records.proofs.Lists.{last_where-append}
@@ -28,27 +27,17 @@ abbrev pub AreUpdates : List Entry → Type 0
 AreUpdates us = AllByRecursion (λ u. is_update u.rec ≡ true) us
 
 one_write : (u : Entry) → is_update u.rec ≡ true → length (filter_map (λ e. write_of e.rec) (u ∷ [])) ≡ 1
-one_write u update = by u.rec update
-  where
-    by : (rec : LogRecord) → is_update rec ≡ true → length (filter_map {X = Entry} (λ e. write_of e.rec) (record { lsn = u.lsn; rec = rec } ∷ [])) ≡ 1
-    by (Update txn prev page slot before after) h = refl
-    by _ h = absurd (grind arith)
+one_write u update = grind arith
 
 pub writes_count : (us : List Entry) → AreUpdates us → length (writes_of us) ≡ length us
-writes_count [] all = refl
-writes_count (u ∷ us) all =
-    let rest = writes_count us all.1 in
-    ap length (writes_more u us) ∙ omega (arith, length-append (writes_of us) (filter_map (λ e. write_of e.rec) (u ∷ [])), one_write u all.0, rest)
+writes_count [] all = grind arith
+writes_count (u ∷ us) all = grind (arith, writes_more, length-append, one_write, (writes_count us all.1))
 
 -- without the last ones
 pub writes_dropped : (count : ℕ) (us : List Entry) → AreUpdates us → writes_of (drop count us) ≡ take (length us - count) (writes_of us)
-writes_dropped zero us all = sym (ap (λ n. take n (writes_of us)) (omega (arith, writes_count us all)) ∙ take-length (writes_of us))
-writes_dropped (suc count) [] all = let none : 0 ≡ 0 - suc count = omega arith in ap (λ n. take n []) none
-writes_dropped (suc count) (u ∷ us) all =
-    let fewer : length us - count ≡ suc (length us) - suc count = omega arith in
-    writes_dropped count us all.1 ∙ ap (λ n. take n (writes_of us)) fewer
-    ∙ sym (ap (take (suc (length us) - suc count)) (writes_more u us)
-    ∙ take-append-le (suc (length us) - suc count) (writes_of us) (filter_map (λ e. write_of e.rec) (u ∷ [])) (omega (arith, writes_count us all.1)))
+writes_dropped zero us all = grind (arith, common_steps, writes_count, take-length)
+writes_dropped (suc count) [] all = grind (arith, common_steps)
+writes_dropped (suc count) (u ∷ us) all = grind (arith, common_steps, writes_more, take-append-le, writes_count, (writes_dropped count us all.1))
 
 -- and these
 writes_split : (count : ℕ) (us : List Entry) → writes_of us ≡ writes_of (drop count us) ++ writes_of (take count us)
@@ -65,12 +54,8 @@ writes_taken count us all =
 
 -- the last of them on a number
 last_reverse : (test : Entry → Bool) (us : List Entry) → last_where test (reverse us) ≡ find test us
-last_reverse test [] = refl
-last_reverse test (u ∷ us) = ap (last_where test) (reverse-append (u ∷ []) us) ∙ last_where-append test (reverse us) (u ∷ []) ∙ by (test u) (last_reverse test us)
-  where
-    by : (b : Bool) → last_where test (reverse us) ≡ find test us → option_or (cond b (Some u) None) (last_where test (reverse us)) ≡ cond b (Some u) (find test us)
-    by true rest = refl
-    by false rest = rest
+last_reverse test [] = grind (arith, common_steps)
+last_reverse test (u ∷ us) = grind (arith, common_steps, reverse-append, last_where-append, (last_reverse test us))
 
 pub last_standing : (us : List Entry) (number : ℕ) → last_write (writes_of us) number ≡ option_map (λ (u : Entry). after_of u.rec) (find (is_on number) us)
 last_standing us number = last_write_of (reverse us) number ∙ ap (option_map (λ (u : Entry). after_of u.rec)) (last_reverse (is_on number) us)
@@ -82,11 +67,7 @@ open_are_updates us [] all = all
 open_are_updates us (e ∷ entries) all = by e.rec refl (λ vs are. open_are_updates vs entries are)
   where
     by : (rec : LogRecord) → e.rec ≡ rec → ((vs : List Entry) → AreUpdates vs → AreUpdates (open_updates vs entries)) → AreUpdates (open_updates (open_by us e rec) entries)
-    by (Update txn prev page slot before after) is f = f (e ∷ us) (ap (λ (r : LogRecord). is_update r) is, all)
-    by (Clr txn prev undo_next page slot after) is f = f (drop 1 us) (all_drop (λ u. is_update u.rec ≡ true) 1 us all)
-    by Begin is f = f us all
-    by (Commit txn number) is f = f us all
-    by (End txn) is f = f us all
+    by x0 is f = grind (arith, all_drop)
 
 pub left_are_updates : (log : List Entry) (t : ℕ) → AreUpdates (left_open log t)
 left_are_updates log t = open_are_updates [] (entries_of t log) tt
@@ -96,11 +77,8 @@ standing_count log t = writes_count (left_open log t) (left_are_updates log t)
 
 -- where its last Updates aren't left any more its last writes don't stand any more
 pub standing_dropped : (log log' : List Entry) (t count : ℕ) → left_open log' t ≡ drop count (left_open log t) → standing_in t log' ≡ take (length (standing_in t log) - count) (standing_in t log)
-standing_dropped log log' t count left =
-    ap writes_of left ∙ writes_dropped count (left_open log t) (left_are_updates log t) ∙ ap (λ n. take (n - count) (standing_in t log)) (sym (standing_count log t))
+standing_dropped log log' t count left = grind (arith, writes_dropped, left_are_updates, standing_count)
 
 -- and the last ones are those of the first Updates that are left
 pub standing_taken : (log : List Entry) (t count : ℕ) (writes : List Write) → writes ≡ standing_in t log → count ≤ length writes → writes_of (take count (left_open log t)) ≡ drop (length writes - count) writes
-standing_taken log t count writes are few =
-    writes_taken count (left_open log t) (left_are_updates log t)
-    ∙ ap (λ n. drop (n - count) (standing_in t log)) (sym (standing_count log t)) ∙ ap (λ (w : List Write). drop (length w - count) w) (sym are)
+standing_taken log t count writes are few = grind (arith, writes_taken, left_are_updates, standing_count)

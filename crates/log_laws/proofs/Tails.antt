@@ -1,5 +1,5 @@
 -- A log that goes on record by record.
-use Rattle.std.proofs.Common.{◌≡◌, ℕ, ◌+◌, ◌*◌, List, [], ◌∷◌, ◌++◌, length, Some, None, ap, ◌∙◌, append_assoc, arith}
+use Rattle.std.proofs.Common.{◌≡◌, ℕ, ◌+◌, ◌*◌, List, ◌∷◌, ◌++◌, length, Some, None, ap, ◌∙◌, append_assoc, arith}
 use Rattle.std.specs.Prelude.{Option, flat_map}
 use Rattle.std.specs.List.{AllByRecursion, cons_option}
 use Rattle.std.proofs.lemmas.List.{append-nil, length-append}
@@ -22,11 +22,8 @@ use Rattle.log_laws.proofs.Orderly.{orderly_behind}
 use Rattle.log_records.proofs.Entries.{in_order_from}
 
 pub entries_append : (lsn : ℕ) (xs ys : List LogRecord) → entries_from lsn (xs ++ ys) ≡ entries_from lsn xs ++ entries_from (lsn + length (flat_map spelling xs)) ys
-entries_append lsn [] ys = ap (λ n. entries_from n ys) (omega arith)
-entries_append lsn (x ∷ xs) ys =
-    ap (λ (l : List Entry). record { lsn = lsn; rec = x } ∷ l)
-    (entries_append (lsn + length (spelling x)) xs ys
-    ∙ ap (λ n. entries_from (lsn + length (spelling x)) xs ++ entries_from n ys) (omega (arith, length-append (spelling x) (flat_map spelling xs))))
+entries_append lsn [] ys = grind arith
+entries_append lsn (x ∷ xs) ys = grind (arith, length-append, (entries_append (lsn + length (spelling x)) xs ys))
 
 last_entry : (p : LogicalImage) (tail : List LogRecord) (rec : LogRecord) → next_entries p (tail ++ rec ∷ []) ≡ next_entries p tail ++ record { lsn = next_lsn p tail; rec = rec } ∷ []
 last_entry p tail rec = grind (arith, entries_append)

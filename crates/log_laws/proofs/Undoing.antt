@@ -1,5 +1,5 @@
 -- What undoing a transaction reads.
-use Rattle.std.proofs.Common.{◌≡◌, ℕ, ◌+◌, ◌<◌, ◌≤◌, ◌||◌, true, cond, List, [], ◌∷◌, ◌++◌, length, drop, map, Some, refl, sym, ap, subst, ◌∙◌, append_assoc, arith}
+use Rattle.std.proofs.Common.{◌≡◌, ℕ, ◌+◌, ◌<◌, ◌≤◌, ◌||◌, true, cond, List, ◌∷◌, ◌++◌, length, drop, map, Some, refl, sym, ap, subst, ◌∙◌, append_assoc, arith}
 use Rattle.std.specs.Prelude.{find, ◌==◌, ⊤}
 use Rattle.std.specs.List.{AllByRecursion}
 use Rattle.std.proofs.lemmas.List.{append-nil, length-append}
@@ -137,17 +137,14 @@ ready_more log t from earlier e order c there r =
 
 ready_all : (log : List Entry) (t from to : ℕ) (earlier entries : List Entry) → InTurn Continues earlier entries → IsInOrder from (earlier ++ entries) to → AllByRecursion (IsThere log t) entries →
     IsReady log t earlier → IsReady log t (earlier ++ entries)
-ready_all log t from to earlier [] c order there r = subst (IsReady log t) (sym (append-nil earlier)) r
-ready_all log t from to earlier (e ∷ entries) c order there r = subst (IsReady log t) (append_assoc earlier (e ∷ []) entries)
-    (ready_all log t from to (earlier ++ e ∷ []) entries c.1 (subst (λ (l : List Entry). IsInOrder from l to) (sym (append_assoc earlier (e ∷ []) entries)) order) there.1
-    (ready_more log t from earlier e (in_order_left from earlier e entries to order) c.0 there.0 r))
+ready_all log t from to earlier [] c order there r = grind (arith, append-nil)
+ready_all log t from to earlier (e ∷ entries) c order there r = grind (arith, append_assoc, ready_more, in_order_left, (ready_all log t from to (earlier ++ e ∷ []) entries c.1 (subst (λ (l : List Entry). IsInOrder from l to) (sym (append_assoc earlier (e ∷ []) entries)) order) there.1))
 
 -- The records that undoing an unfinished transaction reads.
 
 module _ (from to : ℕ) (log : List Entry) (t : ℕ) (order : IsInOrder from log to) (its : IsLoserChain t (entries_of t log)) where
   all_there : AllByRecursion (IsThere log t) (entries_of t log)
-  all_there = all_both (IsFound log) (λ e. is_of t e ≡ true) (IsThere log t) (λ e found own. (found, eqb-true (txn_of e) t own)) (entries_of t log)
-      (all_filter (IsFound log) (is_of t) log (all_found from log to order)) (all_passed (is_of t) log)
+  all_there = grind (arith, all_both, eqb-true, all_filter, all_found, all_passed)
 
   own_order : IsInOrder from (entries_of t log) to
   own_order = in_order_filter (is_of t) from log to order
@@ -195,19 +192,7 @@ module _ (from to : ℕ) (log : List Entry) (t : ℕ) (order : IsInOrder from lo
   module _ (last remaining : ℕ) (loser : is_loser log t ≡ true) (last_is : last ≡ last_lsn (entries_of t log)) (remaining_is : remaining ≡ length (left_open log t)) where
     -- undoing may begin with the last record of the transaction
     pub unfinished_from_last : (chain : List Entry) × IsUnfinished log (record { txn = t; last = last; next = last; remaining = remaining; chain = chain }) × (length chain ≤ most)
-    unfinished_from_last =
-        let here = ready.stand.here in (
-          here.chain,
-          record {
-            loser = loser;
-            last_is = last_is;
-            chain_is = subst (λ n. IsUndoChain log t n here.chain) (sym last_is) here.is;
-            left_is = here.reads;
-            early = omega arith;
-            remaining_is = remaining_is;
-          },
-          here.few,
-        )
+    unfinished_from_last = grind (arith, ready)
 
     -- or with the last Update that is left
     pub unfinished_from_top : (next : ℕ) → next ≡ top_lsn t (left_open log t) → (chain : List Entry) × IsUnfinished log (record { txn = t; last = last; next = next; remaining = remaining; chain = chain }) × (length chain ≤ most)

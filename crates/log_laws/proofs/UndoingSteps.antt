@@ -1,16 +1,15 @@
 -- One step of undo.
-use Rattle.std.proofs.Common.{◌≡◌, ℕ, ◌+◌, ◌*◌, ◌<◌, ◌≤◌, true, false, cond, not, List, [], ◌∷◌, ◌++◌, length, drop, refl, sym, ap, subst, ◌∙◌, arith}
-use Rattle.std.specs.Prelude.{find, ◌==◌}
+use Rattle.std.proofs.Common.{◌≡◌, ℕ, ◌+◌, ◌*◌, ◌<◌, ◌≤◌, true, cond, not, List, ◌∷◌, ◌++◌, length, drop, refl, sym, ap, subst, ◌∙◌, arith}
+use Rattle.std.specs.Prelude.{◌==◌}
 use Rattle.std.specs.List.{AllByRecursion, list_any}
-use Rattle.std.specs.Option.{option_or}
 use Rattle.std.proofs.lemmas.Bool.{and_from, eq-eqb, not_from_false, or_left}
 use Rattle.std.proofs.lemmas.List.Folds.{find-append}
 use Rattle.record_model.specs.State.{Write}
 use Rattle.log_records.specs.declared.log_record.LogRecord.{LogRecord}
 use Rattle.log_records.specs.declared.log_record.LogRecord.TheVariants.{Update, Clr, End}
-use Rattle.log_records.specs.Log.{Entry, txn_of, is_of, is_update, is_closing, is_closed, is_loser, entries_of, updates_in}
+use Rattle.log_records.specs.Log.{Entry, txn_of, is_of, is_update, is_closed, is_loser, entries_of, updates_in}
 use Rattle.log_records.specs.Unfinished.{is_clr, left_open}
-use Rattle.log_records.specs.Sound.{Master, LogicalImage, IsInOrder, IsInTable, IsOpen, last_lsn}
+use Rattle.log_records.specs.Sound.{Master, LogicalImage, IsInOrder, IsInTable, IsOpen}
 use Rattle.log_laws.specs.Follow.{Follows, IsActive}
 use Rattle.log_laws.specs.Tail.{Carries, whole}
 use Rattle.log_laws.specs.Analysis.{Unfinished, IsUnfinished, past_clr, after_clr}
@@ -43,29 +42,15 @@ chain_goes_on log begin from (e ∷ rest) is less = (e, rest, refl)
 
 -- more records behind a log leave its chains
 pub chain_stays : (log more : List Entry) (begin from : ℕ) (chain : List Entry) → IsUndoChain log begin from chain → IsUndoChain (log ++ more) begin from chain
-chain_stays log more begin from [] is = is
-chain_stays log more begin from (e ∷ chain) is = (
-  record {
-    lsn = is.0.lsn;
-    found = find-append (λ x. x.lsn == from) log more ∙ ap (λ o. option_or o (find (λ x. x.lsn == from) more)) is.0.found;
-    own = is.0.own;
-    change = is.0.change;
-    late = is.0.late;
-    falls = is.0.falls;
-  },
-  chain_stays log more begin (goes_back e.rec) chain is.1,
-)
+chain_stays log more begin from [] is = grind arith
+chain_stays log more begin from (e ∷ chain) is = grind (arith, find-append, (chain_stays log more begin (goes_back e.rec) chain is.1))
 
 -- what a chain of an Update, or of a CLR, and those below reads
 reads_update : (u : Entry) (rest : List Entry) → is_update u.rec ≡ true → updates_in (u ∷ rest) ≡ u ∷ updates_in rest
 reads_update u rest update = ap (λ b. cond b (u ∷ updates_in rest) (updates_in rest)) update
 
 reads_clr : (c : Entry) (rest : List Entry) → is_clr c.rec ≡ true → updates_in (c ∷ rest) ≡ updates_in rest
-reads_clr c rest clr = ap (λ b. cond b (c ∷ updates_in rest) (updates_in rest)) (no_update c.rec clr)
-  where
-    no_update : (rec : LogRecord) → is_clr rec ≡ true → is_update rec ≡ false
-    no_update (Clr txn prev undo_next page slot after) h = refl
-    no_update _ h = absurd (grind arith)
+reads_clr c rest clr = grind arith
 
 module _ (log : List Entry) (x : Unfinished) (is : IsUnfinished log x) where
   pub next_is_late : x.txn ≤ x.next
@@ -88,41 +73,12 @@ module _ (log : List Entry) (x : Unfinished) (is : IsUnfinished log x) where
 
   -- A CLR is read, and undoing goes on where it says.
   pub clr_is_read : (c : Entry) (rest : List Entry) → x.chain ≡ c ∷ rest → is_clr c.rec ≡ true → IsUnfinished log (past_clr x c)
-  clr_is_read c rest split clr =
-      let first = first_read c rest split in
-      let rest_is : drop 1 x.chain ≡ rest = ap (drop 1) split in
-      record {
-        loser = is.loser;
-        last_is = is.last_is;
-        chain_is = subst (IsUndoChain log x.txn (goes_back c.rec)) (sym rest_is) first.1;
-        left_is = ap updates_in rest_is ∙ sym (reads_clr c rest clr) ∙ ap updates_in (sym split) ∙ is.left_is;
-        early = let falls = first.0.falls in let early = is.early in omega (arith, falls, early);
-        remaining_is = is.remaining_is;
-      }
+  clr_is_read c rest split clr = grind (arith, first_read, reads_clr)
 
   -- An Update is read, and the CLR that compensates it is written.
   pub clr_is_written : (u : Entry) (rest : List Entry) (e : Entry) → x.chain ≡ u ∷ rest → is_update u.rec ≡ true → is_clr e.rec ≡ true → txn_of e ≡ x.txn → goes_back e.rec ≡ goes_back u.rec → x.last ≤ e.lsn →
       IsUnfinished (with log e) (after_clr x e)
-  clr_is_written u rest e split update clr own back late =
-      let first = first_read u rest split in
-      let left : left_open (with log e) x.txn ≡ updates_in rest = left_after_clr log e x.txn clr own ∙ ap (drop 1) (update_is_last u rest split update) in
-      let rest_is : drop 1 x.chain ≡ rest = ap (drop 1) split in
-      record {
-        loser = subst (λ t. is_loser (with log e) t ≡ true) own (loser_goes_on log e (closes_nothing e.rec clr) (subst (λ t. is_closed log t ≡ false) (sym own) (loser_is_not_closed log x.txn is.loser)));
-        last_is = sym (last_more log e x.txn ∙ ap (λ b. cond b e.lsn (last_lsn (entries_of x.txn log))) (eq-eqb (txn_of e) x.txn own));
-        chain_is = subst (λ n. IsUndoChain (with log e) x.txn n (drop 1 x.chain)) (sym back)
-            (subst (IsUndoChain (with log e) x.txn (goes_back u.rec)) (sym rest_is) (chain_stays log (e ∷ []) x.txn (goes_back u.rec) rest first.1));
-        left_is = ap updates_in rest_is ∙ sym left;
-        early = let falls = first.0.falls in let early = is.early in omega (arith, falls, early, late, back);
-        remaining_is =
-            let now = ap length left in
-            let was = is.remaining_is ∙ ap length (update_is_last u rest split update) in
-            omega (arith, now, was);
-      }
-    where
-      closes_nothing : (rec : LogRecord) → is_clr rec ≡ true → is_closing rec ≡ false
-      closes_nothing (Clr txn prev undo_next page slot after) h = refl
-      closes_nothing _ h = absurd (grind arith)
+  clr_is_written u rest e split update clr own back late = grind (arith, first_read, with, left_after_clr, update_is_last, loser_goes_on, loser_is_not_closed, last_more, eq-eqb, chain_stays)
 
 module _ (p : LogicalImage) (tail : List LogRecord) (x : Unfinished) (c : Carries p tail) (is : IsUnfinished (whole p tail) x) where
   lives : IsOpen p.master (whole p tail) x.txn

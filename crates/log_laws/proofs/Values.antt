@@ -1,6 +1,6 @@
 -- What a record that is put behind a log makes of the value at a number.
 use Rattle.std.proofs.lemmas.Grind.{common_steps}
-use Rattle.std.proofs.Common.{◌≡◌, ℕ, ⊎_elim, Bool, true, false, ◌&&◌, ◌||◌, List, [], ◌∷◌, ◌++◌, Some, None, refl, sym, ap, ◌∙◌, arith}
+use Rattle.std.proofs.Common.{◌≡◌, ℕ, ⊎_elim, Bool, true, false, ◌&&◌, ◌||◌, List, ◌∷◌, ◌++◌, Some, None, refl, sym, ap, ◌∙◌, arith}
 use Rattle.std.specs.Prelude.{Option, find, IsTrue}
 use Rattle.std.specs.List.{AllByRecursion}
 use Rattle.std.specs.Option.{option_or}
@@ -15,7 +15,7 @@ use Rattle.log_laws.specs.Follow.{CanBeUndone, IsUndoable}
 use Rattle.log_laws.proofs.Lists.{one_false, one_true, last_passes, last_any, last_where-filter, find-filter, last_of_both, find_passes, all_find, any_left}
 use Rattle.log_laws.proofs.Chains.{update_of_chain}
 use Rattle.log_records.proofs.Lists.{one, last_where-append, all_last}
-use Rattle.std.proofs.Common.{cond, subst}
+use Rattle.std.proofs.Common.{cond}
 use Rattle.std.proofs.lemmas.Bool.{cases_Bool}
 use Rattle.log_records.specs.Log.{slot_at}
 
@@ -145,11 +145,4 @@ value_free log pages number e undo off on none = by_last (last_on log number) re
 
 -- what shows begins with what an unfinished transaction has written there last
 pub shown_begins : (log : List Entry) (pages : List Version) (t number : ℕ) (slot : Content) → IsUndoable log → is_closed log t ≡ false → slot ≡ shown log pages number → ShowsLast slot (last_on (entries_of t log) number)
-shown_begins log pages t number slot undoable lives is = by_own (last_on (entries_of t log) number) refl
-  where
-    by_own : (o : Option Entry) → last_on (entries_of t log) number ≡ o → ShowsLast slot (last_on (entries_of t log) number)
-    by_own None o = subst (ShowsLast slot) (sym o) tt
-    by_own (Some y) o =
-        let u = update_of log t number y (undoable.undone t) lives o in
-        let x = last_is_own log t number u.0 undoable.held lives u.1 in
-        subst (ShowsLast slot) (sym (last_of_own log t number x.0 x.1 x.2)) (is ∙ ap (shown_by (slot_at pages number)) x.1)
+shown_begins log pages t number slot undoable lives is = grind (arith, update_of, last_is_own, last_of_own)

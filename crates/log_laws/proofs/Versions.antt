@@ -3,7 +3,7 @@ use Rattle.std.proofs.Common.{◌≡◌, ℕ, ◌*◌, ◌<◌, List, length, No
 use Rattle.std.proofs.lemmas.List.{ext_get_or}
 use Rattle.record_model.specs.State.{content_at}
 use Rattle.log_records.specs.Log.{Entry, Version, value_of, table_of}
-use Rattle.log_records.proofs.Values.{page_and_slot, content_of_table, length_table_of}
+use Rattle.log_records.proofs.Values.{content_of_table, length_table_of}
 pub use Rattle.log_records.proofs.Values.{page_and_slot}
 
 -- tables are equal where their values are
