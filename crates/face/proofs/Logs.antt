@@ -48,6 +48,7 @@ goes_on engine a b go goes = record {
   going = go.going;
   cap = go.cap;
   table = go.table;
+  footprints = go.footprints;
   room = go.room;
   since = go.since;
   bounded = go.bounded;
@@ -128,6 +129,7 @@ still_fits engine a b s fits goes image = record {
   counts = fits.counts;
   sessions = fits.sessions;
   locks_are = fits.locks_are;
+  footprints_are = fits.footprints_are;
 }
 
 -- the devices stand for the table and the count of this state

@@ -1,7 +1,7 @@
 -- The Updates of a transaction that no CLR compensates, as CLR after CLR takes the last of them off.
 use Rattle.std.proofs.lemmas.Grind.{common_steps}
 use Rattle.log_laws.proofs.Parts.{in_order_filter}
-use Rattle.std.proofs.Common.{◌≡◌, ℕ, ◌+◌, ◌≤◌, ◌<◌, true, List, ◌∷◌, ◌++◌, arith}
+use Rattle.std.proofs.Common.{◌≡◌, ℕ, ◌+◌, ◌≤◌, ◌<◌, true, List, [], ◌∷◌, ◌++◌, arith}
 use Rattle.std.specs.Prelude.{drop, ⊤}
 use Rattle.std.specs.List.{AllByRecursion}
 use Rattle.log_records.specs.declared.log_record.LogRecord.{LogRecord}
