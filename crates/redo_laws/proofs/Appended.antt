@@ -197,9 +197,7 @@ module _ (log : LogStore) (pages : PageStore) (site : State) (newest : Option Ma
       ready_now = record { pages = fits_beside pages site new is.changes is.preserves h.log_holds.ready.pages; blocks = is.finds; records = before.holds }
 
       ahead_still : IsAhead log' pages new.image
-      ahead_still =
-          let more = least_blocks log log' lsn sealing is.numbers in
-          record { pool = logged_more (end_forced log) (end_forced log') (omega (arith, more)) pages.pool.frames h.log_holds.ahead.pool; versions = are_sealed }
+      ahead_still = grind (arith, least_blocks, logged_more)
 
       -- the record comes last in the tail
       pub ends_with : KeepsPages g pages site.image new.image → end_of log ≤ lsn →

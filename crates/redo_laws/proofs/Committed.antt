@@ -61,9 +61,7 @@ module _ (p : LogicalImage) (front : List LogRecord) (txn number lsn : ℕ) (rec
   last' = record { lsn = next_lsn p front; rec = Commit txn number }
 
   carries_commit : Carries p (front ++ Commit txn number ∷ [])
-  carries_commit =
-      carries_more p front (Commit txn number) runs.carries
-      (subst (λ (l : List Entry). Follows p.master p.pages l last') (sym runs.records_are) (subst (λ (n : ℕ). Follows p.master p.pages records (record { lsn = n; rec = Commit txn number })) next follows))
+  carries_commit = grind (arith, carries_more)
 
   pub whole_commit : whole p (front ++ Commit txn number ∷ []) ≡ records ++ last ∷ []
   whole_commit = whole_more p front (Commit txn number) ∙ ap (λ (l : List Entry). l ++ last' ∷ []) runs.records_are ∙ ap (λ (n : ℕ). records ++ record { lsn = n; rec = Commit txn number } ∷ []) (sym next)

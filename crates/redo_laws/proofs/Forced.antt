@@ -54,10 +54,7 @@ hi_after false hi hi' some is = absurd (true≢false (sym some))
 
 -- the blocks stay as many
 pub same_blocks : (log log' : LogStore) → has_tail log ≡ true → log'.ring.hi ≡ (if has_tail log then log.ring.hi + 1 else log.ring.hi) → log'.used ≡ 2 → blocks_to log' ≡ blocks_to log
-same_blocks log log' some next empty =
-    let one : (if has_tail log then 1 else 0) ≡ 1 = ap tail_blocks some in
-    let none : (if has_tail log' then 1 else 0) ≡ 0 = ap tail_blocks (none_now log' empty) in
-    omega (arith, hi_after (has_tail log) log.ring.hi log'.ring.hi some next, one, none)
+same_blocks log log' some next empty = grind (arith, tail_blocks, none_now, hi_after)
 
 module _ (log : LogStore) (pages : PageStore) (site : State) (newest : Option Master) (records : List Entry) (table : List Content) (commits : ℕ) (h : Represents log pages site newest records table commits)
     (sizes : log.geometry ≡ pages.flash.geometry) (log' : LogStore) (new : State) (some : has_tail log ≡ true) (high : log.used ≤ block_len)

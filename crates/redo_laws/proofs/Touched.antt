@@ -63,9 +63,7 @@ module _ (log : LogStore) (pages : PageStore) (site : State) (newest : Option Ma
 
   -- a tail that has records may be sealed
   tail_room : has_tail log ≡ true → HasRoom (sealed (logical_image_under newest g site.image blocks) tail)
-  tail_room some =
-      let all : owed (whole (logical_image_under newest g site.image blocks) tail) ≡ owed records = ap owed h.log_holds.runs_on.records_are in
-      omega (arith, h.log_holds.room, ap tail_blocks some, hi_is, all, h.log_holds.kept, next_block_is newest blocks)
+  tail_room some = grind (arith, hi_is, next_block_is)
 
   pub runs_sealed : has_tail log ≡ true → AreBlock tail → RunsOn (logical_image_under newest g site.image (blocks ++ tail ∷ [])) [] records table commits
   runs_sealed some block =

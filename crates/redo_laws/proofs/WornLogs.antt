@@ -23,6 +23,4 @@ masters_at_end masters old new shape fits same worn =
 
 -- a sealed log ends with its blocks
 pub sealed_hi : (log : LogStore) (blocks : ℕ) → log.used ≡ 2 → blocks_to log ≡ blocks → log.ring.hi ≡ blocks
-sealed_hi log blocks empty is =
-    let none : ◌≡◌ {A = ℕ} (if has_tail log then 1 else 0) 0 = ap {B = ℕ} (λ (b : Bool). if b then 1 else 0) (ap (nat_lt 2) empty) in
-    omega (arith, is, none)
+sealed_hi log blocks empty is = grind (arith)
