@@ -24,7 +24,7 @@ use Rattle.log_store.specs.LogList.{LogList, sealed_if, changes_if, with_record}
 use Rattle.log_store.specs.Representation as log_store
 use Rattle.log_store.specs.Representation.{HasBlocks, LeavesLog, has_tail, end_of}
 use Rattle.buffer_pool.specs.declared.frame.Frame.{Frame}
-use Rattle.write_ahead.specs.Forcing.{IsLogged, end_forced}
+use Rattle.write_ahead.specs.Forcing.{IsLogged}
 use Rattle.page_store.specs.declared.store.PageStore.{PageStore}
 use Rattle.page_store.specs.Representation.{IsStore, current, content_by}
 use Rattle.buffer_pool.specs.Frames.{frame_of}

@@ -11,7 +11,6 @@ use Rattle.site.specs.State.{State, reads_of}
 use Rattle.site.specs.Calls.{SameReads}
 use Rattle.record_model.specs.Touches.{CacheOp, touch, page_of, write_touch}
 use Rattle.log_records.specs.Log.{Entry, number_of}
-use Rattle.log_records.specs.Restart.{undo_touch}
 use Rattle.second_chance.specs.Machine.{Rules, Cache, touched, staged_by_works}
 use Rattle.page_store.specs.declared.store.PageStore.{PageStore}
 use Rattle.page_store.specs.Caching.{cache_of, rules, with_change}

@@ -6,15 +6,15 @@ use Rattle.log_records.specs.declared.log_record.LogRecord.{LogRecord}
 use Rattle.page_store.proofs.Beside.{fits_beside}
 use Rattle.image_meaning.proofs.UnchangedImages.{next_block_is}
 use Rattle.log_laws.proofs.Tails.{carries_nothing}
-use Rattle.std.proofs.Common.{◌≡◌, ℕ, ◌<◌, ◌≤◌, Bool, false, nat_lt, arith, append-nil, [], List, refl, sym, ap, subst, ◌∙◌}
-use Rattle.std.specs.Prelude.{if◌then◌else◌, Option}
-use Rattle.site.specs.declared.outside.Dev.TheVariants.{Log, Flash, Disk}
+use Rattle.std.proofs.Common.{◌≡◌, ℕ, ◌<◌, ◌≤◌, nat_lt, arith, append-nil, [], List, refl, sym, subst, ◌∙◌}
+use Rattle.std.specs.Prelude.{Option}
+use Rattle.site.specs.declared.outside.Dev.TheVariants.{Log}
 use Rattle.site.specs.declared.geometry.Geometry.{Geometry}
 use Rattle.site.specs.State.{State, Image, IsQuiet}
 use Rattle.site.specs.Calls.{Preserves, IsUnchanged}
 use Rattle.site.proofs.Laws.{in_sequence, holds_now, no_call, unchanged_calm, stays_honest, quiet_leaves}
-use Rattle.site.specs.Moments.{Leaves, LeavesOnly, SameBut, ChangesOnly}
-use Rattle.sealed_ring.specs.Ring.{IsRing, FitsIn, hi_of}
+use Rattle.site.specs.Moments.{Leaves, LeavesOnly, ChangesOnly}
+use Rattle.sealed_ring.specs.Ring.{IsRing, hi_of}
 use Rattle.image_changes.specs.Rings.{log_shape, KeepsUnits, master_shape}
 use Rattle.record_model.specs.State.{Content}
 use Rattle.log_records.specs.Log.{Entry, log_from}

@@ -2,7 +2,7 @@
 use Rattle.std.proofs.lemmas.Grind.{common_steps}
 use Rattle.page_store.proofs.Fitting.{front_exists}
 use Rattle.log_laws.proofs.Shown.{shown_push}
-use Rattle.std.proofs.Common.{◌≡◌, ◌≢◌, ◌⊎◌, inl, inr, ℕ, ◌+◌, ◌*◌, ◌/◌, ◌≤◌, ◌<◌, ◌==◌, cond, false, List, [], ◌∷◌, ◌++◌, length, Option, None, Some, refl, sym, ap, subst, ◌∙◌, arith}
+use Rattle.std.proofs.Common.{◌≡◌, ◌≢◌, ◌⊎◌, inl, inr, ℕ, ◌+◌, ◌*◌, ◌/◌, ◌≤◌, ◌<◌, false, List, [], ◌∷◌, ◌++◌, length, Option, None, Some, refl, sym, ap, subst, ◌∙◌, arith}
 use Rattle.std.proofs.lemmas.Bool.{cases_eq, ne_eqb, eq-eqb}
 use Rattle.std.proofs.lemmas.Option.{none-some, same_Some}
 use Rattle.site.specs.declared.geometry.Geometry.{Geometry}
@@ -13,15 +13,13 @@ use Rattle.slotted_page.specs.Layout.{lsn_of, slots_of}
 use Rattle.log_store.specs.declared.store.LogStore.{LogStore}
 use Rattle.log_store.specs.Representation.{end_of}
 use Rattle.page_store.specs.declared.store.PageStore.{PageStore}
-use Rattle.page_store.specs.Representation.{current, content_by, Matches, IsStore}
+use Rattle.page_store.specs.Representation.{current, Matches, IsStore}
 use Rattle.page_store.specs.Ahead.{IsAhead}
-use Rattle.flash_cache.specs.Representation.{version_on}
-use Rattle.buffer_pool.specs.declared.frame.Frame.{Frame}
-use Rattle.buffer_pool.specs.Frames.{frame_of, front_of}
+use Rattle.buffer_pool.specs.Frames.{front_of}
 use Rattle.checkpoint.specs.declared.master.Master.{Master}
 use Rattle.image_meaning.specs.Meaning.{versions_on, version_in}
 use Rattle.redo_laws.specs.Holding.{RepresentsLog, RepresentsIn, KeepsPages, Represents}
-use Rattle.log_records.specs.Log.{Entry, Version, number_of, after_of, is_on, is_number, shown}
+use Rattle.log_records.specs.Log.{Entry, Version, number_of, is_on, is_number, shown}
 use Rattle.image_meaning.specs.Redone.{Redoes, AreKnown, ShowsAll}
 use Rattle.flash_cache.proofs.Given.{all_append}
 

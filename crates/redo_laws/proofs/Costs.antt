@@ -1,13 +1,13 @@
 -- What work costs the cache: the groups that it appends, and the pages that it reads.
 use Rattle.site.specs.State.{State}
-use Rattle.std.proofs.Common.{◌≡◌, ◌==◌, ℕ, ◌+◌, ◌≤◌, Bool, true, false, ◌&&◌, List, [], ◌∷◌, ◌++◌, reverse, arith, refl, sym, append_assoc, ap, ◌∙◌}
+use Rattle.std.proofs.Common.{◌≡◌, ℕ, ◌+◌, ◌≤◌, Bool, List, [], ◌∷◌, ◌++◌, arith, refl, append_assoc, ◌∙◌}
 use Rattle.std.specs.Prelude.{if◌then◌else◌}
 use Rattle.second_chance.proofs.GroupCounts.{front_next}
 use Rattle.record_model.specs.Touches.{CacheOp, touch, flush}
 use Rattle.std_lemmas.proofs.Bools.{or_true}
 use Rattle.page_store.specs.Laws.{TouchThenChange}
-use Rattle.second_chance.specs.Machine.{Rules, Cache, is_changed, without, evict_coldest, lacks_room, with_room, touched, apply_op, after_works, Staged, staged_by, staged_by_works}
-use Rattle.page_store.specs.Caching.{is_pushed, pushes, rules}
+use Rattle.second_chance.specs.Machine.{Rules, Cache, with_room, touched, apply_op, after_works, staged_by_works}
+use Rattle.page_store.specs.Caching.{pushes, rules}
 use Rattle.redo_laws.specs.MachineSteps.{next_group, finds_in, misses_in, NumbersRise, ReadsFor}
 use Rattle.page_store.proofs.Numbers.{first_next, flushed_next}
 

@@ -1,21 +1,18 @@
 -- How calls end, each known by its record.
 use Rattle.std.proofs.Common.{arith}
-use Rattle.std.proofs.Common.{◌≡◌, inl, sym, subst, ◌∙◌, Bool, List}
+use Rattle.std.proofs.Common.{◌≡◌, inl, Bool, List}
 use Rattle.std.specs.Prelude.{Result, Ok, Err}
-use Rattle.site.specs.declared.outside.Dev.TheVariants.{Log, Flash}
 use Rattle.site.specs.declared.outside.Stop.{Stop}
-use Rattle.site.specs.declared.outside.Stop.TheVariants.{Worn, Memory, Foreign}
+use Rattle.site.specs.declared.outside.Stop.TheVariants.{Memory}
 use Rattle.site.specs.declared.geometry.Geometry.{Geometry}
 use Rattle.site.specs.State.{State, Snapshot, IsQuiet}
 use Rattle.site.specs.Moments.{Leaves, LeavesOnly}
 use Rattle.site.proofs.Laws.{in_sequence, leaves_weaker}
 use Rattle.image_changes.specs.Changes.{Change}
-use Rattle.flash_cache.specs.Representation.{IsWorn}
 use Rattle.log_store.specs.declared.store.LogStore.{LogStore}
 use Rattle.log_store.specs.LogList.{LogList}
 use Rattle.page_store.specs.declared.store.PageStore.{PageStore}
 use Rattle.page_store.specs.Calls as page_store
-use Rattle.redo_laws.specs.Holding.{IsLogWorn}
 use Rattle.redo_laws.specs.Calls.{Ends}
 use Rattle.redo_laws.proofs.Asking.{stop_is}
 use Rattle.site.proofs.Working.{err_again, no_error}

@@ -4,13 +4,12 @@ use Rattle.redo_laws.specs.Checkpointing.{AreUnfinished, KeepUnfinished}
 use Rattle.image_meaning.specs.Meaning.{master_of}
 use Rattle.checkpoint.specs.declared.master.Master.{Master}
 use Rattle.record_model.specs.State.{Write}
-use Rattle.std.proofs.Common.{◌≡◌, ℕ, ◌==◌, ◌||◌, ◌&&◌, not, Bool, true, false, true≢false, List, [], ◌∷◌, map, refl, sym, ap, subst, ◌∙◌}
-use Rattle.std.specs.Prelude.{filter_map, reverse, Option, Some}
+use Rattle.std.proofs.Common.{◌≡◌, ℕ, ◌==◌, ◌||◌, ◌&&◌, not, Bool, true, false, true≢false, List, [], ◌∷◌, map, refl, sym, ap}
+use Rattle.std.specs.Prelude.{Option, Some}
 use Rattle.std.specs.List.{list_any}
-use Rattle.log_records.specs.Log.{is_of, is_closed, Entry, is_loser}
-use Rattle.log_records.specs.Unfinished.{is_begin, open_updates}
-use Rattle.log_records.specs.Sound.{Active, IsLoserChain, from_block, last_lsn}
-use Rattle.log_laws.specs.Follow.{write_of, IsActive}
+use Rattle.log_records.specs.Log.{Entry, is_loser}
+use Rattle.log_records.specs.Sound.{Active}
+use Rattle.log_laws.specs.Follow.{IsActive}
 use Rattle.checkpoint.specs.declared.pairs.Pair.{Pair}
 
 named_any : (pairs : List Pair) (t : ℕ) → list_any (λ (a : Active). a.begin == t) (map (λ pair. record { begin = pair.begin; last = pair.last }) pairs) ≡ list_any (λ pair. pair.begin == t) pairs

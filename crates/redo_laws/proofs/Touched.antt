@@ -1,6 +1,6 @@
 -- Log and pages that hold together, while pages come and go.
 use Rattle.image_meaning.proofs.UnchangedImages.{next_block_is}
-use Rattle.std.proofs.Common.{◌≡◌, ◌⊎◌, inl, inr, ℕ, ◌≤◌, ◌<◌, Bool, true, false, List, [], ◌∷◌, ◌++◌, refl, sym, ap, subst, ◌∙◌, arith}
+use Rattle.std.proofs.Common.{◌≡◌, ◌⊎◌, inl, inr, ℕ, ◌≤◌, ◌<◌, Bool, true, false, List, [], ◌∷◌, ◌++◌, refl, sym, subst, ◌∙◌, arith}
 use Rattle.std.proofs.lemmas.Bool.{and_parts}
 use Rattle.std.specs.Prelude.{if◌then◌else◌, Option}
 use Rattle.std.proofs.lemmas.List.{length-append}
@@ -12,10 +12,8 @@ use Rattle.record_model.specs.State.{Content}
 use Rattle.log_records.specs.declared.log_record.LogRecord.{LogRecord}
 use Rattle.log_records.specs.Spelling.{AreBlock, block_len}
 use Rattle.log_records.specs.Log.{Entry}
-use Rattle.log_records.specs.Unfinished.{owed}
 use Rattle.log_records.specs.Sound.{LogicalImage, HasRoom}
 use Rattle.log_laws.specs.Follow.{sealed}
-use Rattle.log_laws.specs.Tail.{whole}
 use Rattle.slotted_page.specs.Layout as page
 use Rattle.log_store.specs.declared.store.LogStore.{LogStore}
 use Rattle.log_store.specs.LogList.{LogList, sealed_if}

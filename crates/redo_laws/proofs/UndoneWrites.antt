@@ -4,15 +4,14 @@ use Rattle.redo_laws.specs.MachineSteps.{undo_one_works}
 use Rattle.redo_laws.specs.UndoWorks.{works_of}
 use Rattle.image_meaning.specs.Meaning.{master_of}
 use Rattle.checkpoint.specs.declared.master.Master.{Master}
-use Rattle.std.proofs.Common.{◌≡◌, ◌-◌, ◌≤◌, List, [], ◌∷◌, ◌++◌, length, take, drop, refl, sym, ap, ◌∙◌}
-use Rattle.std.specs.Prelude.{map, filter_map, reverse, option_map, ℕ, Option, Some, None}
-use Rattle.std.specs.List.{cons_option}
+use Rattle.std.proofs.Common.{◌≡◌, ◌-◌, ◌≤◌, List, [], ◌∷◌, length, take, drop, sym, ap, ◌∙◌}
+use Rattle.std.specs.Prelude.{map, reverse, ℕ, Option}
 use Rattle.std.proofs.lemmas.List.{reverse-append, map-append}
 use Rattle.record_model.specs.State.{Write}
 use Rattle.record_model.specs.Touches.{CacheOp, write_touch}
-use Rattle.log_records.specs.Log.{Entry, number_of, after_of}
+use Rattle.log_records.specs.Log.{Entry}
 use Rattle.log_records.specs.Unfinished.{left_open}
-use Rattle.log_laws.specs.Follow.{write_of, IsActive}
+use Rattle.log_laws.specs.Follow.{IsActive}
 use Rattle.log_laws.proofs.Standing.{writes_of, writes_more, standing_taken}
 
 abbrev touches_of : List Write → List CacheOp

@@ -1,6 +1,5 @@
 -- A log that is worn stands at its end, and where a log ends.
-use Rattle.std.proofs.Common.{◌≡◌, inl, ◌^◌, ℕ, Bool, sym, ap, subst, ◌∙◌, arith}
-use Rattle.std.specs.Prelude.{if◌then◌else◌, nat_lt}
+use Rattle.std.proofs.Common.{◌≡◌, inl, ◌^◌, ℕ, sym, ap, subst, ◌∙◌, arith}
 use Rattle.site.specs.State.{State, content_of}
 use Rattle.sealed_ring.specs.declared.ring.Ring.{Ring}
 use Rattle.sealed_ring.specs.declared.slots.Shape.{Shape}
