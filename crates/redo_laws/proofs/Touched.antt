@@ -31,7 +31,7 @@ use Rattle.image_meaning.specs.Redone.{ShowsAll}
 use Rattle.image_meaning.specs.Moments.{LeavesTableUnder}
 use Rattle.image_meaning.specs.Beside.{AreRingsSoundUnder}
 use Rattle.redo_laws.specs.Running.{RunsOn}
-use Rattle.redo_laws.specs.Holding.{ShowRecords, RepresentsIn, Represents}
+use Rattle.redo_laws.specs.Holding.{RepresentsIn, Represents}
 use Rattle.redo_laws.proofs.Runs.{resealed}
 use Rattle.redo_laws.proofs.Standing.{more_blocks, runs_now, shows_now, stands_now, current_sound, last_of_all}
 
@@ -97,58 +97,34 @@ module _ (log : LogStore) (pages : PageStore) (site : State) (newest : Option Ma
   -- and what stands behind a touch
   module _ (log' : LogStore) (pages' : PageStore) (new : State) (geometry : log'.geometry ≡ g) (same_kept : log'.kept ≡ log.kept) (kept : KeepsCurrent pages site.image pages' new.image) (are_ahead : IsAhead log' pages' new.image)
       (end : end_forced log' ≡ end_forced log) (are_sealed : AreSealed g new.image) (rings : AreRingsSoundUnder newest g new.image) (high : log.used ≤ block_len) where
-    below_by : end_of log ≤ end_of log' → (number : ℕ) → number < g.pages → lsn_of (current pages' new.image number) < end_of log'
-    below_by more number exists =
-        subst (λ (c : List ℕ). lsn_of c < end_of log') (sym (kept.each number exists)) (omega (arith, h.below number exists, more))
-
-    shows_by : (blocks' : List (List LogRecord)) (tail' : List LogRecord) → RunsOn (logical_image_under newest g site.image blocks') tail' records table commits → HasBlocks g (kept_by newest) blocks' new.image →
-        ((number : ℕ) → number < g.pages → (version_on g new.image number ≡ version_on g site.image number) ⊎ (version_on g new.image number ≡ given number)) → ShowRecords g pages' new.image records
-    shows_by blocks' tail' runs has versions = record {
-      each = λ number exists.
-          subst (λ (c : List ℕ). ShowsAll records (versions_on g new.image) number (version_in c)) (sym (kept.each number exists))
-          (shows_now g site.image new.image given blocks' tail' newest records table commits runs h.shows.each has are_sealed versions number exists);
-    }
+    touched_with : (blocks' : List (List LogRecord)) (tail' : List LogRecord) → RunsOn (logical_image_under newest g site.image blocks') tail' records table commits → AreReady pages' log' (record { first = kept_by newest; blocks = blocks'; tail = tail' }) new →
+        ((number : ℕ) → number < g.pages → (version_on g new.image number ≡ version_on g site.image number) ⊎ (version_on g new.image number ≡ given number)) → end_of log ≤ end_of log' → RepresentsIn g log' pages' new newest records table commits
+    touched_with blocks' tail' runs ready versions more =
+        let has : HasBlocks g (kept_by newest) blocks' new.image = subst (λ (k : Geometry). HasBlocks k (kept_by newest) blocks' new.image) geometry ready.records.blocks in
+        record {
+          log_holds = record {
+            kept = same_kept ∙ h.log_holds.kept;
+            blocks = blocks';
+            tail = tail';
+            ready = ready;
+            rings = rings;
+            runs_on = runs_now g site.image new.image given blocks' tail' newest records table commits runs h.shows.each has are_sealed versions;
+            ahead = are_ahead;
+            room = omega (arith, h.log_holds.room, end, same_kept);
+          };
+          shows = record {
+            each = λ number exists.
+                subst (λ (c : List ℕ). ShowsAll records (versions_on g new.image) number (version_in c)) (sym (kept.each number exists))
+                (shows_now g site.image new.image given blocks' tail' newest records table commits runs h.shows.each has are_sealed versions number exists);
+          };
+          below = λ number exists. subst (λ (c : List ℕ). lsn_of c < end_of log') (sym (kept.each number exists)) (omega (arith, h.below number exists, more));
+        }
 
     pub touched_holds : (sealing : Bool) → (sealing ≡ true → has_tail log ≡ true) → AreReady pages' log' (sealed_if sealing list) new → LeavesPages g (current pages site.image) sealing list site (snapshot_of new) →
         RepresentsIn g log' pages' new newest records table commits
     touched_holds false some ready leaves =
-        let has : HasBlocks g (kept_by newest) blocks new.image = subst (λ (k : Geometry). HasBlocks k (kept_by newest) blocks new.image) geometry ready.records.blocks in
-        record {
-          log_holds = record {
-            kept = same_kept ∙ h.log_holds.kept;
-            blocks = blocks;
-            tail = tail;
-            ready = ready;
-            rings = rings;
-            runs_on = runs_now g site.image new.image given blocks tail newest records table commits h.log_holds.runs_on h.shows.each has are_sealed leaves.versions;
-            ahead = are_ahead;
-            room = omega (arith, h.log_holds.room, end, same_kept);
-          };
-          shows = shows_by blocks tail h.log_holds.runs_on has leaves.versions;
-          below = below_by (
-              let hi = ready.blocks.hi in let next = ready.records.blocks.next in let used = ready.records.tail.end in let was = h.log_holds.ready.records.tail.end in
-              omega (arith, hi, next, used, was, hi_is, next_block_is newest blocks)
-              );
-        }
+        touched_with blocks tail h.log_holds.runs_on ready leaves.versions
+        (omega (arith, ready.blocks.hi, ready.records.blocks.next, ready.records.tail.end, h.log_holds.ready.records.tail.end, hi_is, next_block_is newest blocks))
     touched_holds true some ready leaves =
-        let has : HasBlocks g (kept_by newest) (blocks ++ tail ∷ []) new.image = subst (λ (k : Geometry). HasBlocks k (kept_by newest) (blocks ++ tail ∷ []) new.image) geometry ready.records.blocks in
-        let runs = runs_sealed (some refl) (last_of_all AreBlock blocks tail has.are_blocks) in
-        record {
-          log_holds = record {
-            kept = same_kept ∙ h.log_holds.kept;
-            blocks = blocks ++ tail ∷ [];
-            tail = [];
-            ready = ready;
-            rings = rings;
-            runs_on = runs_now g site.image new.image given (blocks ++ tail ∷ []) [] newest records table commits runs h.shows.each has are_sealed leaves.versions;
-            ahead = are_ahead;
-            room = omega (arith, h.log_holds.room, end, same_kept);
-          };
-          shows = shows_by (blocks ++ tail ∷ []) [] runs has leaves.versions;
-          below = below_by (
-              let hi = ready.blocks.hi in let next = ready.records.blocks.next in let used = ready.records.tail.end in
-              omega (arith, hi, next, used, hi_is, high, length-append blocks (tail ∷ []), next_block_is newest blocks)
-              );
-        }
-
--- results
+        touched_with (blocks ++ tail ∷ []) [] (runs_sealed (some refl) (last_of_all AreBlock blocks tail ready.records.blocks.are_blocks)) ready leaves.versions
+        (omega (arith, ready.blocks.hi, ready.records.blocks.next, ready.records.tail.end, hi_is, high, length-append blocks (tail ∷ []), next_block_is newest blocks))
