@@ -11,7 +11,6 @@ use Rattle.site.specs.State.{State, reads_of}
 use Rattle.site.specs.Calls.{SameReads}
 use Rattle.record_model.specs.Touches.{CacheOp, touch, page_of, write_touch}
 use Rattle.log_records.specs.Log.{Entry, number_of}
-use Rattle.log_records.specs.Restart.{undo_touch}
 use Rattle.second_chance.specs.Machine.{Rules, Cache, touched, staged_by_works}
 use Rattle.page_store.specs.declared.store.PageStore.{PageStore}
 use Rattle.page_store.specs.Caching.{cache_of, rules, with_change}
@@ -71,12 +70,7 @@ asks_later result works old new before between now same still asks = record {
 -- its page is touched, which stops
 pub change_stopped : {A B : Type 0} (stop : Stop) (page : ℕ) (old new : PageStore) (before now : State) → 1 ≤ (rules old).groups →
     StepsMachine {T = A} (Err stop) (one_touch page) old new before now → StepsMachine {T = B} (Err stop) (one_change page) old new before now
-change_stopped stop page old new before now some asks = record {
-  machine = tt;
-  reads = change_reads (rules old) page (cache_of old) before now some asks.reads;
-  rules_are = asks.rules_are;
-  stages = change_stages (Err stop) page old new before now some (stages_err asks.stages);
-}
+change_stopped stop page old new before now some asks = grind (arith, change_reads, change_stages, stages_err)
 
 -- and changed then
 pub change_made : {A B : Type 0} (a : A) (result : Result B Stop) (page : ℕ) (old mid new : PageStore) (before between now : State) → 1 ≤ (rules old).groups →
@@ -108,6 +102,4 @@ work_is u page slot less is =
 
 -- all that are left: those that were undone, the next one, and the others
 pub works_are : (done rest : List Entry) (u : Entry) → works_of (done ++ u ∷ rest) ≡ (works_of done ++ works_of (u ∷ [])) ++ works_of rest
-works_are done rest u =
-    let all : (done ++ u ∷ []) ++ rest ≡ done ++ u ∷ rest = simp append_assoc in
-    sym (ap works_of all) ∙ filter_map-append undo_touch (done ++ u ∷ []) rest ∙ ap (λ (w : List CacheOp). w ++ works_of rest) (filter_map-append undo_touch done (u ∷ []))
+works_are done rest u = grind (arith, append_assoc, filter_map-append)
