@@ -22,9 +22,12 @@ Told = collections.namedtuple('Told', 'text status')
 
 # --- scripts
 def some_lines(random, records):
-    """Lines of all kinds, a session that goes back, or sets over all pages, so that pages leave memory and groups are pushed."""
+    """Lines of all kinds, a session that goes back, a page that is full, or sets over all pages, so that pages leave memory
+    and groups are pushed."""
     count = random.choice([0, 1, 2, 4, 8, 16])
     kind = random.random()
+    if kind < 0.08:
+        return storage_model.full_page_lines(random, records, count)
     if kind < 0.25:
         return storage_model.session_lines(random, records, count)
     if kind < 0.6:

@@ -3,7 +3,7 @@ table each commit leaves."""
 
 SESSIONS = 8
 SLOTS = 32
-LONGEST = 120
+LONGEST = 200
 PAGE_ROOM = 3952
 
 
@@ -237,9 +237,12 @@ class Model:
         return getattr(self, name)(*given, *values)
 
 
+def value_of(random, lengths):
+    return ''.join(random.choice('0123456789abcdef') for _ in range(2 * random.choice(lengths))) or '-'
+
+
 def random_value(random):
-    length = random.choice([0, 1, 1, 2, 4, 8, 8, 20, 60, 120, 121])
-    return ''.join(random.choice('0123456789abcdef') for _ in range(2 * length)) or '-'
+    return value_of(random, [0, 1, 1, 2, 4, 8, 8, 20, 60, 120, 200, 201])
 
 
 def random_back(random, session):
@@ -302,3 +305,30 @@ def session_lines(random, records, count):
     session = random.randrange(SESSIONS)
     lines = [session_line(random, records, session) for _ in range(count)]
     return [f'begin {session}'] + lines + random.choice([[], [], [f'commit {session}'], [f'abort {session}']])
+
+
+def full_page_line(random, first, session):
+    """One line that makes room in a page that is nearly full, or takes it: 152 octets are left behind 19 values of 200."""
+    record = first + random.choice([0, 1, 18, 19, 19, 20, 31])
+    kind = random.random()
+    if kind < 0.30:
+        return f'set {record} {value_of(random, [0, 1, 48, 100, 152, 153, 200])}'
+    if kind < 0.60:
+        return f'write {session} {record} {value_of(random, [0, 1, 48, 100, 152, 153, 200])}'
+    if kind < 0.70:
+        return f'erase {session} {record}'
+    if kind < 0.76:
+        return f'mark {session}'
+    if kind < 0.86:
+        return random_back(random, session)
+    if kind < 0.92:
+        return f'{random.choice(["commit", "abort"])} {session}'
+    return f'begin {session}'
+
+
+def full_page_lines(random, records, count):
+    """Values of 200 octets in one page, until it is full, and then what makes room in it and takes it."""
+    first = SLOTS * random.randrange(records // SLOTS)
+    session = random.randrange(SESSIONS)
+    lines = [f'set {first + slot} {"5a" * LONGEST}' for slot in range(19)]
+    return lines + [f'begin {session}'] + [full_page_line(random, first, session) for _ in range(2 * count)]

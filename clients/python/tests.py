@@ -73,15 +73,15 @@ class Records(Case):
         written = {}
         with self.open(sizes=ROOMY) as db:
             with contextlib.suppress(ValueTooLong):
-                for length in range(512):
-                    written[length] = os.urandom(length)
-                    db[length] = written[length]
+                for length in range(256):
+                    written[2 * length] = os.urandom(length)
+                    db[2 * length] = written[2 * length]
             longest = len(written) - 2
-            self.assertGreaterEqual(longest, 120)
-            del written[longest + 1]
+            self.assertEqual(longest, 200)
+            del written[2 * (longest + 1)]
             self.assertEqual(dict(db.scan(0, 512)), written)
         with self.open(sizes=ROOMY) as db:
-            self.assertEqual([db[length] for length in written], list(written.values()))
+            self.assertEqual([db[record] for record in written], list(written.values()))
 
     def test_many_under_way(self):
         with self.open() as db:
@@ -376,7 +376,7 @@ class Shells(Case):
         self.assertEqual((told.stderr, told.returncode), ("", 0))
 
     def test_export_and_import(self):
-        records = {record: os.urandom(record % 121) for record in range(0, 512, 2)}
+        records = {record: os.urandom(record % 201) for record in range(0, 512, 2)}
         with self.open(sizes=ROOMY) as db:
             for reply in [db.submit("set", record, value) for record, value in records.items()]:
                 reply.result()

@@ -7,6 +7,7 @@ use Rattle.txn_table.specs.Entries.{IsTable, entry_of, owed}
 use Rattle.redo_laws.specs.Holding.{blocks_to}
 pub use Rattle.redo_undo.specs.Stores.{MayWork, sizes_of}
 use Rattle.engine.specs.declared.engine.Engine.{Engine}
+use Rattle.engine.specs.PageTests.{AreLocked}
 
 -- of every site: the database may go on
 pub record Invariant (engine : Engine) (site : State) : Type 0 where
@@ -28,3 +29,5 @@ pub record Invariant (engine : Engine) (site : State) : Type 0 where
       → (entry.begin ≤ entry.last) × (entry.last < end_of engine.store.log)
   pub differ : (n m : ℕ) (a b : Active) → entry_of engine.active n ≡ Some a → entry_of engine.active m ≡ Some b
       → a.begin ≡ b.begin → n ≡ m
+  -- footprints stand on locked records
+  pub footprints : AreLocked engine.footprints engine.locks

@@ -6,6 +6,7 @@ pub mod Listings
 pub mod LogReads
 pub mod Numbers
 pub mod OneWrite
+pub mod PageTests
 pub mod Paging
 pub mod RingWork
 pub mod Permits

@@ -6,7 +6,8 @@ use Rattle.site.specs.State.{State as Site}
 use Rattle.record_model.specs.State.{Session, State, Write, session_at, kept_by_checkpoint}
 use Rattle.record_model.specs.State as model
 use Rattle.record_model.specs.declared.words.Command.{Command}
-use Rattle.record_model.specs.Step.{Outcome, step, refusal, effect, answer, making, with_session, having_written}
+use Rattle.record_model.specs.Step.{Outcome, step, refusal, effect, answer, fills_page, making, with_session}
+use Rattle.record_model.specs.Step.{having_written}
 use Rattle.record_model.specs.Step.{having_marked, having_read}
 use Rattle.record_model.specs.Touches.{command_touches, record_touches}
 use Rattle.ring_machine.specs.Commands.{command_work, record_work}
@@ -24,6 +25,7 @@ use Rattle.txn_table.specs.Entries as entries
 use Rattle.log_records.specs.Unfinished as unfinished
 use Rattle.engine.specs.declared.engine.Engine.{Engine}
 use Rattle.redo_undo.specs.Stores.{Represents}
+use Rattle.engine.specs.PageTests.{FootprintsAre, tested, touches_by, work_by}
 
 -- the record of each Update of these entries
 abbrev pub updated : List Entry → List ℕ
@@ -77,6 +79,7 @@ pub record Matches (engine : Engine) (site : Site) (s : State) : Type 0 where
   pub counts : CountsAre engine s
   pub sessions : SessionsAre newest records engine.active s
   pub locks_are : LocksAre engine.locks s
+  pub footprints_are : FootprintsAre engine.footprints s
 
 -- what a command answers, and the state that it leaves
 abbrev pub run : State → Command → Outcome
@@ -118,6 +121,15 @@ Refuses engine command reply = (s : State) (site : Site) → Matches engine site
 
 abbrev pub Accepts : Engine → Command → Type 0
 Accepts engine command = (s : State) (site : Site) → Matches engine site s → IsCarriedOut s command
+
+-- the test of its page is the last one, and no checkpoint comes first: that decides
+abbrev pub IsTested : State → Command → Type 0
+IsTested s command = (run s command ≡ tested s command (fills_page s command))
+    × ((command_touches s command ≡ touches_by s command (fills_page s command))
+    × (command_work s command ≡ work_by s command (fills_page s command)))
+
+abbrev pub Tests : Engine → Command → Type 0
+Tests engine command = (s : State) (site : Site) → Matches engine site s → IsTested s command
 
 -- no test refuses it, whatever room there is
 abbrev pub Passes : Engine → Command → Type 0

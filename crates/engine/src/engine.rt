@@ -34,6 +34,7 @@ ghost use Rattle.site.specs.Work.{Calls};
 ghost use Rattle.engine.specs.Paging.{HasLastFrom, WritesFrom};
 
 use crate::restart::restart;
+use footprints::Footprints;
 use lock_table::LockTable;
 use record_model::{Reply, Stat, Why};
 use redo_undo::TransactionStore;
@@ -52,6 +53,8 @@ pub struct Engine {
     // How many blocks of the log may be used.
     pub(crate) cap: u64,
     pub(crate) locks: LockTable,
+    // What the sessions' writes may still have taken back.
+    pub(crate) footprints: Footprints,
     pub(crate) active: TxnTable,
     pub(crate) commits: u64,
     pub(crate) ended: bool,
@@ -133,6 +136,7 @@ impl Engine {
             cap: restarted.blocks as u64 - 1,
             store: restarted.store,
             locks,
+            footprints: Footprints::new(alloc),
             active: TxnTable::new(),
             commits: restarted.commits,
             ended: false,

@@ -9,6 +9,7 @@ mod laws;
 mod marking;
 mod reading;
 mod restart;
+mod room;
 mod scan;
 mod sessions;
 mod setting;

@@ -20,6 +20,7 @@ ghost use Rattle.engine.specs.Calls.{KeepsEngine, CommandEffect, CommandContract
 ghost use Rattle.engine.specs.Numbers.{checkpoints_by};
 
 use crate::engine::Engine;
+use crate::room::take_back;
 use crate::sessions;
 use record_model::{Reply, Why};
 use site::{Site, Stop};
@@ -105,6 +106,7 @@ impl Engine {
         let count = entry.writes - stays;
         match self.store.back(site, entry, count) {
             Ok(last) => {
+                take_back(&mut self.footprints, entry.session, count);
                 sessions::undone(&mut self.active, entry, count, last);
                 Ok(Reply::Back(count))
             }

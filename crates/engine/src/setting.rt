@@ -1,29 +1,24 @@
 // A transaction of one write, outside sessions.
-ghost use Rattle.std.specs.Prelude.{Option, ◌≡◌, ◌+◌, ◌*◌, ◌/◌, ◌<◌, ◌≤◌, [], ◌∷◌, ◌++◌, length, true, Some};
-ghost use Rattle.std.specs.Prelude.{None, IfSome, IfNone, IfOk, OnErr};
+ghost use Rattle.std.specs.Prelude.{Option, ◌≡◌, ◌*◌, ◌<◌, ◌≤◌, length, true, None, IfSome, IfNone, OnErr};
 ghost use Rattle.site.specs.declared.outside.Stop.{Stop};
 ghost use Rattle.site.specs.State.{State as Site};
 ghost use Rattle.record_model.specs.declared.words.Command.{Command};
 ghost use Rattle.record_model.specs.declared.words.Why.{Why};
 ghost use Rattle.record_model.specs.declared.words.Reply.{Reply};
-ghost use Rattle.record_model.specs.State.{State, content_at};
-ghost use Rattle.ring_machine.specs.Commands.{reads, begins, changes, command_work};
-ghost use Rattle.ring_machine.specs.Commands.{commits as commits_work};
+ghost use Rattle.record_model.specs.State.{State};
+ghost use Rattle.ring_machine.specs.Commands.{command_work};
 ghost use Rattle.redo_undo.specs.Mirroring.{PerformsStore};
 ghost use Rattle.byte_fields.specs.declared.TheConstants.{VALUE_MAX};
-ghost use Rattle.record_model.specs.Step.{making, committed};
-ghost use Rattle.log_records.specs.Spelling.{IsShort};
+ghost use Rattle.record_model.specs.Step.{wants_page_room};
 ghost use Rattle.engine.specs.Invariant.{Invariant, sizes_of};
 ghost use Rattle.lock_table.specs.Locks.{busy_write};
+ghost use Rattle.engine.specs.PageTests.{tested, touches_by, work_by};
 ghost use Rattle.engine.specs.Permits.{MayWrite};
-ghost use Rattle.engine.specs.OneWrite.{HasOneWrite};
 ghost use Rattle.engine.specs.Representation.{Matches, run, Refuses, Passes};
-ghost use Rattle.engine.specs.Leaves.{LeavesTable, LeavesEither};
+ghost use Rattle.engine.specs.Leaves.{LeavesEither};
 ghost use Rattle.record_model.specs.Touches.{command_touches};
-ghost use Rattle.redo_laws.specs.MachineSteps.{StepsMachine, one_change};
-ghost use Rattle.engine.specs.Calls.{KeepsUnread, CommandEffect, CommandContract};
+ghost use Rattle.engine.specs.Calls.{KeepsUnread, CommandContract};
 ghost use Rattle.engine.specs.Numbers.{checkpoints_by};
-ghost use Rattle.redo_undo.specs.StoreCalls.{KeepsInvariant, Keeps};
 
 use crate::engine::Engine;
 use crate::values::{is_long, value_of};
@@ -31,87 +26,49 @@ use record_model::{Octets, Reply, Why};
 use site::{Site, Stop};
 
 impl Engine {
-    // Brings a record's page to the front, logs the Begin of a transaction that sets the record, and its Update, and
-    // changes the page. Answers the transaction. Where the page has no room for the value it answers Foreign, and logs
-    // nothing.
-    fn log_set<S: Site>(
+    // Logs a transaction that sets one record, and commits it, where the record's page has room.
+    fn carry_out_set<S: Site>(
         &mut self,
         site: &mut S,
         number: u32,
-        after: &Option<Octets>,
-    ) -> Result<u64, Stop>
+        value: &Octets,
+    ) -> Result<Reply, Stop>
         requires going { Invariant self.old (S.state site.old) }
-        requires short { IsShort after.now }
+        requires short { length value.now ≤ VALUE_MAX }
         requires may { MayWrite self.old None number 4 }
 
         // Of an honest site that the database fits.
-        ensures logged { (s : State) (fits : Matches self.old (S.state site.old) s)
-            → IfOk result (λ txn. HasOneWrite self.new.store (S.state site.new) fits.newest
-            fits.records s.table s.commits txn number after.now) }
-        ensures keeps { (s : State) → Matches self.old (S.state site.old) s
-            → Keeps result self.old.store self.new.store (S.state site.old) (S.state site.new)
-            (LeavesTable (sizes_of self.old.store) s.table s.commits (S.state site.old).told) 2 0 }
+        ensures answers { (s : State) → Matches self.old (S.state site.old) s
+            → CommandContract result self.old self.new (S.state site.old) (S.state site.new) s
+            (tested s (Command.Set number value.now) (wants_page_room s number value.now))
+            (touches_by s (Command.Set number value.now) (wants_page_room s number value.now))
+            (LeavesEither (sizes_of self.old.store) s
+            (tested s (Command.Set number value.now) (wants_page_room s number value.now)).after
+            (S.state site.old).told) 0 }
         ensures performs { (s : State) → Matches self.old (S.state site.old) s
-            → PerformsStore result (reads number ++ begins ++ changes number (content_at s.table number) after.now)
+            → PerformsStore result
+            (work_by s (Command.Set number value.now) (wants_page_room s number value.now))
             self.old.store self.new.store (S.state site.old) (S.state site.new) }
 
         // Of every site.
-        ensures works { KeepsInvariant result self.old.store self.new.store (S.state site.old) (S.state site.new) 2 }
-        ensures log_reads { (S.state site.new).log_reads ≡ (S.state site.old).log_reads }
-        ensures rest { self.new ≡ record self.old { store = self.new.store } }
-        ensures asks { StepsMachine result (one_change (number / 32)) self.old.store.pages self.new.store.pages
-            (S.state site.old) (S.state site.new) }
+        ensures serves { KeepsUnread result self.old self.new (S.state site.old) (S.state site.new) }
     {
-        match self.store.touch(site, number) {
-            Ok(()) => {}
+        let after = value_of(value);
+        let refused = match self.touch_for(site, number, &after) {
+            Ok(refused) => refused,
             Err(stop) => return Err(stop),
-        }
-        if !self.store.fits(number, after) {
-            return Err(Stop::Foreign);
+        };
+        if let Some(full) = refused {
+            return Ok(full);
         }
         let txn = match self.store.begin(site) {
             Ok(txn) => txn,
             Err(stop) => return Err(stop),
         };
-        match self.store.update(site, txn, txn, number, after) {
-            Ok(_) => Ok(txn),
-            Err(stop) => Err(stop),
-        }
-    }
-
-    // Logs a transaction that sets one record, and commits it.
-    fn carry_out_set<S: Site>(
-        &mut self,
-        site: &mut S,
-        number: u32,
-        after: &Option<Octets>,
-    ) -> Result<Reply, Stop>
-        requires going { Invariant self.old (S.state site.old) }
-        requires short { IsShort after.now }
-        requires may { MayWrite self.old None number 4 }
-
-        // Of an honest site that the database fits.
-        ensures reply { (s : State) → Matches self.old (S.state site.old) s
-            → IfOk result (λ reply. reply ≡ Reply.Committed (s.commits + 1)) }
-        ensures does { (s : State) → Matches self.old (S.state site.old) s
-            → CommandEffect result self.old self.new (S.state site.old) (S.state site.new) s
-            (making 3 (committed s ((number, after.now) ∷ [])))
-            (LeavesEither (sizes_of self.old.store) s (making 3 (committed s ((number, after.now) ∷ [])))
-            (S.state site.old).told) 0 }
-        ensures performs { (s : State) → Matches self.old (S.state site.old) s
-            → PerformsStore result
-            (reads number ++ begins ++ changes number (content_at s.table number) after.now ++ commits_work)
-            self.old.store self.new.store (S.state site.old) (S.state site.new) }
-
-        // Of every site.
-        ensures serves { KeepsUnread result self.old self.new (S.state site.old) (S.state site.new) }
-        ensures asks { StepsMachine result (one_change (number / 32)) self.old.store.pages self.new.store.pages
-            (S.state site.old) (S.state site.new) }
-    {
-        let txn = match self.log_set(site, number, after) {
-            Ok(txn) => txn,
+        match self.store.update(site, txn, txn, number, &after) {
+            Ok(_) => {}
             Err(stop) => return Err(stop),
-        };
+        }
         match self.seal_commit(site, txn) {
             Ok(reply) => Ok(reply),
             Err(stop) => Err(stop),
@@ -170,8 +127,7 @@ impl Engine {
         if let Some(full) = self.full(4) {
             return Ok(full);
         }
-        let after = value_of(value);
-        match self.carry_out_set(site, number, &after) {
+        match self.carry_out_set(site, number, value) {
             Ok(reply) => Ok(reply),
             Err(stop) => {
                 self.ended = true;

@@ -203,6 +203,7 @@ impl Engine {
         match self.seal_commit(site, entry.begin) {
             Ok(reply) => {
                 self.locks.release(entry.session);
+                self.footprints.end(entry.session);
                 sessions::remove(&mut self.active, entry);
                 Ok(reply)
             }
@@ -270,6 +271,7 @@ impl Engine {
         match self.store.roll_back(site, entry, owed) {
             Ok(()) => {
                 self.locks.release(entry.session);
+                self.footprints.end(entry.session);
                 sessions::remove(&mut self.active, entry);
                 Ok(Reply::Aborted)
             }

@@ -1,36 +1,37 @@
 // A session's writes.
-ghost use Rattle.std.specs.Prelude.{Option, ◌≡◌, ◌/◌, ◌<◌, ◌≤◌, length, true, Some, None, IsSome, IfSome, IfNone, IfOk};
+ghost use Rattle.std.specs.Prelude.{Option, ◌≡◌, ◌<◌, ◌≤◌, length, true, Some, None, IsSome, IfSome, IfNone};
 ghost use Rattle.std.specs.Prelude.{OnErr};
 ghost use Rattle.site.specs.declared.outside.Stop.{Stop};
 ghost use Rattle.site.specs.State.{State as Site};
 ghost use Rattle.record_model.specs.declared.words.Command.{Command};
 ghost use Rattle.record_model.specs.declared.words.Why.{Why};
 ghost use Rattle.record_model.specs.declared.words.Reply.{Reply};
-ghost use Rattle.record_model.specs.State.{State, seen};
-ghost use Rattle.ring_machine.specs.Commands.{writes, command_work};
+ghost use Rattle.record_model.specs.State.{State};
+ghost use Rattle.ring_machine.specs.Commands.{command_work};
 ghost use Rattle.byte_fields.specs.declared.TheConstants.{VALUE_MAX};
 ghost use Rattle.log_records.specs.Spelling.{IsShort};
 ghost use Rattle.redo_undo.specs.Mirroring.{PerformsStore};
 ghost use Rattle.txn_table.specs.Entries.{entry_of};
 ghost use Rattle.engine.specs.Invariant.{Invariant, sizes_of};
 ghost use Rattle.engine.specs.Permits.{MayWrite};
-ghost use Rattle.engine.specs.Representation.{Matches, run, with_write, Refuses, Accepts};
+ghost use Rattle.engine.specs.PageTests.{full_for, tested, touches_by, work_by, write_by};
+ghost use Rattle.engine.specs.Representation.{Matches, run, Refuses, Accepts, Tests};
 ghost use Rattle.engine.specs.Leaves.{LeavesTable};
 ghost use Rattle.record_model.specs.Touches.{command_touches};
-ghost use Rattle.redo_laws.specs.MachineSteps.{StepsMachine, one_change};
-ghost use Rattle.engine.specs.Calls.{KeepsUnread, CommandEffect, CommandContract};
+ghost use Rattle.engine.specs.Calls.{KeepsUnread, CommandContract};
 ghost use Rattle.engine.specs.Numbers.{checkpoints_by};
 
 use crate::engine::Engine;
+use crate::room::length_of;
 use crate::sessions;
 use crate::values::{is_long, value_of};
+use footprints::Footprint;
 use record_model::{Octets, Reply, Why};
 use site::{Site, Stop};
 use txn_table::Active;
 
 impl Engine {
-    // A session that may writes a record. Where the record's page has no room for the value it answers Foreign, and
-    // logs nothing.
+    // A session that may writes a record, where the record's page has room.
     fn carry_out_write<S: Site>(
         &mut self,
         site: &mut S,
@@ -44,28 +45,36 @@ impl Engine {
         requires may { MayWrite self.old (Some entry.session) number 2 }
 
         // Of an honest site that the database fits.
-        ensures done { IfOk result (λ reply. reply ≡ Reply.Done) }
-        ensures does { (s : State) → Matches self.old (S.state site.old) s
-            → CommandEffect result self.old self.new (S.state site.old) (S.state site.new) s
-            (with_write s entry.session (number, after.now))
+        ensures answers { (s : State) → Matches self.old (S.state site.old) s
+            → CommandContract result self.old self.new (S.state site.old) (S.state site.new) s
+            (tested s (write_by entry.session number after.now) (full_for s number after.now))
+            (touches_by s (write_by entry.session number after.now) (full_for s number after.now))
             (LeavesTable (sizes_of self.old.store) s.table s.commits (S.state site.old).told) 0 }
         ensures performs { (s : State) → Matches self.old (S.state site.old) s
-            → PerformsStore result (writes number (seen s entry.session number) after.now)
+            → PerformsStore result
+            (work_by s (write_by entry.session number after.now) (full_for s number after.now))
             self.old.store self.new.store (S.state site.old) (S.state site.new) }
 
         // Of every site.
         ensures serves { KeepsUnread result self.old self.new (S.state site.old) (S.state site.new) }
-        ensures asks { StepsMachine result (one_change (number / 32)) self.old.store.pages self.new.store.pages
-            (S.state site.old) (S.state site.new) }
     {
-        match self.store.touch(site, number) {
-            Ok(()) => {}
+        let refused = match self.touch_for(site, number, after) {
+            Ok(refused) => refused,
             Err(stop) => return Err(stop),
-        }
-        if !self.store.fits(number, after) {
-            return Err(Stop::Foreign);
+        };
+        if let Some(full) = refused {
+            return Ok(full);
         }
         match self.locks.add(entry.session, number, true) {
+            Ok(()) => {}
+            Err(_) => return Err(Stop::Memory),
+        }
+        let footprint = Footprint {
+            number,
+            stood: self.length_in((number % 32) as u8),
+            written: length_of(after),
+        };
+        match self.footprints.write(entry.session, footprint) {
             Ok(()) => {}
             Err(_) => return Err(Stop::Memory),
         }
@@ -96,7 +105,7 @@ impl Engine {
     fn write_refusal(&self, session: u32, number: u32, value: &Octets) -> Option<Reply>
         requires going { (site : Site) × Invariant self.now site }
         ensures refused { IfSome result (λ reply. Refuses self.now (Command.Write session number value.now) reply) }
-        ensures accepted { IfNone result (Accepts self.now (Command.Write session number value.now)) }
+        ensures accepted { IfNone result (Tests self.now (Command.Write session number value.now)) }
         ensures active { IfNone result (IsSome (entry_of self.now.active session)) }
         ensures may { IfNone result (MayWrite self.now (Some session) number 2) }
         ensures short { IfNone result (length value.now ≤ VALUE_MAX) }

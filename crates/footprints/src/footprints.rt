@@ -1,4 +1,4 @@
-ghost use Rattle.std.specs.Prelude.{◌≡◌, ◌↔◌, ◌<◌, ◌==◌, ℕ, nat_eq, max, [], ◌∷◌, ◌++◌, length, IsTrue, IsSome, IfSome};
+ghost use Rattle.std.specs.Prelude.{◌≡◌, ◌↔◌, ◌<◌, ◌==◌, ℕ, nat_eq, max, [], ◌∷◌, ◌++◌, length, IsTrue, IsSome, IfSome, None};
 ghost use Rattle.std.specs.Prelude.{OnOk, OnErr, slice_set, replicate, if◌then◌else◌};
 ghost use Rattle.indexmap.specs.IndexMap.{get};
 ghost use Rattle.footprints.specs.Longest.{of_session, longest, lengths, footprint, need, IsGreatest, IsOnlyOf, Drops};
@@ -87,6 +87,13 @@ impl Footprints {
         Ok(())
     }
 
+    /// Whether no session has a footprint.
+    pub fn is_empty(&self) -> bool
+        ensures { IsTrue result ↔ ((number : ℕ) → longest self.now number ≡ None) }
+    {
+        self.longest.is_empty()
+    }
+
     /// The session's last footprint goes, where it has one.
     pub fn take_back(&mut self, session: u32)
         requires { session < 8 }
@@ -103,15 +110,18 @@ impl Footprints {
         requires { session < 8 }
         ensures none { IsTrue result ↔ (of_session self.now session ≡ []) }
         ensures eight { length self.now ≡ 8 }
+        ensures owned { (number : ℕ) → (owner : ℕ) × IsOnlyOf self.now owner number }
     {
         self.stacks[session as usize].is_empty()
     }
 
-    /// The session has ended: its footprints go.
+    /// The session has ended: its footprints go. Each record had footprints of one session at most.
     pub fn end(&mut self, session: u32)
         requires { session < 8 }
-        ensures { self.new ≡ slice_set self.old session [] }
+        ensures gone { self.new ≡ slice_set self.old session [] }
+        ensures owned { (number : ℕ) → (owner : ℕ) × IsOnlyOf self.old owner number }
     {
+        let _owned = self.has_none(session);
         while !self.has_none(session) {
             self.take_back(session);
         }

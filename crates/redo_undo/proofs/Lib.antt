@@ -20,7 +20,7 @@ pub mod UndoneUpdates
 pub mod RedoWorks
 pub mod UndoneNumbers
 pub mod Calling
-mod Fitting
+mod Rooms
 pub mod UndoCalls
 pub mod StoreCalling
 pub mod StoreRollbacks

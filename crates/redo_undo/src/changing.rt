@@ -22,7 +22,7 @@ ghost use Rattle.redo_undo.specs.Redoing.{Opening, IsRedoing};
 use log_records::LogRecord;
 use page_store::PageStore;
 use record_model::Octets;
-use slotted_page::{each_value_fits, slots_of_a_page};
+use slotted_page::slots_of_a_page;
 
 /// The octets of a content.
 pub(crate) fn slice_of(content: &Option<Octets>) -> Option<&[u8]>
@@ -66,7 +66,7 @@ pub fn fits_front(pages: &PageStore, rec: &LogRecord) -> bool
     requires on_page { IsOnPage (front_of pages.now.pool.frames).page rec.now }
 
     // Of an honest site on which log and pages hold together, and of one with an opened log that is redone: the next
-    // record has room.
+    // record has room, there where the page doesn't know of it.
     ensures grows { (log : LogStore) (site : State) (newest : Option Master) (records : List Entry)
         (table : List Content) (commits lsn : ℕ)
         → Represents log pages.now site newest records table commits
@@ -75,13 +75,12 @@ pub fn fits_front(pages: &PageStore, rec: &LogRecord) -> bool
     ensures redone { (o : Opening) (log : LogStore) (site : State) (front rest : List Entry) (lsn : ℕ)
         → IsRedoing o log pages.now site front
         → log_from (kept_by o.newest) o.blocks ≡ front ++ record { lsn = lsn; rec = rec.now } ∷ rest
-        → IsTrue result }
+        → lsn_of (front_of pages.now.pool.frames).content < lsn → IsTrue result }
 
     // Of every site.
     ensures room { IsTrue result ↔ HasRoomInFront pages.now rec.now }
 {
     slots_of_a_page();
-    each_value_fits();
     let slot = slot_of(rec);
     let after = after_of(rec);
     pages.fits(slot, after)

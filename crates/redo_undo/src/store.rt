@@ -44,7 +44,6 @@ use page_store::PageStore;
 use record_model::Octets;
 use sealed_ring::Ring;
 use site::{Site, Stop};
-use slotted_page::each_value_fits;
 use txn_table::Active;
 
 /// The number of a page's slots.
@@ -209,7 +208,6 @@ impl TransactionStore {
         // Of every site.
         ensures room { IsTrue result ↔ FitsFront self.now.pages (number % 32) after.now }
     {
-        each_value_fits();
         self.pages.fits((number % SLOTS) as u8, slice_of(after))
     }
 

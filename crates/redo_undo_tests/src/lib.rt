@@ -2,6 +2,8 @@
 #![tactic(auto)]
 
 #[cfg(test)]
+mod room_tests;
+#[cfg(test)]
 mod rows;
 #[cfg(test)]
 mod tests;

@@ -2,7 +2,7 @@
 ghost use Rattle.std.specs.Prelude.{◌≡◌, ◌↔◌, ◌+◌, ◌<◌, ◌≤◌, ◌^◌, IfOk, IsTrue, OnOk};
 ghost use Rattle.site.specs.Geometry.{HasLengths, HasLimits};
 ghost use Rattle.mem_site.specs.MemState.{state_of};
-ghost use Rattle.log_records.specs.Spelling.{HasForm};
+ghost use Rattle.log_records.specs.Spelling.{HasForm, IsShort};
 ghost use Rattle.log_store.specs.Representation as log_store;
 ghost use Rattle.log_store.specs.Representation.{end_of};
 ghost use Rattle.analysis.specs.Read as analysis;
@@ -35,6 +35,12 @@ pub(crate) enum Row {
     Update(u64, u64, u64, u8),
     // The CLR of such an Update is logged so. Behind the record before it stands where undo goes on.
     Clr(u64, u64, u64, u64, u8),
+    // Behind its Begin transaction 2 has Updates by which slots 0 to 18 get 200 octets each. The last one is logged with
+    // this LSN. No page is changed.
+    Fill(u64),
+    // An Update is logged with this LSN, by a transaction, behind the record at another one. A slot had a value of so
+    // many octets, and gets one of so many. No page is changed.
+    Resize(u64, u64, u64, u8, usize, usize),
     // An Update of transaction 2 is logged with this LSN, and slot 5 gets the value 0a0b.
     Change(u64),
     // The same, and then this transaction is undone from it on.
@@ -117,6 +123,30 @@ fn first_update() -> LogRecord
     }
 }
 
+// A value of so many octets, up to 200.
+fn long(len: usize) -> Option<Octets>
+    ensures { IsShort result }
+{
+    match [0x5a; 200].get(..len) {
+        Some(value) => Octets::from_slice(value),
+        None => None,
+    }
+}
+
+// The Update of a slot with values of such lengths.
+fn resize(txn: u64, prev: u64, slot: u8, before: usize, after: usize) -> LogRecord
+    ensures { HasForm result }
+{
+    LogRecord::Update {
+        txn,
+        prev,
+        page: 0,
+        slot: slot % 32,
+        before: long(before),
+        after: long(after),
+    }
+}
+
 // Whether the log has room for one block more, besides its tail.
 fn has_room(log: &LogStore) -> bool
     requires limits { log.now.geometry.blocks < 2 ^ 32 }
@@ -161,6 +191,25 @@ fn logs<S: Site>(life: &mut Life, site: &mut S, rec: &LogRecord, wanted: u64) ->
     let lsn = log_record(site, &mut life.log, rec)?;
     life.found.step(lsn, rec)?;
     Ok(lsn == wanted)
+}
+
+// Logs Updates by which slots 0 to 18 get 200 octets each, and answers whether the last one has this LSN.
+fn fill<S: Site>(life: &mut Life, site: &mut S, wanted: u64) -> Result<bool, Stop>
+    requires going { Invariant life.old.log life.old.pages (S.state site.old) }
+    requires found { analysis.Invariant life.old.found }
+    ensures going { OnOk result (Invariant life.new.log life.new.pages (S.state site.new)) }
+    ensures found { OnOk result (analysis.Invariant life.new.found) }
+{
+    let mut prev = 2;
+    for slot in 0..19 {
+        if !has_room(&life.log) {
+            return Ok(false);
+        }
+        let rec = resize(2, prev, slot, 0, 200);
+        prev = log_record(site, &mut life.log, &rec)?;
+        life.found.step(prev, &rec)?;
+    }
+    Ok(prev == wanted)
 }
 
 // Logs the Update of slot 5, changes the page, and answers the LSN.
@@ -339,6 +388,10 @@ fn carry_out<S: Site>(alloc: Global, life: &mut Life, site: &mut S, row: Row) ->
         Row::Update(lsn, txn, prev, slot) => logs(life, site, &update(txn, prev, slot), lsn),
         Row::Clr(lsn, txn, prev, undo_next, slot) => {
             logs(life, site, &clr(txn, prev, undo_next, slot), lsn)
+        }
+        Row::Fill(lsn) => fill(life, site, lsn),
+        Row::Resize(lsn, txn, prev, slot, before, after) => {
+            logs(life, site, &resize(txn, prev, slot, before, after), lsn)
         }
         Row::Change(lsn) => Ok(change(&mut life.log, &mut life.pages, site)? == lsn),
         Row::ChangeAndUndo(lsn, txn) => {

@@ -10,6 +10,7 @@ ghost use Rattle.redo_laws.specs.Checkpointing.{begins_of};
 ghost use Rattle.redo_laws.specs.Holding.{Invariant, IsOnPage, blocks_to};
 ghost use Rattle.redo_undo.specs.Stores.{MayWork, MayLog, sizes_of};
 
+use crate::room_tests::{FILLED, FILLED_AGAIN, TAKEN, TOO_LONG};
 use crate::rows;
 use crate::rows::{Row, run};
 use crate::undo_tests::{
@@ -98,6 +99,13 @@ const FOREIGN: &[Row] = &[Row::Begin(2), Row::ChangeAndUndo(3, 1)];
 #[test]
 fn a_record_of_another_is_foreign(rt: HostRuntime) {
     for rows in [FOREIGN, ANOTHERS_UPDATE, ANOTHERS_CLR] {
+        assert!(rt; run(rt.alloc(), rows) == Err(Stop::Foreign));
+    }
+}
+
+#[test]
+fn a_record_without_room_is_foreign(rt: HostRuntime) {
+    for rows in [TOO_LONG, TAKEN] {
         assert!(rt; run(rt.alloc(), rows) == Err(Stop::Foreign));
     }
 }
@@ -264,7 +272,7 @@ fn a_checkpoint_of_no_transaction_keeps_no_block(rt: HostRuntime) -> Result<(), 
 }
 
 // The tests by their names.
-const TESTS: [(&str, &[Row]); 16] = [
+const TESTS: [(&str, &[Row]); 18] = [
     ("two_transactions_are_undone_from_the_last_update_on", TWO),
     ("a_transaction_with_a_clr_is_undone", COMPENSATED),
     ("an_update_behind_a_clr_is_undone", BEHIND_A_CLR),
@@ -282,6 +290,8 @@ const TESTS: [(&str, &[Row]); 16] = [
     ("two_updates_are_undone_in_turn_and_then_all", BACK_TWICE),
     ("a_clr_between_two_updates_is_passed_over", BACK_OVER_A_CLR),
     ("none_or_one_update_is_undone", BACK_TO_A_CLR),
+    ("a_page_is_filled_by_redo", FILLED),
+    ("a_page_is_filled_again_by_undo", FILLED_AGAIN),
     ("where_none_is_unfinished_nothing_is_logged", NONE),
     ("a_change_is_seen", SEEN),
     ("a_transaction_is_undone", UNDONE),

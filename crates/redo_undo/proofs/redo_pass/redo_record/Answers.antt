@@ -91,11 +91,11 @@ returns-then-page-geometry-clause-asks g c o front rest h is =
 -- its page has room for what it has written
 pub returns-then-not-fits_front-clause-asks : goal.returns-then-not-fits_front-clause-asks
 returns-then-not-fits_front-clause-asks g c o front rest h is =
-    absurd (true≢false (sym (c.fits_front.ensures.redone o c.touch.new.log (g.S.Site.state c.touch.new.site) front rest c.args.lsn (c.in-Ok.ensures.redoing o front h) is) ∙ c.if-not-fits_front.true))
+    absurd (true≢false (sym (c.fits_front.ensures.redone o c.touch.new.log (g.S.Site.state c.touch.new.site) front rest c.args.lsn (c.in-Ok.ensures.redoing o front h) is (omega (arith, c.front_lsn.ensures, c.if-front_lsn-lsn.false))) ∙ c.if-not-fits_front.true))
 
 pub returns-then-not-fits_front-clause-keeps : goal.returns-then-not-fits_front-clause-keeps
 returns-then-not-fits_front-clause-keeps g c o front rest h is =
-    absurd (true≢false (sym (c.fits_front.ensures.redone o c.touch.new.log (g.S.Site.state c.touch.new.site) front rest c.args.lsn (c.in-Ok.ensures.redoing o front h) is) ∙ c.if-not-fits_front.true))
+    absurd (true≢false (sym (c.fits_front.ensures.redone o c.touch.new.log (g.S.Site.state c.touch.new.site) front rest c.args.lsn (c.in-Ok.ensures.redoing o front h) is (omega (arith, c.front_lsn.ensures, c.if-front_lsn-lsn.false))) ∙ c.if-not-fits_front.true))
 
 pub returns-then-not-fits_front-clause-logs_nothing : goal.returns-then-not-fits_front-clause-logs_nothing
 returns-then-not-fits_front-clause-logs_nothing g c = logs_foreign c.in-Ok.ensures.logs_nothing

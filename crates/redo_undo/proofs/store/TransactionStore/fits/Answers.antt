@@ -1,14 +1,36 @@
-use Rattle.std.proofs.Common.{◌%◌, subst, sym, arith, rules}
-use Rattle.std.specs.Prelude.{option_copied}
-use Rattle.log_records.specs.Spelling.{IsShort}
-use Rattle.redo_undo.proofs.Fitting.{always_in_front}
+use Rattle.std.proofs.Common.{◌≡◌, ◌+◌, ◌*◌, ◌/◌, ◌%◌, ◌++◌, ◌∷◌, [], ℕ, List, refl, sym, subst, arith, rules, Option}
+use Rattle.std.specs.Prelude.{option_copied, IsTrue}
+use Rattle.site.specs.State.{State}
+use Rattle.record_model.specs.State.{Content}
+use Rattle.log_records.specs.Log.{Entry, shown}
+use Rattle.log_records.specs.declared.log_record.LogRecord.TheVariants.{Begin}
+use Rattle.log_records.specs.Room.{HasOpenRoom}
+use Rattle.log_laws.proofs.Shown.{shown_push}
+use Rattle.checkpoint.specs.declared.master.Master.{Master}
+use Rattle.image_meaning.specs.Meaning.{versions_on}
+use Rattle.redo_undo.specs.Stores.{MayGrow, Represents, shown_in, update_by}
+use Rattle.redo_undo.proofs.Rooms.{fits_as, fits_behind}
 use Rattle.redo_undo.proofs.store.TransactionStore.fits.Goals as goal
 
+-- an Update has room behind records that show what these do
+behind : (c : goal.After-fits) (site : State) (newest : Option Master) (records : List Entry) (table : List Content) (commits : ℕ) → Represents c.args.self.now site newest records table commits →
+    (log : List Entry) → ((number : ℕ) → shown log (versions_on c.args.self.now.pages.flash.geometry site.image) number ≡ shown_in c.args.self.now site records number) →
+    (lsn txn prev : ℕ) (before : Content) → MayGrow c.args.self.now site newest log (record { lsn = lsn; rec = update_by txn prev c.args.number before c.args.after.now }) → IsTrue c.fits.result
+behind c site newest records table commits h log same lsn txn prev before may =
+    let store = c.args.self.now in
+    let number = c.args.number in
+    let e : Entry = record { lsn = lsn; rec = update_by txn prev c.args.number before c.args.after.now } in
+    let at = 32 * (c.args.number / 32) + c.args.number % 32 in
+    let page = c.requires.front.page in
+    let room = fits_behind store.log store.pages site newest records table commits c.requires.pages c.requires.front.there h.both log e same (at, refl, omega (arith, page))
+    (subst (HasOpenRoom (log ++ e ∷ []) (versions_on store.pages.flash.geometry site.image)) (omega (arith, page)) (may.follows.room_in_page at refl refl)) at refl in
+    c.fits.ensures.1 (fits_as store.pages (at % 32) (number % 32) c.args.after.now (option_copied c.slice_of.result) (omega arith) (sym c.slice_of.ensures) room)
+
 pub returns : goal.returns
-returns c =
-    let fits = c.fits.ensures.1 (always_in_front c.each_value_fits.ensures c.args.self.now.pages (c.args.number % 32) (option_copied c.slice_of.result) c.requires.pages c.requires.front.there (omega arith) (subst IsShort (sym c.slice_of.ensures) c.requires.short)) in
-    record {
-      grows = λ site newest records table commits txn prev lsn holds may. fits;
-      begins = λ site newest records table commits txn lsn holds may. fits;
-      room = search rules;
-    }
+returns c = record {
+  grows = λ site newest records table commits txn prev lsn h may. behind c site newest records table commits h records (λ number. refl) lsn txn prev _ may;
+  begins = λ site newest records table commits txn lsn h may.
+      behind c site newest records table commits h (records ++ record { lsn = txn; rec = Begin } ∷ [])
+      (λ number. shown_push records (record { lsn = txn; rec = Begin }) (versions_on c.args.self.now.pages.flash.geometry site.image) number) lsn txn txn _ may;
+  room = search rules;
+}

@@ -1,7 +1,7 @@
 use Rattle.image_meaning.proofs.Leaving.{under_leaves_for}
 use Rattle.std.proofs.Common.{refl, ℕ, List, rules, ◌≡◌, ◌+◌, ◌*◌, ◌/◌, ◌%◌, ◌++◌, ◌∷◌, [], sym, subst, arith}
 use Rattle.std.proofs.lemmas.Option.{same_Some}
-use Rattle.redo_undo.proofs.Fitting.{fits_as}
+use Rattle.redo_undo.proofs.Rooms.{fits_as}
 use Rattle.log_records.specs.declared.log_record.LogRecord.{LogRecord}
 use Rattle.redo_undo.proofs.Saved.{finds_kept}
 use Rattle.std.specs.Prelude.{Ok, IsTrue}
