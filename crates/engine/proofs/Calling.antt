@@ -24,6 +24,7 @@ use Rattle.redo_laws.specs.MachineSteps.{StepsMachine, checkpoint_works}
 use Rattle.log_store.specs.Representation.{end_of}
 use Rattle.txn_table.specs.declared.active.Active.{Active}
 use Rattle.txn_table.specs.Entries.{IsTable, entry_of, owed}
+use Rattle.engine.specs.PageTests.{AreLocked}
 use Rattle.engine.specs.declared.engine.Engine.{Engine}
 use Rattle.txn_table.proofs.DistinctBegins.{AreApart}
 use Rattle.engine.specs.Invariant.{Invariant, sizes_of}
@@ -87,8 +88,8 @@ serves_of works going = record { calls = works.calls; going = going; sizes = wor
 
 -- the sessions stay as they were, and there is room for the records that it makes
 pub serves_still : {T : Type 0} {a : T} {old new : Engine} {before now : Site} {n : ℕ} → Invariant old before → KeepsInvariant {T = T} (Ok a) old.store new.store before now n → new.ended ≡ old.ended → new.cap ≡ old.cap → new.active ≡ old.active →
-    old.store.made + owed old.active + n ≤ old.cap → new.commits ≤ end_of new.store.log → KeepsEngine {T = T} (Ok a) old new before now
-serves_still going works ended cap active few commits =
+    old.store.made + owed old.active + n ≤ old.cap → new.commits ≤ end_of new.store.log → AreLocked new.footprints new.locks → KeepsEngine {T = T} (Ok a) old new before now
+serves_still going works ended cap active few commits locked =
     let owes = ap owed active in
     let made = works.made in
     let blocks = works.blocks in
@@ -104,6 +105,7 @@ serves_still going works ended cap active few commits =
       commits = commits;
       lasts = λ m other at. let before = going.lasts m other (sym (ap (λ (xs : List Active). entry_of xs m) active) ∙ at) in (before.0, omega (arith, before.1, works.rises));
       differ = subst AreApart (sym active) going.differ;
+      footprints = locked;
     })
 
 -- and no record of the log is read

@@ -64,11 +64,12 @@ pub record LocksAre (held : List Lock) (s : State) : Type 0 where
   pub written : (n r : ℕ) → locks.has_written held n r ≡ model.has_written s n r
   pub reads : (n r : ℕ) → locks.has_read held n r ≡ model.has_read s n r
 
--- the counts; those of records begin with the oldest kept one
+-- the counts; those of records begin with the oldest kept one, and pages can be full
 pub record CountsAre (engine : Engine) (s : State) : Type 0 where
   pub commits : engine.commits ≡ s.commits
   pub made : engine.store.made + s.kept ≡ s.made
   pub cap : engine.cap ≡ s.cap
+  pub fills : s.pages_fill ≡ true
 
 -- Of an honest site: the database stands for this state.
 pub record Matches (engine : Engine) (site : Site) (s : State) : Type 0 where
