@@ -1,8 +1,8 @@
 -- Footprints, as sessions write, go back and end.
-use Rattle.std.proofs.Common.{◌≡◌, ◌≢◌, ◌⊎◌, ⊎_elim, inl, inr, ℕ, zero, suc, ◌-◌, ◌<◌, ◌≤◌, ◌==◌, ◌&&◌, ◌||◌, Bool, true, false, not, cond, List, [], ◌∷◌, ◌++◌, length, take, find, Option, Some, None, refl, sym, ap, subst, ◌∙◌, arith, get_or-set_same, get_or-set_other, true≢false}
+use Rattle.std.proofs.Common.{◌≡◌, ◌≢◌, ◌⊎◌, ⊎_elim, inl, inr, ℕ, zero, suc, ◌+◌, ◌-◌, ◌<◌, ◌≤◌, ◌==◌, ◌&&◌, ◌||◌, Bool, true, false, not, cond, List, [], ◌∷◌, ◌++◌, length, take, find, Option, Some, None, refl, sym, ap, subst, ◌∙◌, arith, get_or-set_same, get_or-set_other, true≢false}
 use Rattle.std.specs.Prelude.{slice_set, slice_index_or, option_map}
 use Rattle.std.specs.List.{AllByRecursion, range_with_len}
-use Rattle.std.proofs.lemmas.List.{length-set}
+use Rattle.std.proofs.lemmas.List.{length-set, length-take-le}
 use Rattle.std.proofs.lemmas.Bool.{cases_eq, cases_lt, eq-eqb, ne_eqb, or_parts}
 use Rattle.std.proofs.lemmas.Option.{none-some}
 use Rattle.record_model.specs.State.{Content, Session, State, content_at, session_at, table_with, writes_of}
@@ -10,7 +10,7 @@ use Rattle.record_model.specs.Step.{having_written, going_back}
 use Rattle.lock_table.specs.declared.lock.Lock.{Lock}
 use Rattle.lock_table.specs.Locks.{AddsLock, ReleasesAll, has_read, has_written, busy_write}
 use Rattle.footprints.specs.declared.footprint.Footprint.{Footprint}
-use Rattle.footprints.specs.Longest.{IsOnlyOf, lengths_on, of_session}
+use Rattle.footprints.specs.Longest.{Drops, IsOnlyOf, lengths_on, of_session}
 use Rattle.engine.specs.PageTests.{AreLocked, AreTakenBack, FootprintsAre, footprint_of, footprints_of}
 use Rattle.engine.proofs.Footprints.{footprints_count, footprints_more, footprints_taken, never_written, none_more, none_taken, same_footprints, untouched}
 
@@ -201,3 +201,36 @@ locked_back standing now held n count taken are = record {
       (λ differ. ap (lengths_on r) (taken.others m differ) ∙ are.locked m r none)
       (cases_eq m n);
 }
+
+-- Footprints are taken back, one after the other.
+
+take_whole : {X : Type 0} (xs : List X) → take (length xs) xs ≡ xs
+take_whole [] = refl
+take_whole (x ∷ xs) = ap (λ l. x ∷ l) (take_whole xs)
+
+take_twice : {X : Type 0} (a b : ℕ) (xs : List X) → a ≤ b → take a (take b xs) ≡ take a xs
+take_twice zero zero [] less = refl
+take_twice zero (suc b) [] less = refl
+take_twice (suc a) zero [] less = refl
+take_twice (suc a) (suc b) [] less = refl
+take_twice zero zero (x ∷ xs) less = refl
+take_twice zero (suc b) (x ∷ xs) less = refl
+take_twice (suc a) zero (x ∷ xs) less = absurd (omega (arith, less))
+take_twice (suc a) (suc b) (x ∷ xs) less = ap (λ l. x ∷ l) (take_twice a b xs (omega (arith, less)))
+
+pub nothing_taken : (standing : List (List Footprint)) (n : ℕ) → AreTakenBack standing standing n 0
+nothing_taken standing n =
+    let all : length (of_session standing n) - 0 ≡ length (of_session standing n) = omega arith in
+    record { own = sym (ap (λ (k : ℕ). take k (of_session standing n)) all ∙ take_whole (of_session standing n)); others = λ m differ. refl; eight = refl }
+
+pub one_taken : (old mid new : List (List Footprint)) (n count : ℕ) → n < length old → AreTakenBack old mid n count → Drops mid new n → AreTakenBack old new n (count + 1)
+one_taken old mid new n count less taken drops =
+    let own = of_session old n in
+    let few : length (of_session mid n) ≡ length own - count = ap length taken.own ∙ length-take-le (length own - count) own (omega arith) in
+    let left : length (of_session mid n) - 1 ≡ length own - (count + 1) = omega (arith, few) in
+    record {
+      own = ap (λ l. of_session l n) drops ∙ get_or-set_same mid n _ [] (omega (arith, less, taken.eight))
+          ∙ (λ i. take (left i) (taken.own i)) ∙ take_twice (length own - (count + 1)) (length own - count) own (omega arith);
+      others = λ m differ. ap (λ l. of_session l m) drops ∙ get_or-set_other mid n m _ [] differ ∙ taken.others m differ;
+      eight = ap length drops ∙ length-set mid n _ ∙ taken.eight;
+    }

@@ -27,6 +27,7 @@ pub mod Scans
 pub mod Settings
 pub mod Starts
 pub mod Stats
+pub mod Tested
 pub mod Writes
 pub mod Asking
 pub mod RingCounts

@@ -1,6 +1,6 @@
 -- What a record's page needs, as the engine counts it and as the model does, and where it has room.
-use Rattle.std.proofs.Common.{◌≡◌, ℕ, zero, suc, ◌+◌, ◌*◌, ◌/◌, ◌%◌, ◌<◌, ◌≤◌, ◌==◌, ◌&&◌, Bool, true, false, cond, max, List, [], ◌∷◌, ◌++◌, length, Option, Some, None, unwrap_or, ⊎_elim, refl, sym, ap, subst, ◌∙◌, arith, get_or-set_same, get_or-set_other}
-use Rattle.std.specs.Prelude.{nat_lt, slice_index_or, slice_set, sum_by}
+use Rattle.std.proofs.Common.{◌≡◌, ℕ, zero, suc, ◌+◌, ◌*◌, ◌/◌, ◌%◌, ◌<◌, ◌≤◌, ◌==◌, ◌&&◌, Bool, true, false, cond, max, List, [], ◌∷◌, ◌++◌, length, Option, Some, None, unwrap_or, ⊎_elim, refl, sym, ap, subst, ◌∙◌, arith, get_or-set_same, get_or-set_other, true≢false}
+use Rattle.std.specs.Prelude.{is_none, nat_lt, slice_index_or, slice_set, sum_by}
 use Rattle.std.specs.List.{range_with_len, reduce}
 use Rattle.std.proofs.Math.Nat.{div-add-mod}
 use Rattle.std.proofs.lemmas.Bool.{cases_eq, cases_lt, eq-eqb, eqb-true, ne_eqb, le-ltb, lt-ltb}
@@ -27,8 +27,7 @@ use Rattle.txn_table.specs.Entries.{IsTable}
 use Rattle.image_meaning.specs.Meaning.{versions_on}
 use Rattle.redo_laws.proofs.Changed.{front_shows}
 use Rattle.redo_undo.specs.Fitting.{FitsFront}
-use Rattle.redo_undo.specs.Stores.{IsInFront}
-use Rattle.redo_undo.proofs.Rooms.{fits_as, fits_behind}
+use Rattle.redo_undo.specs.Stores.{IsInFront, shown_in}
 use Rattle.footprints.specs.declared.footprint.Footprint.{Footprint}
 use Rattle.footprints.specs.Longest.{lengths, lengths_on, of_session, need_in}
 use Rattle.footprints.specs.Longest as footprints
@@ -76,6 +75,15 @@ on_page : (f : ℕ → ℕ) (page : ℕ) → sum_by f (range_with_len (32 * page
 unfolding total_on
 on_page f page room = room
 
+total_of_slots : (f : ℕ → ℕ) (slots : List Content) (from : ℕ) → ((k : ℕ) → k < length slots → content_length (slice_index_or slots k None) ≤ f (from + k)) → total_length slots ≤ sum_by f (range_with_len from (length slots))
+total_of_slots f [] from each = omega arith
+total_of_slots f (c ∷ slots) from each =
+    let first : content_length c ≤ f from = subst (λ n. content_length c ≤ f n) (omega arith) (each 0 (omega arith)) in
+    let rest = total_of_slots f slots (from + 1) (λ k less. subst (λ n. content_length (slice_index_or slots k None) ≤ f n) (omega arith) (each (suc k) (omega (arith, less)))) in
+    let slots_are : total_length (c ∷ slots) ≡ content_length c + total_length slots = sum_by-cons content_length c slots in
+    let lengths_are : sum_by f (range_with_len from (length (c ∷ slots))) ≡ f from + sum_by f (range_with_len (from + 1) (length slots)) = sum_by-cons f from (range_with_len (from + 1) (length slots)) in
+    omega (arith, first, rest, slots_are, lengths_are)
+
 slot_length : (content : Content) → content_length content ≡ length_of content
 slot_length None = refl
 slot_length (Some value) = refl
@@ -100,6 +108,9 @@ same_place number i less = ⊎_elim
     (λ (same : i ≡ number % 32). eq-eqb i (number % 32) same ∙ sym (eq-eqb number (32 * (number / 32) + i) (omega (arith, same, div-add-mod number 32))))
     (λ differ. ne_eqb i (number % 32) differ ∙ sym (ne_eqb number (32 * (number / 32) + i) (λ same. differ (omega (arith, same, less)))))
     (cases_eq i (number % 32))
+
+abbrev pub record_of : ℕ → ℕ → ℕ → Footprint
+record_of number stood written = record { number = number; stood = stood; written = written }
 
 -- A run.
 
@@ -212,14 +223,30 @@ module _ (engine : Engine) (site : Site) (s : State) (fits : Matches engine site
         longer long =
             let count : length (slice_set slots place (Some value)) ≡ 32 = length-set slots place (Some value) ∙ length-slots_of (front_of engine.store.pages.pool.frames).content in
             let over = sum_of_slots (λ i. footprint_with s number value (32 * page + i)) (slice_set slots place (Some value)) 0
-            (λ i small. subst (λ k. footprint_with s number value (32 * page + k) ≤ content_length (slice_index_or (slice_set slots place (Some value)) i None)) (omega arith) (beside_it long i (omega (arith, small, count)))) in
+            (λ i small. let start : i ≡ 0 + i = omega arith in subst (λ k. footprint_with s number value (32 * page + k) ≤ content_length (slice_index_or (slice_set slots place (Some value)) i None)) start (beside_it long i (omega (arith, small, count)))) in
             let all : sum_by (λ i. footprint_with s number value (32 * page + i)) (range_with_len 0 32) ≤ total_length (slice_set slots place (Some value)) =
             subst (λ k. sum_by (λ i. footprint_with s number value (32 * page + i)) (range_with_len 0 k) ≤ total_length (slice_set slots place (Some value))) count over in
-            let moved = sum_within (footprint_with s number value) (λ i. footprint_with s number value (32 * page + i)) (32 * page) 0 32 (λ i small. subst (λ k. footprint_with s number value (32 * page + i) ≤ footprint_with s number value (32 * page + k)) (omega arith) (omega arith)) in
+            let moved = sum_within (footprint_with s number value) (λ i. footprint_with s number value (32 * page + i)) (32 * page) 0 32 (λ i small. let start : i ≡ 0 + i = omega arith in let same = ap (λ k. footprint_with s number value (32 * page + k)) start in omega (arith, same)) in
             omega (arith, moved, all, beside)
 
         few : need s number value ≤ page_room
         few = ⊎_elim shorter longer (cases_lt (length value) (footprint s number))
+
+    -- whatever is to be written
+    pub passes_empty : ((r : ℕ) → footprints.longest engine.footprints r ≡ None) → (after : Content) → FitsFront engine.store.pages (number % 32) after → full_for s number after ≡ None
+    passes_empty none None beside = refl
+    passes_empty none (Some value) beside = has_room_empty none value beside
+
+    module _ (now : List ℕ) (now_is : (i : ℕ) → i < 32 → slice_index_or now i 0 ≡ content_length (slice_index_or slots i None)) (needs : ℕ) where
+      pub passes : (after : Content) → needs ≡ footprints.need engine.footprints page now (number % 32) (length_of after) → needs ≤ page_room → full_for s number after ≡ None
+      passes None is few = refl
+      passes (Some value) is few = let same = is ∙ need_is now now_is value in has_room value (omega (arith, same, few))
+
+      pub refuses : (after : Content) → is_none after ≡ false → needs ≡ footprints.need engine.footprints page now (number % 32) (length_of after) → page_room < needs → full_for s number after ≡ Some (reply.PageFull page needs)
+      refuses None some is more = absurd (true≢false some)
+      refuses (Some value) some is more =
+          let same = is ∙ need_is now now_is value in
+          is_full value (omega (arith, same, more)) ∙ ap (λ (k : ℕ). Some (reply.PageFull page k)) (sym same)
 
     -- Room behind the write.
 
@@ -267,11 +294,45 @@ module _ (engine : Engine) (site : Site) (s : State) (fits : Matches engine site
         (λ i small. begun_needs fits.records versions pages undo txn (32 * page + i) (b.0 (32 * page + i)) (same i small) (b.1 i small)) b.2
 
     -- so the page in front has room for it
+    module _ (after : Content) (b : Bounds after) where
+      abbrev needs : ℕ → ℕ
+      needs r = cond (32 * page + number % 32 == r) (max (b.0 r) (length_of after)) (b.0 r)
+
+      written_slots : (k : ℕ) → k < 32 → content_length (slice_index_or (slice_set slots (number % 32) after) k None) ≤ needs (32 * page + k)
+      written_slots k small = ⊎_elim
+          (λ (same : k ≡ number % 32).
+          let there : content_length (slice_index_or (slice_set slots (number % 32) after) k None) ≡ length_of after =
+          ap (λ (i : ℕ). content_length (slice_index_or (slice_set slots (number % 32) after) i None)) same
+          ∙ ap content_length (get_or-set_same slots (number % 32) after None (omega (arith, length-slots_of (front_of engine.store.pages.pool.frames).content))) ∙ slot_length after in
+          let is : needs (32 * page + k) ≡ max (b.0 (32 * page + k)) (length_of after) = ap (λ t. cond t (max (b.0 (32 * page + k)) (length_of after)) (b.0 (32 * page + k))) (eq-eqb (32 * page + number % 32) (32 * page + k) (omega (arith, same))) in
+          omega (arith, there, is))
+          (λ differ.
+          let there : content_length (slice_index_or (slice_set slots (number % 32) after) k None) ≡ length_of (shown fits.records versions (32 * page + k)) =
+          ap content_length (get_or-set_other slots (number % 32) k after None differ) ∙ slot_length (slice_index_or slots k None) ∙ ap length_of (in_slot k small) in
+          let is : needs (32 * page + k) ≡ b.0 (32 * page + k) = ap (λ t. cond t (max (b.0 (32 * page + k)) (length_of after)) (b.0 (32 * page + k))) (ne_eqb (32 * page + number % 32) (32 * page + k) (λ same. differ (omega (arith, same)))) in
+          let shows = le-max_left (length_of (shown fits.records versions (32 * page + k))) (longest (put_back fits.records (32 * page + k))) in
+          omega (arith, there, is, shows, b.1 k small))
+          (cases_eq k (number % 32))
+
+      slots_fit : FitsFront engine.store.pages (number % 32) after
+      slots_fit =
+          let count : length (slice_set slots (number % 32) after) ≡ 32 = length-set slots (number % 32) after ∙ length-slots_of (front_of engine.store.pages.pool.frames).content in
+          let over = total_of_slots needs (slice_set slots (number % 32) after) (32 * page) (λ k small. written_slots k (omega (arith, small, count))) in
+          let all : total_length (slice_set slots (number % 32) after) ≤ sum_by needs (range_with_len (32 * page) 32) = subst (λ k. total_length (slice_set slots (number % 32) after) ≤ sum_by needs (range_with_len (32 * page) k)) count over in
+          let room = room_in needs page b.2 in
+          omega (arith, all, room)
+
     pub fits_front : (after : Content) → full_for s number after ≡ None → FitsFront engine.store.pages (number % 32) after
-    fits_front after has =
-        let e : Entry = record { lsn = 0; rec = Update 0 0 page (number % 32) (shown fits.records versions number) after } in
-        let at : ℕ = 32 * page + number % 32 in
-        let in_front = front.page in
-        let room = fits_behind engine.store.log engine.store.pages site fits.newest fits.records s.table s.commits own front.there fits.holds.both fits.records e (λ n. refl) (at, refl, omega (arith, in_front))
-        (subst (HasOpenRoom (with fits.records e) versions) (sym in_front) (room_written after has 0 0 0)) at refl in
-        fits_as engine.store.pages (at % 32) (number % 32) after after (omega arith) refl room
+    fits_front after has = slots_fit after (bounds after has)
+
+-- What a write remembers: the lengths of what stands there and of what it writes.
+module _ (engine : Engine) (site : Site) (s : State) (fits : Matches engine site s) (number : ℕ) (own : IsStore engine.store.pages) (front : IsInFront engine.store number) where
+  pub written_there : (after : Content) {stood written : ℕ} → stood ≡ content_length (slice_index_or (slots_of (front_of engine.store.pages.pool.frames).content) (number % 32) None) → written ≡ length_of after →
+      record_of number stood written ≡ record_of number (length_of (shown_in engine.store site fits.records number)) (length_of after)
+  written_there after stands writes = λ i. record_of number ((stands ∙ slot_length (slice_index_or (slots_of (front_of engine.store.pages.pool.frames).content) (number % 32) None) ∙ ap length_of there) i) (writes i)
+    where
+      there : slice_index_or (slots_of (front_of engine.store.pages.pool.frames).content) (number % 32) None ≡ shown_in engine.store site fits.records number
+      there =
+          front_shows engine.store.log engine.store.pages site fits.newest fits.records s.table s.commits (number % 32) own front.there (omega arith) fits.holds.both
+          ∙ ap (λ (k : ℕ). shown fits.records (versions_on (sizes_of engine.store) site.image) (32 * k + number % 32)) front.page
+          ∙ ap (shown fits.records (versions_on (sizes_of engine.store) site.image)) (div-add-mod number 32)

@@ -1,7 +1,7 @@
 -- The database of an honest site, and the model's state.
 use Rattle.std.specs.Prelude.{◌≡◌, ℕ, ◌+◌, ◌<◌, List, [], ◌∷◌, length, filter_map, Option, Some, None, option_map}
 use Rattle.std.specs.Prelude.{IsTrue, ⊤}
-use Rattle.std.specs.Prelude.{Bool, if◌then◌else◌}
+use Rattle.std.specs.Prelude.{Bool, true, if◌then◌else◌}
 use Rattle.site.specs.State.{State as Site}
 use Rattle.record_model.specs.State.{Session, State, Write, session_at, kept_by_checkpoint}
 use Rattle.record_model.specs.State as model
