@@ -24,6 +24,7 @@ use Rattle.redo_laws.specs.MachineSteps.{StepsMachine, checkpoint_works}
 use Rattle.log_store.specs.Representation.{end_of}
 use Rattle.txn_table.specs.declared.active.Active.{Active}
 use Rattle.txn_table.specs.Entries.{IsTable, entry_of, owed}
+use Rattle.engine.specs.PageTests.{AreLocked, full_for, tested, touches_by, write_by}
 use Rattle.engine.specs.declared.engine.Engine.{Engine}
 use Rattle.txn_table.proofs.DistinctBegins.{AreApart}
 use Rattle.engine.specs.Invariant.{Invariant, sizes_of}
@@ -87,8 +88,8 @@ serves_of works going = record { calls = works.calls; going = going; sizes = wor
 
 -- the sessions stay as they were, and there is room for the records that it makes
 pub serves_still : {T : Type 0} {a : T} {old new : Engine} {before now : Site} {n : ℕ} → Invariant old before → KeepsInvariant {T = T} (Ok a) old.store new.store before now n → new.ended ≡ old.ended → new.cap ≡ old.cap → new.active ≡ old.active →
-    old.store.made + owed old.active + n ≤ old.cap → new.commits ≤ end_of new.store.log → KeepsEngine {T = T} (Ok a) old new before now
-serves_still going works ended cap active few commits =
+    old.store.made + owed old.active + n ≤ old.cap → new.commits ≤ end_of new.store.log → AreLocked new.footprints new.locks → KeepsEngine {T = T} (Ok a) old new before now
+serves_still going works ended cap active few commits locked =
     let owes = ap owed active in
     let made = works.made in
     let blocks = works.blocks in
@@ -104,6 +105,7 @@ serves_still going works ended cap active few commits =
       commits = commits;
       lasts = λ m other at. let before = going.lasts m other (sym (ap (λ (xs : List Active). entry_of xs m) active) ∙ at) in (before.0, omega (arith, before.1, works.rises));
       differ = subst AreApart (sym active) going.differ;
+      footprints = locked;
     })
 
 -- and no record of the log is read
@@ -250,11 +252,21 @@ late_either {g = g} {g' = g'} {old = old} {mid = mid} {s = s} {u = u} {after = a
       (λ done. inr (subst (λ (k : Geometry). Stands k x.image after.table after.commits) same done)) q.stands;
 }
 
--- what a session writes
-pub written : {T : Type 0} {r : Result T Stop} {old new : Engine} {before now : Site} {s : State} {P : Snapshot → Type 0} {m n k : ℕ} {x y : Content} (number : ℕ) → n ≡ k → x ≡ y →
-    CommandEffect r old new before now s (with_write s n (number, x)) P m → CommandEffect r old new before now s (with_write s k (number, y)) P m
-written {r = r} {old = old} {new = new} {before = before} {now = now} {s = s} {P = P} {m = m} {k = k} {x = x} number session is does =
-    subst (λ (v : Content). CommandEffect r old new before now s (with_write s k (number, v)) P m) is (subst (λ (j : ℕ). CommandEffect r old new before now s (with_write s j (number, x)) P m) session does)
+-- what a session writes, and what the test of its page gives
+pub as_written : {r : Result Reply Stop} {old new : Engine} {before now : Site} {s : State} {P : Snapshot → Type 0} {m n k : ℕ} {x y : Content} (number : ℕ) → n ≡ k → x ≡ y →
+    CommandContract r old new before now s (tested s (write_by n number x) (full_for s number x)) (touches_by s (write_by n number x) (full_for s number x)) P m → CommandContract r old new before now s (tested s (write_by k number y) (full_for s number y)) (touches_by s (write_by k number y) (full_for s number y)) P m
+as_written {r = r} {old = old} {new = new} {before = before} {now = now} {s = s} {P = P} {m = m} {k = k} {x = x} number session is contract =
+    subst (λ (v : Content). CommandContract r old new before now s (tested s (write_by k number v) (full_for s number v)) (touches_by s (write_by k number v) (full_for s number v)) P m) is
+    (subst (λ (j : ℕ). CommandContract r old new before now s (tested s (write_by j number x) (full_for s number x)) (touches_by s (write_by j number x) (full_for s number x)) P m) session contract)
+
+-- a command whose page is tested last does that
+pub answered_tested : {r : Result Reply Stop} {old new : Engine} {before now : Site} {s : State} {o known : Outcome} {works other : List CacheOp} {P : Snapshot → Type 0} {m : ℕ} {More : Type 0} → (o ≡ known) × ((works ≡ other) × More) →
+    CommandContract r old new before now s known other P m → CommandContract r old new before now s o works P m
+answered_tested is contract = answered is contract.does contract.reply contract.asks
+
+-- and no call is lawful where it failed
+pub contract_ended : {stop : Stop} {old new : Engine} {before now : Site} {s : State} {o : Outcome} {works : List CacheOp} {P : Snapshot → Type 0} {m : ℕ} → CommandContract (Err stop) old new before now s o works P m → CommandContract (Err stop) old (record new { ended = true }) before now s o works P m
+contract_ended contract = record { reply = tt; asks = contract.asks; does = does_failed (omega arith) contract.does }
 
 -- Memory gives out behind a call that was Ok.
 

@@ -40,7 +40,7 @@ returns-in-Ok-clause-does g c s fits =
     let mid : Engine = record engine { store = c.roll_back.new.self } in
     does_of (omega (arith, count, ap (λ (o : Option Session). length (writes_of o)) found.is))
     (aborted_fits engine mid _ _ _ s c.args.entry fits c.requires.going.table c.requires.active (stays_honest _ _ c.roll_back.ensures.works.calls.preserves fits.honest) (c.in-Ok.ensures.undone fits.newest fits.records s.table s.commits fits.holds found.session.writes found.under_way.is_active count)
-    refl c.in-Ok.ensures.works.made c.release.ensures c.remove.ensures.entry c.remove.ensures.owed refl refl refl)
+    refl c.in-Ok.ensures.works.made c.release.ensures c.remove.ensures.entry c.remove.ensures.owed refl refl refl c.requires.going.footprints.eight c.end.ensures.gone)
     (keeps_answered (c.in-Ok.ensures.keeps fits.newest fits.records s.table s.commits fits.holds found.session.writes found.under_way.is_active count (omega (arith, fits.sessions.owes, c.owed.ensures, part))))
 
 pub returns-in-Err-clause-does : goal.returns-in-Err-clause-does

@@ -19,7 +19,7 @@ returns-in-Ok-clause-does g c s fits =
     let sealed = c.in-Ok.ensures.holds fits.newest fits.records s.table s.commits fits.holds (may_commit _ _ s c.args.entry fits c.requires.active) in
     does_of (omega arith)
     (committed_fits _ c.seal_commit.new.self _ _ _ s c.args.entry sealed.0 fits c.requires.going.table c.requires.active (stays_honest _ _ c.seal_commit.ensures.works.calls.preserves fits.honest) sealed.1
-    c.seal_commit.ensures.rest c.in-Ok.ensures.commits c.in-Ok.ensures.works.made c.release.ensures c.remove.ensures.entry c.remove.ensures.owed refl refl refl)
+    c.seal_commit.ensures.rest c.in-Ok.ensures.commits c.in-Ok.ensures.works.made c.release.ensures c.remove.ensures.entry c.remove.ensures.owed refl refl refl c.requires.going.footprints.eight c.end.ensures.gone c.end.ensures.owned)
     (keeps_weaker (commits_either c.args.self.now s c.args.entry fits c.requires.active) (c.in-Ok.ensures.keeps fits.newest fits.records s.table s.commits fits.holds (may_commit c.args.self.now (g.S.Site.state c.args.site.now) s c.args.entry fits c.requires.active)))
 
 pub returns-in-Ok-clause-performs : goal.returns-in-Ok-clause-performs

@@ -15,7 +15,7 @@ returns-clause-opens g c honest k s opening =
     let old = g.S.Site.state c.args.site.now in
     let done = c.in-Ok.ensures.opens honest k opening.newest opening.blocks s.table s.commits opening.sound opening.means in
     let blocks = c.in-Ok.ensures.restarts.blocks ∙ ap (λ (x : Geometry). x.blocks) done.1 in
-    (started k old.image _ s c.in-Ok.restarted _ (stays_honest old _ c.restart.ensures.restarts.calls.preserves honest) opening done.0 blocks refl refl refl (search rules) (search rules), done.1)
+    (started k old.image _ s c.in-Ok.restarted _ (stays_honest old _ c.restart.ensures.restarts.calls.preserves honest) opening done.0 blocks refl refl refl (search rules) (search rules) (search rules), done.1)
 
 pub returns-in-Err-clause-ends : goal.returns-in-Err-clause-ends
 returns-in-Err-clause-ends g c honest k table commits stands = ends_failed (c.in-Err.ensures.ends honest k table commits stands)
