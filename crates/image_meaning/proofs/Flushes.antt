@@ -1,5 +1,5 @@
 -- When a checkpoint may be made.
-use Rattle.std.proofs.Common.{◌≡◌, ℕ, ◌+◌, ◌*◌, ◌/◌, ◌<◌, ◌≤◌, List, [], ◌∷◌, length, Some, refl, arith}
+use Rattle.std.proofs.Common.{◌≡◌, ℕ, ◌*◌, ◌/◌, ◌<◌, ◌≤◌, List, [], ◌∷◌, length, Some, refl, arith}
 use Rattle.std.specs.Prelude.{◌&&◌, not, ◌↔◌}
 use Rattle.std.specs.List.{AllByRecursion}
 use Rattle.std.proofs.lemmas.Nat.{mod_below, div-add-mod'}
@@ -26,12 +26,7 @@ needed_before none kept [] within all = within
 needed_before none kept (t ∷ transactions) within all = let first = all.0 in omega (arith, first, div-add-mod' t 512, mod_below t 512 (omega arith))
 
 all_needed : (none from kept : ℕ) (transactions : List ℕ) → Ascends from transactions → kept ≤ first_block none transactions → AllByRecursion (λ t. 512 * kept ≤ t) transactions
-all_needed none from kept [] ascends within = tt
-all_needed none from kept (t ∷ transactions) ascends within =
-    let first : 512 * kept ≤ t = omega (arith, within, div-add-mod' t 512) in (
-      first,
-      all_weaker (λ s. t + 1 ≤ s) (λ s. 512 * kept ≤ s) (λ s later. omega (arith, first, later)) transactions (above (t + 1) transactions ascends.1),
-    )
+all_needed none from kept x3 ascends within = grind (arith, div-add-mod', all_weaker, above)
 
 needed_within : (none : ℕ) (transactions : List ℕ) → AllByRecursion (λ t. t < 512 * none) transactions → first_block none transactions ≤ none
 needed_within none [] all = omega arith

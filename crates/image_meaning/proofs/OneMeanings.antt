@@ -46,10 +46,7 @@ module _ (newest : Option Master) (g : Geometry) (image : Image) where
       count_by blocks = commit_count (logical_image_under newest g image blocks)
 
 pub one_master_stands : OneMasterStands
-one_master_stands g image None None first second = refl
-one_master_stands g image None (Some m) first second = grind arith
-one_master_stands g image (Some m) None first second = grind arith
-one_master_stands g image (Some a) (Some b) first second = ap Some (one_newest image a b first.master second.master)
+one_master_stands g image x2 x3 first second = grind (arith, one_newest)
 
 pub one_meaning_for : OneMeaningFor
 one_meaning_for g image table other commits many stands too =

@@ -1,5 +1,5 @@
 -- A group of frames pushed behind others.
-use Rattle.std.proofs.Common.{◌∙◌}
+use Rattle.std.proofs.Common.{arith}
 use Rattle.frame_group.proofs.LastFrames.{new_version, other_versions, push_keeps_clean, drop_keeps_version, drop_keeps_clean}
 use Rattle.std.specs.Prelude.{ℕ, List, ◌++◌}
 use Rattle.frame_group.specs.Groups.{Frame}
@@ -19,5 +19,4 @@ pushed_version disk rest new page frame last = new_version disk rest new page fr
 
 -- and every other page the version that it had
 pub others_keep_versions : (disk : ℕ → List ℕ) (front rest new : List Frame) (page : ℕ) → CleanAsDisk disk (front ++ rest) → MayPush disk front rest new → last_frame page new ≡ None → version disk (rest ++ new) page ≡ version disk (front ++ rest) page
-others_keep_versions disk front rest new page clean may none =
-    other_versions disk rest new page none ∙ drop_keeps_version disk front rest page clean (may.staged page none)
+others_keep_versions disk front rest new page clean may none = grind (arith, other_versions, drop_keeps_version)

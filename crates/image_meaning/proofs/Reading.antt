@@ -1,6 +1,6 @@
 -- The groups that a cache knows of.
 use Rattle.std.proofs.Common.{◌≡◌, ℕ, refl, arith, List, [], ◌∷◌, map, sym, subst}
-use Rattle.std.specs.Prelude.{◌<◌}
+use Rattle.std.proofs.lemmas.Grind.{common_steps}
 use Rattle.std.specs.List.{AllByRecursion}
 use Rattle.std.proofs.lemmas.List.{length-map}
 use Rattle.std_lemmas.proofs.AllOf.{all_left, all_right, all_weaker}
@@ -25,14 +25,8 @@ spelled_again (content ∷ contents) all = λ i. all.0.spelled i ∷ spelled_aga
 
 pub each_has : (g : Geometry) (contents : List (List ℕ)) → AllByRecursion (λ content. IsGroup content (frames_in content)) contents → AllByRecursion (IsFrameOf g) (frames_of contents) →
     AllByRecursion (λ frames. HasFrames g frames (group frames)) (map frames_in contents)
-each_has g [] all frames = tt
-each_has g (content ∷ contents) all frames = (
-  record {
-    is_group = subst (λ (c : List ℕ). IsGroup c (frames_in content)) all.0.spelled all.0;
-    exist = all_weaker (IsFrameOf g) (λ frame. frame.page < g.pages) (λ frame is. is.exists) (frames_in content) (all_left (IsFrameOf g) (frames_in content) (frames_of contents) frames);
-  },
-  each_has g contents all.1 (all_right (IsFrameOf g) (frames_in content) (frames_of contents) frames),
-)
+each_has g [] all frames = grind (arith, common_steps)
+each_has g (content ∷ contents) all frames = grind (arith, common_steps, all_weaker, all_left, all_right, (each_has g contents all.1 (all_right (IsFrameOf g) (frames_in content) (frames_of contents) frames)))
 
 -- and groups of the form are there for a cache to find
 pub groups_are_there : (g : Geometry) (image : Image) → AreGroups g image → HasGroups g ((units_on (group_shape g) image).hi - length (units_on (group_shape g) image).live) (groups_on g image) image

@@ -12,7 +12,7 @@ use Rattle.std.proofs.lemmas.Option.{none-some}
 use Rattle.std.proofs.lemmas.Nat.{div-mul-add, mod-mul-add}
 use Rattle.std_lemmas.proofs.AllOf.{all_filter, all_weaker}
 use Rattle.record_model.specs.State.{Content, content_at}
-use Rattle.log_records.specs.Log.{Entry, Version, version_at, slot_at, number_of, is_number, is_on, after_of, last_where, last_on, shown, shown_by}
+use Rattle.log_records.specs.Log.{Entry, Version, version_at, slot_at, number_of, is_on, last_where, last_on, shown_by}
 use Rattle.log_records.specs.Sound.{LogicalImage, IsSound, IsInOrder, ShowsLast, last_known, before_block, redone}
 use Rattle.log_laws.proofs.Lists.{or_is_none}
 use Rattle.log_laws.proofs.Orders.{all_from, none_passes}
@@ -68,10 +68,7 @@ none_known log number lsn none = last_weaker (λ e. is_on number e) (λ e. is_on
 
 -- what isn't known up to an LSN isn't known up to an earlier one
 none_earlier : (log : List Entry) (number early lsn : ℕ) → early ≤ lsn → last_known log lsn number ≡ None → last_known log early number ≡ None
-none_earlier log number early lsn before none = last_weaker (λ e. is_on number e && nat_le e.lsn lsn) (λ e. is_on number e && nat_le e.lsn early) (λ e off. by (is_on number e) e.lsn off) log none where
-  by : (b : Bool) (n : ℕ) → (b && nat_le n lsn) ≡ false → (b && nat_le n early) ≡ false
-  by true n off = grind (arith, nat_tests)
-  by false n off = refl
+none_earlier log number early lsn before none = grind (arith, last_weaker, nat_tests)
 
 known_on_page : (log : List Entry) (page slot lsn : ℕ) → slot < 32 → AreKnown log page lsn → AreKnown log ((32 * page + slot) / 32) lsn
 known_on_page log page slot lsn less known = subst (λ (q : ℕ). AreKnown log q lsn) (sym (page_of_number page slot less)) known
@@ -114,28 +111,7 @@ redone_replaces p page v sound within r = record {
 
 -- A version with the records up to an LSN redone, or with all of them, may replace the page's version.
 pub current_replaces : (p : LogicalImage) (page : ℕ) (v : Version) → IsCurrent p page v → Replaces p page v
-current_replaces p page v c = record {
-  fits = record {
-    logged = c.logged;
-    shows = λ slot less.
-        shows_last (slot_at p.pages (32 * page + slot)) (content_at v.slots slot) (last_known p.log v.lsn (32 * page + slot))
-        (c.all.slots slot less ∙ ap (shown_by (slot_at p.pages (32 * page + slot))) (sym (last_of_known p.log (32 * page + slot) v.lsn (known_on_page p.log page slot v.lsn less c.all.known))));
-    knows = all_filter (λ e. (n : ℕ) → number_of e.rec ≡ Some n → n / 32 ≡ page → e.lsn ≤ v.lsn) (λ e. nat_lt e.lsn (512 * p.master.redo)) p.log c.all.known;
-  };
-  as_before = λ lsn slot later less.
-      let number = 32 * page + slot in
-      ap (λ (x : Content). shown_by x (last_known p.log lsn number)) (c.all.slots slot less)
-      ∙ ap (shown_by (shown p.log p.pages number)) (all_known slot lsn less later)
-      ∙ shown_twice (slot_at p.pages number) (last_on p.log number) (last_on p.log number) (λ none. none)
-      ∙ ap (shown_by (slot_at p.pages number)) (sym (all_known slot (max lsn (version_at p.pages page).lsn) less (let low = le-max_left lsn (version_at p.pages page).lsn in omega (arith, low, later))));
-}
-  where
-    all_known : (slot lsn : ℕ) → slot < 32 → v.lsn ≤ lsn → last_known p.log lsn (32 * page + slot) ≡ last_on p.log (32 * page + slot)
-    all_known slot lsn less later =
-        last_of_known p.log (32 * page + slot) lsn
-        (known_on_page p.log page slot lsn less
-        (all_weaker (λ e. (n : ℕ) → number_of e.rec ≡ Some n → n / 32 ≡ page → e.lsn ≤ v.lsn) (λ e. (n : ℕ) → number_of e.rec ≡ Some n → n / 32 ≡ page → e.lsn ≤ lsn)
-        (λ e known n on here. let low = known n on here in omega (arith, low, later)) p.log c.all.known))
+current_replaces p page v c = grind (arith, shows_last, last_of_known, known_on_page, all_filter, shown_twice, le-max_left, all_weaker)
 
 -- The page's own version is redone up to its LSN.
 pub version_is_redone : (p : LogicalImage) (page : ℕ) → IsSound p → page < length p.pages → IsRedone p page (version_at p.pages page)
@@ -180,50 +156,27 @@ module _ (p : LogicalImage) (page : ℕ) (v w : Version) (front rest : List Entr
 
   -- up to an LSN not above the record's, none of the records behind it is known
   none_behind : (n lsn : ℕ) → lsn ≤ e.lsn → last_known rest lsn n ≡ None
-  none_behind n lsn le =
-      none_passes (λ d. is_on n d && nat_le d.lsn lsn) rest
-      (all_weaker (λ d. e.lsn + 1 ≤ d.lsn) (λ d. (is_on n d && nat_le d.lsn lsn) ≡ false) (λ d low. and_right (is_on n d) (nat_le d.lsn lsn) (lt-leb d.lsn lsn (omega (arith, low, le)))) rest (all_from (e.lsn + 1) rest (512 * p.hi) behind))
+  none_behind n lsn le = grind (arith, none_passes, all_weaker, and_right, lt-leb, all_from, behind)
 
   parts : (n lsn : ℕ) → lsn ≤ e.lsn → last_known p.log lsn n ≡ option_or (if is_on n e && nat_le e.lsn lsn then Some e else None) (last_known front lsn n)
   parts n lsn le = grind (arith, last_where-append, none_behind)
 
   -- before it
   before : (n : ℕ) → last_known p.log v.lsn n ≡ last_known front v.lsn n
-  before n =
-      parts n v.lsn (omega (arith, next))
-      ∙ ap (λ (b : Bool). option_or (if b then Some e else None) (last_known front v.lsn n)) (and_right (is_on n e) (nat_le e.lsn v.lsn) (lt-leb e.lsn v.lsn next))
+  before n = grind (arith, parts, and_right, lt-leb)
 
   -- of those in front of it the same ones are known
   front_same : (slot : ℕ) → slot < 32 → last_known front e.lsn (32 * page + slot) ≡ last_known front v.lsn (32 * page + slot)
   front_same slot less = grind (arith, last_of_known, known_on_page, all_weaker)
 
   after : (slot : ℕ) → slot < 32 → last_known p.log e.lsn (32 * page + slot) ≡ option_or (if 32 * page + slot == number then Some e else None) (last_known p.log v.lsn (32 * page + slot))
-  after slot less =
-      parts (32 * page + slot) e.lsn (omega arith)
-      ∙ (λ i. option_or (if own i then Some e else None) (front_same slot less i))
-      ∙ ap (λ (o : Option Entry). option_or (if 32 * page + slot == number then Some e else None) o) (sym (before (32 * page + slot))) where
-        own : (is_on (32 * page + slot) e && nat_le e.lsn e.lsn) ≡ (32 * page + slot == number)
-        own = (λ i. is_number (32 * page + slot) (on i) && le-leb e.lsn e.lsn (omega arith) i) ∙ turned (32 * page + slot) where
-          turned : (n : ℕ) → ((number == n) && true) ≡ (n == number)
-          turned n = grind (arith, nat_tests)
+  after slot less = grind (arith, parts, front_same, before, le-leb, nat_tests)
 
   slots : (slot : ℕ) → slot < 32 → content_at w.slots slot ≡ redone p e.lsn (32 * page + slot)
-  slots slot less =
-      redoes.slots slot less ∙ by (32 * page + slot == number) ∙ sym (ap (shown_by (slot_at p.pages (32 * page + slot))) (after slot less)) where
-        by : (b : Bool) → (if b then after_of e.rec else content_at v.slots slot) ≡ shown_by (slot_at p.pages (32 * page + slot)) (option_or (if b then Some e else None) (last_known p.log v.lsn (32 * page + slot)))
-        by true = refl
-        by false = r.slots slot less
+  slots slot less = grind (arith, after)
 
   pub next_redone : IsRedone p page w
-  next_redone =
-      let lsn = redoes.lsn in
-      let later = r.later in
-      let bound = order_bound (e.lsn + 1) rest (512 * p.hi) behind in
-      record {
-        logged = logged_below w.lsn p.hi (omega (arith, lsn, bound));
-        later = omega (arith, lsn, later, next);
-        slots = λ slot less. slots slot less ∙ ap (λ (n : ℕ). redone p n (32 * page + slot)) (sym lsn);
-      }
+  next_redone = grind (arith, order_bound, behind, logged_below, slots)
 
 -- The next record on the page is redone.
 pub next_is_redone : (p : LogicalImage) (page : ℕ) (v w : Version) (front rest : List Entry) (e : Entry) (number : ℕ) → IsSound p → p.log ≡ front ++ e ∷ rest → number_of e.rec ≡ Some number → number / 32 ≡ page → v.lsn < e.lsn → AreKnown front page v.lsn → IsRedone p page v → Redoes page e number v w → IsRedone p page w

@@ -15,7 +15,7 @@ use Rattle.record_model.specs.State.{Content}
 use Rattle.log_records.specs.declared.log_record.LogRecord.{LogRecord}
 use Rattle.log_records.specs.Spelling.{spelling, AreBlock}
 use Rattle.log_records.specs.Log.{entries_from, log_from}
-use Rattle.log_records.specs.Sound.{Active, LogicalImage, Means, AreOrderly, before_block, from_block, last_lsn}
+use Rattle.log_records.specs.Sound.{LogicalImage, Means, AreOrderly, from_block}
 use Rattle.log_records.specs.Sound as lists
 use Rattle.log_laws.specs.NewImage.{with_master, MayCheckpoint}
 use Rattle.log_laws.proofs.Orders.{filter_none, all_from, entries_in_order}

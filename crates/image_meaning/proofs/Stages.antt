@@ -29,14 +29,7 @@ use Rattle.image_meaning.proofs.UnchangedImages.{lengths_stay, newest_stays, gro
 
 -- no octet of a page is one of another page
 apart : (number other place : ℕ) → (number ≡ other → ⊥) → 4096 * number ≤ place → place < 4096 * number + 4096 → IsBeside (4096 * other) 4096 place
-apart number other place ne from below =
-    elim (cases_order number other) [
-      | inl same ↦ absurd (ne same)
-      | inr rest ↦ elim rest [
-        | inl less ↦ inl (omega (arith, below, less))
-        | inr more ↦ inr (omega (arith, from, more))
-      ]
-    ]
+apart number other place ne from below = grind (arith, cases_order)
 
 module _ (newest : Option Master) (g : Geometry) (old new : Image) (blocks : List (List LogRecord)) (pages : List ℕ) (sound : IsSoundUnder newest g old blocks)
     (may : MayStage g old pages) (made : Makes g (RewritesPages pages) old new) where

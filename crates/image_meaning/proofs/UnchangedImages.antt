@@ -1,5 +1,5 @@
 -- What stays of an image whose groups and disk stay.
-use Rattle.std.proofs.Common.{◌≡◌, ℕ, ◌+◌, ◌<◌, List, length, map, refl, arith, Option, Some, None, sym, ap, subst, ◌∙◌}
+use Rattle.std.proofs.Common.{◌≡◌, ℕ, ◌+◌, List, length, map, refl, arith, Option, Some, None, sym, ap, subst, ◌∙◌}
 use Rattle.site.specs.declared.geometry.Geometry.{Geometry}
 use Rattle.site.specs.declared.outside.Dev.TheVariants.{Log, Flash, Disk}
 use Rattle.site.specs.Geometry.{HasLengths}
@@ -12,7 +12,6 @@ use Rattle.slotted_page.specs.Layout as page
 use Rattle.frame_group.specs.Groups.{frames_in}
 use Rattle.frame_group.specs.Versions.{CleanAsDisk}
 use Rattle.checkpoint.specs.declared.master.Master.{Master}
-use Rattle.checkpoint.specs.Newest.{newest_of, IsOf}
 use Rattle.image_changes.specs.Rings.{RingName, Masters, Blocks, Groups, Segments, shape_of, group_shape, segment_shape, KeepsUnits}
 use Rattle.image_changes.specs.Changes.{SameSizes}
 use Rattle.log_store.proofs.BlockLaws.{blocks_stay}
@@ -36,12 +35,7 @@ pub unused_stays : (g : Geometry) (ring : RingName) (old new : Image) → KeepsU
 unused_stays g ring old new keeps unused = record { form = keeps.form unused.form; none = ap (λ (u : Units). u.hi) keeps.units ∙ unused.none }
 
 pub newest_stays : (newest : Option Master) (g : Geometry) (old new : Image) → KeepsUnits (shape_of g Masters) old new → HasNewest newest g old → HasNewest newest g new
-newest_stays None g old new keeps unused = unused_stays g Masters old new keeps unused
-newest_stays (Some m) g old new keeps is = record {
-  form = keeps.form is.form;
-  some = subst (λ (u : Units). 0 < u.hi) (sym keeps.units) is.some;
-  master = subst (λ (u : Units). IsOf (newest_of u.live) m) (sym keeps.units) is.master;
-}
+newest_stays x0 g old new keeps unused = grind (arith, unused_stays)
 
 pub groups_stay : (g : Geometry) (old new : Image) → KeepsUnits (group_shape g) old new → AreGroups g old → AreGroups g new
 groups_stay g old new keeps groups = grind (arith, frames_stay)

@@ -1,7 +1,6 @@
 -- Pages are staged, then a group is appended.
 use Rattle.std.proofs.Common.{◌≡◌, ◌⊎◌, inl, inr, ℕ, ◌+◌, ◌-◌, ◌*◌, ◌<◌, List, [], ◌∷◌, ◌++◌, length, take, drop, Option, Some, None, sym, ap, subst, ◌∙◌, arith}
 use Rattle.std.specs.Prelude.{Contains, slice_index}
-use Rattle.std.specs.Option.{option_or}
 use Rattle.std.proofs.lemmas.List.{get_or_default}
 use Rattle.std.proofs.lemmas.Option.{same_Some}
 use Rattle.site.specs.declared.geometry.Geometry.{Geometry}
@@ -85,8 +84,7 @@ module _ (newest : Option Master) (g : Geometry) (pages : List ℕ) (contents : 
         ap (page_on number) (sym disk) ∙ ap (λ (n : ℕ). page_on n new.disk) (sym at) ∙ staged.here listed.0 listed.1 ∙ s.same ∙ ap (λ (f : Frame). f.octets) same
 
     last_in_front : (number : ℕ) (frame : Frame) → last_frame number (rest_on g old) ≡ None → last_frame number (front_on g old) ≡ Some frame → last_frame number (frames_on g old) ≡ Some frame
-    last_in_front number frame none some =
-        ap (last_frame number) (frames_before g old) ∙ last_of_both number (front_on g old) (rest_on g old) ∙ (λ i. option_or (none i) (some i))
+    last_in_front number frame none some = grind (arith, frames_before, last_of_both)
 
     front_staged : (number : ℕ) → last_frame number frames ≡ None → IsStaged (disk_on mid) (front_on g old) (rest_on g old) number
     front_staged number absent frame none some dirty = page_staged number frame (may.left number frame absent none some dirty) (last_in_front number frame none some)
