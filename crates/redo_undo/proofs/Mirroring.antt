@@ -145,9 +145,6 @@ module _ (log log' : LogStore) (pages : PageStore) (before now : State) (below :
   abbrev overflows : ℕ → Bool
   overflows octets = nat_lt block_len (log.used + octets)
 
-  abbrev logged_then : ℕ → Machine → Machine
-  logged_then octets m = record m { tail = record (sealed_if (overflows octets) m.tail) { used = (sealed_if (overflows octets) m.tail).used + octets; waiting = [] ++ (sealed_if (overflows octets) m.tail).waiting } }
-
   pub logged_performs : (result : Result ℕ Stop) (octets : ℕ) → (nat_lt block_len (log.used + octets) ≡ true → 2 < log.used) → LogStops result log (nat_lt block_len (log.used + octets)) → OnOk result (log'.ring.hi ≡ (if nat_lt block_len (log.used + octets) then log.ring.hi + 1 else log.ring.hi)) →
       OnOk result (log'.used ≡ (if nat_lt block_len (log.used + octets) then 2 else log.used) + octets) → ((number : ℕ) → current pages now.image number ≡ current pages before.image number) → HasNumbersLeft log' pages →
       Performs result (rules pages) (logged octets ∷ []) (Mirrors log pages before.image) (Mirrors log' pages now.image)
