@@ -27,7 +27,9 @@ use Rattle.txn_table.specs.Entries.{IsTable}
 use Rattle.image_meaning.specs.Meaning.{versions_on}
 use Rattle.redo_laws.proofs.Changed.{front_shows}
 use Rattle.redo_undo.specs.Fitting.{FitsFront}
-use Rattle.redo_undo.specs.Stores.{IsInFront, shown_in}
+use Rattle.redo_undo.specs.declared.store.TransactionStore.{TransactionStore}
+use Rattle.redo_undo.specs.Stores.{IsInFront, Represents, shown_in}
+use Rattle.checkpoint.specs.declared.master.Master.{Master}
 use Rattle.footprints.specs.declared.footprint.Footprint.{Footprint}
 use Rattle.footprints.specs.Longest.{lengths, lengths_on, of_session, need_in}
 use Rattle.footprints.specs.Longest as footprints
@@ -336,3 +338,14 @@ module _ (engine : Engine) (site : Site) (s : State) (fits : Matches engine site
           front_shows engine.store.log engine.store.pages site fits.newest fits.records s.table s.commits (number % 32) own front.there (omega arith) fits.holds.both
           ∙ ap (λ (k : ℕ). shown fits.records (versions_on (sizes_of engine.store) site.image) (32 * k + number % 32)) front.page
           ∙ ap (shown fits.records (versions_on (sizes_of engine.store) site.image)) (div-add-mod number 32)
+
+-- Where one store has the pages of another, their records show the same on the page in front.
+pub shows_same : (store store' : TransactionStore) (site site' : Site) (newest : Option Master) (records log : List Entry) (table : List Content) (commits number : ℕ) → store'.pages ≡ store.pages → IsStore store.pages → IsInFront store number →
+    Represents store site newest records table commits → Represents store' site' newest log table commits → (i : ℕ) → i < 32 →
+    shown log (versions_on (sizes_of store') site'.image) (32 * (number / 32) + i) ≡ shown records (versions_on (sizes_of store) site.image) (32 * (number / 32) + i)
+shows_same store store' site site' newest records log table commits number same own front holds holds' i small =
+    sym (front_shows store'.log store'.pages site' newest log table commits i (subst IsStore (sym same) own) (subst (λ p. 0 < length p.pool.frames) (sym same) front.there) small holds'.both
+    ∙ ap (λ (k : ℕ). shown log (versions_on (sizes_of store') site'.image) (32 * k + i)) (ap (λ p. (front_of p.pool.frames).page) same ∙ front.page))
+    ∙ ap (λ p. slice_index_or (slots_of (front_of p.pool.frames).content) i None) same
+    ∙ front_shows store.log store.pages site newest records table commits i own front.there small holds.both
+    ∙ ap (λ (k : ℕ). shown records (versions_on (sizes_of store) site.image) (32 * k + i)) front.page

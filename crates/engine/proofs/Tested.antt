@@ -16,6 +16,8 @@ use Rattle.redo_laws.specs.MachineSteps.{StepsMachine, one_change, one_touch}
 use Rattle.engine.specs.declared.engine.Engine.{Engine}
 use Rattle.engine.specs.Calls.{CommandContract, CommandEffect}
 use Rattle.engine.specs.PageTests.{full_for, tested, touches_by, work_by, write_by}
+use Rattle.engine.specs.Invariant.{sizes_of}
+use Rattle.engine.specs.Leaves.{LeavesEither}
 use Rattle.engine.specs.Representation.{with_write}
 
 -- A session's.
@@ -61,12 +63,12 @@ module _ (s : State) (n number : ℕ) where
   -- there is none
   pub contract_refused : {r : Result Reply Stop} {old new : Engine} {before now : Site} {P : Snapshot → Type 0} {m : ℕ} → (after : Content) (full : Reply) → full_for s number after ≡ Some full → IfOk r (λ x. x ≡ full) → StepsMachine r (one_touch (number / 32)) old.store.pages new.store.pages before now →
       CommandEffect r old new before now s s P m → CommandContract r old new before now s (tested s (write_by n number after) (full_for s number after)) (touches_by s (write_by n number after) (full_for s number after)) P m
-  contract_refused None full no reply asks does = absurd (none-some full no)
+  contract_refused None full never reply asks does = absurd (none-some full never)
   contract_refused {r = r} {old = old} {new = new} {before = before} {now = now} {P = P} {m = m} (Some value) full is reply asks does =
       subst (λ (o : Option Reply). CommandContract r old new before now s (tested s (Write n number value) o) (touches_by s (Write n number value) o) P m) (sym is) (record { reply = reply; asks = asks; does = does })
 
   pub work_refused : (after : Content) (full : Reply) → full_for s number after ≡ Some full → work_by s (write_by n number after) (full_for s number after) ≡ reads number
-  work_refused None full no = absurd (none-some full no)
+  work_refused None full never = absurd (none-some full never)
   work_refused (Some value) full is = λ i. work_by s (Write n number value) (is i)
 
 -- One outside sessions.
@@ -83,3 +85,18 @@ module _ (s : State) (number : ℕ) (value : List ℕ) where
   pub set_reads_first : (o : Option Reply) → (rest : List RingOp) × (work_by s (Set number value) o ≡ reads number ++ rest)
   set_reads_first None = (begins ++ changes number (content_at s.table number) (Some value) ++ commits, refl)
   set_reads_first (Some full) = ([], refl)
+
+  pub set_written : {r : Result Reply Stop} {old new : Engine} {before now : Site} {m : ℕ} {x : Content} → (o : Option Reply) → o ≡ None → x ≡ Some value → IfOk r (λ y. y ≡ reply.Committed (s.commits + 1)) → StepsMachine r (one_change (number / 32)) old.store.pages new.store.pages before now →
+      CommandEffect r old new before now s (making 3 (committed s ((number, x) ∷ []))) (LeavesEither (sizes_of old.store) s (making 3 (committed s ((number, x) ∷ []))) before.told) m →
+      CommandContract r old new before now s (tested s (Set number value) o) (touches_by s (Set number value) o) (LeavesEither (sizes_of old.store) s (tested s (Set number value) o).after before.told) m
+  set_written {r = r} {old = old} {new = new} {before = before} {now = now} {m = m} o has is done asks does =
+      subst (λ (p : Option Reply). CommandContract r old new before now s (tested s (Set number value) p) (touches_by s (Set number value) p) (LeavesEither (sizes_of old.store) s (tested s (Set number value) p).after before.told) m) (sym has) (record {
+        reply = done;
+        asks = asks;
+        does = subst (λ (c : Content). CommandEffect r old new before now s (making 3 (committed s ((number, c) ∷ []))) (LeavesEither (sizes_of old.store) s (making 3 (committed s ((number, c) ∷ []))) before.told) m) is does;
+      })
+
+  pub set_refused : {r : Result Reply Stop} {old new : Engine} {before now : Site} {m : ℕ} → (o : Option Reply) (full : Reply) → o ≡ Some full → IfOk r (λ y. y ≡ full) → StepsMachine r (one_touch (number / 32)) old.store.pages new.store.pages before now →
+      CommandEffect r old new before now s s (LeavesEither (sizes_of old.store) s s before.told) m → CommandContract r old new before now s (tested s (Set number value) o) (touches_by s (Set number value) o) (LeavesEither (sizes_of old.store) s (tested s (Set number value) o).after before.told) m
+  set_refused {r = r} {old = old} {new = new} {before = before} {now = now} {m = m} o full is reply asks does =
+      subst (λ (p : Option Reply). CommandContract r old new before now s (tested s (Set number value) p) (touches_by s (Set number value) p) (LeavesEither (sizes_of old.store) s (tested s (Set number value) p).after before.told) m) (sym is) (record { reply = reply; asks = asks; does = does })

@@ -4,7 +4,8 @@ use Rattle.engine.proofs.Asking.{has_group, change_ok}
 use Rattle.std.proofs.Common.{◌≡◌, ◌+◌, ◌*◌, ◌%◌, ◌<◌, ◌≤◌, ⊎_elim, Some, refl, sym, ap, subst, ◌∙◌, arith, ◌/◌, rules, ℕ, None}
 use Rattle.std.proofs.lemmas.Option.{same_Some}
 use Rattle.std.proofs.lemmas.Bool.{cases_eq}
-use Rattle.std.specs.Prelude.{Err}
+use Rattle.std.specs.Prelude.{Option, Result, Ok, Err}
+use Rattle.site.specs.declared.outside.Stop.{Stop}
 use Rattle.std.specs.Result.{result_ok}
 use Rattle.log_store.specs.Representation.{end_of}
 use Rattle.txn_table.specs.declared.active.Active.{Active}
@@ -26,12 +27,12 @@ use Rattle.engine.proofs.Tested.{asks_either, contract_refused, contract_written
 use Rattle.txn_table.proofs.DistinctBegins.{below_wrote, apart_wrote}
 use Rattle.engine.proofs.Calling.{does_of, serves_of, serves_still, serves_stopped}
 use Rattle.redo_undo.proofs.StoreCalling.{works_then, works_answered, keeps_failed, keeps_answered, keeps_both, keeps_no_memory}
-use Rattle.redo_laws.proofs.Asking.{asks_fails, asks_ok}
+use Rattle.redo_laws.proofs.Asking.{asks_err, asks_fails, asks_ok}
 use Rattle.redo_laws.proofs.AskingUndo.{change_made, change_stopped}
 use Rattle.redo_laws.specs.MachineSteps.{one_touch}
 use Rattle.page_store.proofs.StagingLaws.{stages_err, stages_ok}
 use Rattle.engine.proofs.engine.Engine.carry_out_write.Given.{Over}
-use Rattle.engine.proofs.engine.Engine.carry_out_write.Goals.{In-Ok, In-Ok-test_page}
+use Rattle.engine.proofs.engine.Engine.carry_out_write.Goals.{In-Ok}
 use Rattle.engine.proofs.engine.Engine.carry_out_write.Goals as goal
 use Rattle.record_model.specs.State.{Content, State, seen}
 use Rattle.record_model.specs.declared.words.Reply.{Reply}
@@ -77,7 +78,7 @@ pub returns-in-Err : goal.returns-in-Err
 returns-in-Err g c = record {
   answers = λ s fits. record {
     reply = tt;
-    asks = asks_either s c.args.entry.session c.args.number c.in-Err.ensures.asks (change_stopped c.in-Err.stop (c.args.number / 32) _ _ _ _ (has_group c.requires.going) c.in-Err.ensures.asks) c.args.after.now;
+    asks = asks_either s c.args.entry.session c.args.number (asks_err c.in-Err.stop (one_touch (c.args.number / 32)) _ _ _ _ c.in-Err.ensures.asks) (change_stopped c.in-Err.stop (c.args.number / 32) _ _ _ _ (has_group c.requires.going) c.in-Err.ensures.asks) c.args.after.now;
     does = does_of (let more = no_fewer s c.args.entry.session c.args.number c.args.after.now in omega (arith, more)) tt (keeps_failed (c.in-Err.ensures.keeps fits.newest fits.records s.table s.commits fits.holds));
   };
   performs = λ s fits.
@@ -102,24 +103,22 @@ returns-in-Err-test_page-clause-performs g c s fits =
     let at = (goal.at.returns-in-Err-test_page-clause-performs g c).In-Ok in
     absurd (let never = c.in-Err-test_page.ensures.answers s (touched g at) (fits_mid g at s fits) in cc)
 
--- the test is Ok
-module _ (g : Over) (c : In-Ok-test_page g) (s : State) (fits : Matches c.args.self.now (g.S.Site.state c.args.site.now) s) where
-  tested_is : c.in-Ok-test_page.refused ≡ full_for s c.args.number c.args.after.now
-  tested_is = same_Some _ _ (ap result_ok (c.in-Ok-test_page.ensures.answers s (touched g c.before.before.before.before) (fits_mid g c.before.before.before.before s fits)))
+-- what it gives
+same_ok : {x y : Option Reply} → ◌≡◌ {A = Result (Option Reply) Stop} (Ok x) (Ok y) → x ≡ y
+same_ok {x} {y} same = same_Some x y (ap result_ok same)
 
 -- There is no room.
 pub returns-in-Some : goal.returns-in-Some
 returns-in-Some g c =
     let at = (goal.at.returns-in-Some g c).In-Ok in
-    let test = (goal.at.returns-in-Some g c).In-Ok-test_page in
     let going = c.requires.going in
     record {
       answers = λ s fits.
-          let is = sym (tested_is g test s fits) ∙ c.in-Some.is in
+          let is = sym (same_ok (c.in-Ok-test_page.ensures.answers s (touched g at) (fits_mid g at s fits))) ∙ c.in-Some.is in
           contract_refused s c.args.entry.session c.args.number c.args.after.now c.in-Some.full is refl (asks_ok c.in-Ok.field-0 _ (one_touch (c.args.number / 32)) _ _ _ _ c.in-Ok.ensures.asks)
           (does_of (omega arith) (fits_mid g at s fits) (keeps_answered (c.in-Ok.ensures.keeps fits.newest fits.records s.table s.commits fits.holds)));
       performs = λ s fits.
-          let is = sym (tested_is g test s fits) ∙ c.in-Some.is in
+          let is = sym (same_ok (c.in-Ok-test_page.ensures.answers s (touched g at) (fits_mid g at s fits))) ∙ c.in-Some.is in
           performs_as (work_refused s c.args.entry.session c.args.number c.args.after.now c.in-Some.full is) (performs_answered (c.in-Ok.ensures.performs fits.newest fits.records s.table s.commits fits.holds));
       serves = record {
         keeps = serves_still going (works_answered c.in-Ok.ensures.works) refl refl refl (omega (arith, going.budget)) (omega (arith, going.commits, c.in-Ok.ensures.works.rises)) going.footprints;
@@ -172,15 +171,14 @@ returns-in-Err-write-clause-performs g c s fits = performs_refused (λ dev same.
 pub returns-in-Err-update : goal.returns-in-Err-update
 returns-in-Err-update g c =
     let at = (goal.at.returns-in-Err-update g c).In-Ok in
-    let test = (goal.at.returns-in-Err-update g c).In-Ok-test_page in
     record {
       answers = λ s fits.
-          let has = sym (tested_is g test s fits) ∙ c.in_default.is in
+          let has = sym (same_ok (c.in-Ok-test_page.ensures.answers s (touched g at) (fits_mid g at s fits))) ∙ c.in_default.is in
           contract_written s c.args.entry.session c.args.number c.args.after.now has tt
           (change_made c.in-Ok.field-0 (Err c.in-Err-update.stop) (c.args.number / 32) _ _ _ _ _ _ (has_group c.requires.going) c.in-Ok.ensures.asks tt c.update.ensures.rules_stay c.update.ensures.reads (stages_err c.in-Err-update.ensures.stages))
           (does_of (omega arith) tt (keeps_failed (keeps_both fits.honest c.in-Ok.ensures.works (c.in-Ok.ensures.keeps fits.newest fits.records s.table s.commits fits.holds) (c.in-Err-update.ensures.keeps fits.newest fits.records s.table s.commits (held g at s fits)))));
       performs = λ s fits.
-          let has = sym (tested_is g test s fits) ∙ c.in_default.is in
+          let has = sym (same_ok (c.in-Ok-test_page.ensures.answers s (touched g at) (fits_mid g at s fits))) ∙ c.in_default.is in
           performs_as (work_written s c.args.entry.session c.args.number c.args.after.now has)
           (store_then c.in-Ok.ensures.asks.rules_are (c.in-Ok.ensures.performs fits.newest fits.records s.table s.commits fits.holds)
           (performs_failed (performs_as (ap (λ (x : Content). updates c.args.number x c.args.after.now) (seen_now g at s fits)) (c.in-Err-update.ensures.performs fits.newest fits.records s.table s.commits (held g at s fits)))));
@@ -192,7 +190,6 @@ returns-in-Err-update g c =
 pub returns-in-Ok-update : goal.returns-in-Ok-update
 returns-in-Ok-update g c =
     let at = (goal.at.returns-in-Ok-update g c).In-Ok in
-    let test = (goal.at.returns-in-Ok-update g c).In-Ok-test_page in
     let engine = c.args.self.now in
     let number = c.args.number in
     let entry = c.args.entry in
@@ -212,7 +209,7 @@ returns-in-Ok-update g c =
     let small = (entry_is engine.active n entry going.table c.requires.active).small in
     record {
       answers = λ s fits.
-          let has = sym (tested_is g test s fits) ∙ c.in_default.is in
+          let has = sym (same_ok (c.in-Ok-test_page.ensures.answers s (touched g at) (fits_mid g at s fits))) ∙ c.in_default.is in
           let holds = held g at s fits in
           let fits_there = fits_mid g at s fits in
           let may = may_write (mid g at) (touched g at) s fits_there entry number lsn after has going.footprints.eight c.in-Ok.ensures.works.going.both.pages_going.own c.in-Ok.ensures.front going.table c.requires.active (there g at) c.requires.may.free (omega (arith, made, room)) (let kept = c.touch.ensures.works.kept in omega (arith, blocks, going.store.blocks, made, kept)) (omega (arith, going.cap, count)) in
@@ -256,7 +253,7 @@ returns-in-Ok-update g c =
             });
           };
       performs = λ s fits.
-          let has = sym (tested_is g test s fits) ∙ c.in_default.is in
+          let has = sym (same_ok (c.in-Ok-test_page.ensures.answers s (touched g at) (fits_mid g at s fits))) ∙ c.in_default.is in
           performs_as (work_written s n number after has)
           (store_then c.in-Ok.ensures.asks.rules_are (c.in-Ok.ensures.performs fits.newest fits.records s.table s.commits fits.holds)
           (performs_answered (performs_as (ap (λ (x : Content). updates number x after) (seen_now g at s fits)) (c.in-Ok-update.ensures.performs fits.newest fits.records s.table s.commits (held g at s fits)))));

@@ -25,12 +25,12 @@ returns-in-Some-clause-answers g c s fits =
 pub returns-in-Ok-clause-answers : goal.returns-in-Ok-clause-answers
 returns-in-Ok-clause-answers g c s fits =
     answered_tested (c.in_default.ensures.accepted s (g.S.Site.state c.args.site.now) fits)
-    (as_written c.args.number (entry_is c.args.self.now.active c.args.session c.entry-entry.result c.requires.going.table c.entry-entry.ensures).session refl (c.in-Ok.ensures.answers s fits))
+    (as_written {x = None} c.args.number (entry_is c.args.self.now.active c.args.session c.entry-entry.result c.requires.going.table c.entry-entry.ensures).session refl (c.in-Ok.ensures.answers s fits))
 
 pub returns-in-Err-clause-answers : goal.returns-in-Err-clause-answers
 returns-in-Err-clause-answers g c s fits =
     answered_tested (c.in_default.ensures.accepted s (g.S.Site.state c.args.site.now) fits)
-    (contract_ended (as_written c.args.number (entry_is c.args.self.now.active c.args.session c.entry-entry.result c.requires.going.table c.entry-entry.ensures).session refl (c.in-Err.ensures.answers s fits)))
+    (contract_ended (as_written {x = None} c.args.number (entry_is c.args.self.now.active c.args.session c.entry-entry.result c.requires.going.table c.entry-entry.ensures).session refl (c.in-Err.ensures.answers s fits)))
 
 pub returns-in-Some-clause-performs : goal.returns-in-Some-clause-performs
 returns-in-Some-clause-performs g c s fits = performs_rest (c.in-Some.ensures.refused s (g.S.Site.state c.args.site.now) fits).1.1
