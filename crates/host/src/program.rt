@@ -50,7 +50,7 @@ where
     match read_words(rt.alloc(), words) {
         Ok(Request::Simulate(_)) => FileSite::for_trace(rt, rt.alloc()),
         Ok(Request::Trial(_)) | Err(Unread::Words) => FileSite::bare(rt, rt.alloc()),
-        Ok(Request::Check) => FileSite::for_check(rt, rt.alloc()),
+        Ok(Request::Check) | Ok(Request::Archive(_)) => FileSite::for_check(rt, rt.alloc()),
         Ok(_) => FileSite::existing(rt, rt.alloc()),
         Err(Unread::Memory) => Err(Stop::Memory),
     }

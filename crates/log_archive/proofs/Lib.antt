@@ -1,2 +1,3 @@
-pub mod Numbered
-pub mod Lined
+mod Numbered
+mod Lined
+mod StreamRows

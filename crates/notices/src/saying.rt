@@ -266,6 +266,11 @@ pub fn say<R: Eprint>(rt: &R, status: u8, words: &[String], seen: &Seen, place: 
             );
         }
         11 => say_unsound(rt, seen, place),
+        12 => {
+            let _ = rt.eprintln(
+                "face: the log has no block of that number: gone names the oldest that it has, ahead the one that comes next",
+            );
+        }
         16 => {
             let _ = eprintln!(rt;
                 "face: that line of the input is no touch: each is r PAGE or w PAGE, PAGE 0 to 65535, and there are at \
