@@ -1,4 +1,5 @@
 -- Calls that ask the cache for work, one after the other.
+use Rattle.std.proofs.lemmas.Grind.{common_steps}
 use Rattle.std.proofs.Common.{◌≡◌, ◌+◌, ◌*◌, ◌≤◌, Bool, true, false, List, [], ◌++◌, arith, refl, sym, ap, subst, ◌∙◌, ℕ}
 use Rattle.std.specs.Prelude.{Result, Ok, Err, IsErrOf, if◌then◌else◌, IsTrue, OnOk}
 use Rattle.site.specs.declared.outside.Dev.TheVariants.{Flash, Disk, Log}
@@ -86,8 +87,7 @@ pub asks_then : {A B : Type 0} (a : A) (result : Result B Stop) (first later : L
 asks_then a result first later old mid new before between now one two =
     let start : cache_of mid ≡ after_works (rules old) first (cache_of old) = one.machine in
     let all : after_works (rules old) (first ++ later) (cache_of old) ≡ after_works (rules old) later (after_works (rules old) first (cache_of old)) = ops_compose (rules old) first later (cache_of old) in
-    let there : after_works (rules mid) later (cache_of mid) ≡ after_works (rules old) (first ++ later) (cache_of old) =
-    ap (λ r. after_works r later (cache_of mid)) one.rules_are ∙ ap (after_works (rules old) later) start ∙ sym all in
+    let there : after_works (rules mid) later (cache_of mid) ≡ after_works (rules old) (first ++ later) (cache_of old) = grind (arith, common_steps) in
     record {
       machine = ok_as result _ _ (λ is. is ∙ there) two.machine;
       reads = reads_add_up (rules old) first later (cache_of old) before between now one.reads

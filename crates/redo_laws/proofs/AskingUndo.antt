@@ -1,4 +1,5 @@
 -- What undo asks of the cache: calls on the log alone, and one Update after the other.
+use Rattle.std.proofs.lemmas.Grind.{common_steps}
 use Rattle.std.proofs.Common.{◌≡◌, ◌≢◌, ◌⊎◌, inl, inr, ◌+◌, ◌*◌, ◌<◌, ◌≤◌, true, List, [], ◌∷◌, ◌++◌, append_assoc, append-nil, Option, Some, arith, refl, sym, ap, ◌∙◌, ℕ}
 use Rattle.std.specs.Prelude.{Result, Ok, Err, OnOk, option_map, ⊤}
 use Rattle.std.specs.List.{cons_option}
@@ -81,10 +82,7 @@ change_made a result page old mid new before between now some asks changed same 
     let none = none_read between now read in
     record {
       machine = ok_as result _ _ (λ is. is ∙ there) changed;
-      reads = change_reads (rules old) page (cache_of old) before now some (record {
-        flash = (let reads = asks.reads.flash in omega (arith, reads, none.flash));
-        disk = (let reads = asks.reads.disk in omega (arith, reads, none.disk));
-      });
+      reads = grind (arith, common_steps, change_reads);
       rules_are = same ∙ asks.rules_are;
       stages = change_stages result page old new before now some
           (stages_as (append-nil (staged_by_works (rules old) (one_touch page) (cache_of old))) (ap next_group asks.machine) (stages_then (λ has. omega (arith, ap next_group asks.machine)) asks.stages still));

@@ -14,8 +14,7 @@ use Rattle.site.specs.State.{State, Image, IsQuiet}
 use Rattle.site.specs.Calls.{Preserves, IsUnchanged}
 use Rattle.site.proofs.Laws.{in_sequence, holds_now, no_call, unchanged_calm, stays_honest, quiet_leaves}
 use Rattle.site.specs.Moments.{Leaves, LeavesOnly, ChangesOnly}
-use Rattle.sealed_ring.specs.Ring.{IsRing, hi_of}
-use Rattle.image_changes.specs.Rings.{log_shape, KeepsUnits, master_shape}
+use Rattle.image_changes.specs.Rings.{KeepsUnits, master_shape}
 use Rattle.record_model.specs.State.{Content}
 use Rattle.log_records.specs.Log.{Entry, log_from}
 use Rattle.log_store.specs.declared.store.LogStore.{LogStore}
@@ -64,11 +63,7 @@ holds_still log pages old new newest records table commits goes same h =
         tail = h.log_holds.tail;
         ready = record {
           pages = fits_beside pages old new (only_read old new same) goes ready.pages;
-          blocks = record {
-            honest = stays_honest old new goes ready.blocks.honest;
-            form = subst (λ (i : Image). IsRing (log_shape log.geometry) i.log) (sym same.image) ready.blocks.form;
-            hi = subst (λ (i : Image). log.ring.hi ≡ hi_of (log_shape log.geometry) i.log) (sym same.image) ready.blocks.hi;
-          };
+          blocks = grind (arith, common_steps, stays_honest);
           records = subst (λ (i : Image). log_store.Represents log i (record { first = kept_by newest; blocks = h.log_holds.blocks; tail = h.log_holds.tail })) (sym same.image) ready.records;
         };
         rings = subst (AreRingsSoundUnder newest pages.flash.geometry) (sym same.image) h.log_holds.rings;

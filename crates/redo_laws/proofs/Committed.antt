@@ -1,11 +1,12 @@
 -- A Commit is appended and sealed.
+use Rattle.std.proofs.lemmas.Grind.{common_steps}
 use Rattle.image_meaning.proofs.UnchangedImages.{next_block_is}
 use Rattle.log_laws.proofs.Appends.{commit_follows}
 use Rattle.log_laws.proofs.Owing.{owed_closing}
 use Rattle.log_laws.proofs.Seals.{sealed_count}
 use Rattle.log_laws.proofs.Tails.{carries_more, carries_nothing, commits_more, sealed_tail, tail_with_commit, whole_more, whole_sealed}
 use Rattle.page_store.proofs.Beside.{fits_beside}
-use Rattle.std.proofs.Common.{◌≡◌, ℕ, ◌+◌, ◌≤◌, ◌<◌, true, false, List, [], ◌∷◌, ◌++◌, length, inl, inr, refl, sym, ap, subst, ◌∙◌, arith, Option}
+use Rattle.std.proofs.Common.{◌≡◌, ℕ, ◌+◌, ◌≤◌, ◌<◌, true, false, List, [], ◌∷◌, ◌++◌, inl, inr, refl, sym, ap, subst, ◌∙◌, arith, Option}
 use Rattle.std.proofs.lemmas.Option.{none-some}
 use Rattle.site.specs.declared.outside.Dev.TheVariants.{Log}
 use Rattle.site.specs.declared.geometry.Geometry.{Geometry}
@@ -17,7 +18,7 @@ use Rattle.record_model.specs.State.{Content, table_with}
 use Rattle.log_records.specs.declared.log_record.LogRecord.{LogRecord}
 use Rattle.log_records.specs.declared.log_record.LogRecord.TheVariants.{Commit}
 use Rattle.log_records.specs.Spelling.{AreBlock, block_len}
-use Rattle.log_records.specs.Log.{Entry, Version, log_from}
+use Rattle.log_records.specs.Log.{Entry, Version}
 use Rattle.log_records.specs.Unfinished.{owed, owed_by}
 use Rattle.log_records.specs.Sound.{LogicalImage, HasRoom, commit_numbers, commit_count}
 use Rattle.log_laws.specs.Follow.{Follows, sealed, next_entries, writes_in}
@@ -77,10 +78,7 @@ module _ (p : LogicalImage) (front : List LogRecord) (txn number lsn : ℕ) (rec
       let sound = sealed_tail p tail carries_commit block room (inr (numbers_are ∙ ap (λ (n : ℕ). n ∷ []) expected)) in
       record {
         carries = carries_nothing (sealed p tail) sound;
-        means = record {
-          table_is = (λ i. table_with (runs.means.table_is i) (writes_in txn (sym runs.records_are i))) ∙ sym (tail_with_commit p front txn number carries_commit runs.no_commit);
-          count_is = let count = sealed_count p tail carries_commit.sound block in let one : length (commit_numbers (next_entries p tail)) ≡ 1 = ap length numbers_are in omega (arith, count_is, count, one);
-        };
+        means = grind (arith, common_steps, tail_with_commit, carries_commit, sealed_count, numbers_are);
         no_commit = refl;
         records_are = whole_sealed p tail ∙ whole_commit;
       }
@@ -170,8 +168,7 @@ module _ (log : LogStore) (pages : PageStore) (site : State) (newest : Option Ma
           tail = [];
           ready = record { pages = fits_beside pages site new changes goes m.ready.pages; blocks = finds; records = holds };
           rings = rings_now newest g log.geometry (has_tail log) list site.image new.image sizes m.rings reaches;
-          runs_on = subst (λ (versions : List Version). RunsOn (record { master = (master_of newest); log = log_from (kept_by newest) more; hi = next_block_under newest more; blocks = g.blocks; pages = versions }) [] (records ++ e ∷ []) table' (commits + 1)) (sym same)
-              (runs_after (last_of_all AreBlock m.blocks tail holds.blocks.are_blocks));
+          runs_on = grind (arith, common_steps, runs_after, last_of_all);
           ahead = record { pool = logged_more (end_forced log) (end_forced log') forced pages.pool.frames m.ahead.pool; versions = more_sealed pages site new changes log log' sizes geometry m.ready.blocks finds (omega (arith, next)) m.ahead.versions };
           room = omega (arith, m.room, one, no_tail, next, owed_less, same_kept);
         };

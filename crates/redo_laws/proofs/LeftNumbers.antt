@@ -1,6 +1,7 @@
 -- The numbers of the rings in what a call has left.
+use Rattle.std.proofs.lemmas.Grind.{common_steps}
 use Rattle.image_changes.proofs.Sequence.{ring_kept}
-use Rattle.std.proofs.Common.{◌≡◌, ◌+◌, ◌*◌, ◌≤◌, Bool, true, false, List, [], ◌∷◌, ◌++◌, length, refl, ap, subst, arith, ℕ}
+use Rattle.std.proofs.Common.{◌≡◌, ◌+◌, ◌*◌, ◌≤◌, Bool, true, false, List, [], ◌∷◌, ◌++◌, length, refl, ap, arith, ℕ}
 use Rattle.std.specs.Prelude.{Result, Ok, Err, OnOk, Some, ◌≢◌, if◌then◌else◌}
 use Rattle.std.specs.List.{AllByRecursion}
 use Rattle.std.proofs.lemmas.List.{length-append}
@@ -94,8 +95,7 @@ log_skips r g log log' list sealing site new n hi some leaves front count calls 
   where
     masters_kept : (s : Snapshot) → IsReached g (IsFrontOf (changes_if sealing list)) site s → KeepsUnits master_shape site.image s.image
     masters_kept s is =
-        let others : AllByRecursion (λ change. ring_of change ≢ Some Masters) is.changes =
-        all_left (λ change. ring_of change ≢ Some Masters) is.changes is.made.0 (subst (AllByRecursion (λ change. ring_of change ≢ Some Masters)) is.made.1 (seals_only sealing list)) in
+        let others : AllByRecursion (λ change. ring_of change ≢ Some Masters) is.changes = grind (arith, common_steps, all_left, seals_only) in
         ring_kept g Masters is.changes site.image s.image others is.reaches
 
 -- a tail that is sealed was counted before

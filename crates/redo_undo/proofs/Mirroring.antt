@@ -142,9 +142,6 @@ module _ (log log' : LogStore) (pages : PageStore) (before now : State) (below :
   force_performs result stops next used low kept numbers = grind (arith, step, nat_lt, next_is, sealed_next, ltb-false, first_of_one, log_stopped, never_past, mirrors_then, no_error)
 
   -- a record is logged, of so many octets
-  abbrev overflows : ℕ → Bool
-  overflows octets = nat_lt block_len (log.used + octets)
-
   pub logged_performs : (result : Result ℕ Stop) (octets : ℕ) → (nat_lt block_len (log.used + octets) ≡ true → 2 < log.used) → LogStops result log (nat_lt block_len (log.used + octets)) → OnOk result (log'.ring.hi ≡ (if nat_lt block_len (log.used + octets) then log.ring.hi + 1 else log.ring.hi)) →
       OnOk result (log'.used ≡ (if nat_lt block_len (log.used + octets) then 2 else log.used) + octets) → ((number : ℕ) → current pages now.image number ≡ current pages before.image number) → HasNumbersLeft log' pages →
       Performs result (rules pages) (logged octets ∷ []) (Mirrors log pages before.image) (Mirrors log' pages now.image)
