@@ -420,11 +420,13 @@ of_version pages page octets lengths on version lsn each kept = record {
 
 pub put_kept : {S : Type 0} (pages : List Version) (old new : ℕ → ℕ) (before after : IndexMap ℕ PageLengths S) (page : ℕ) (on : PageLengths) → AreKept pages old before → AreOn pages new page on → ((number : ℕ) → (number / 32 ≡ page → ⊥) → new number ≡ old number) →
     ((n : ℕ) → get nat_eq after n ≡ cond (nat_eq page n) (Some on) (get nat_eq before n)) → AreKept pages new after
-put_kept pages old new before after page on kept are others updates = record { each = λ q less. subst (AreKeptOn pages new q) (sym (updates q)) (elim (cases_eq page q) [
-  | inl same ↦ subst (λ (b : Bool). AreKeptOn pages new q (cond b (Some on) (get nat_eq before q))) (sym (eq-eqb page q same)) (subst (λ (n : ℕ). AreOn pages new n on) same are)
-  | inr other ↦ subst (λ (b : Bool). AreKeptOn pages new q (cond b (Some on) (get nat_eq before q))) (sym (ne_eqb page q other))
-      (like q (get nat_eq before q) (λ number here. others number (λ is. other (sym is ∙ here))) (kept.each q less))
-]) } where
+put_kept pages old new before after page on kept are others updates = record {
+  each = λ q less. subst (AreKeptOn pages new q) (sym (updates q)) (elim (cases_eq page q) [
+    | inl same ↦ subst (λ (b : Bool). AreKeptOn pages new q (cond b (Some on) (get nat_eq before q))) (sym (eq-eqb page q same)) (subst (λ (n : ℕ). AreOn pages new n on) same are)
+    | inr other ↦ subst (λ (b : Bool). AreKeptOn pages new q (cond b (Some on) (get nat_eq before q))) (sym (ne_eqb page q other))
+        (like q (get nat_eq before q) (λ number here. others number (λ is. other (sym is ∙ here))) (kept.each q less))
+  ]);
+} where
   like : (q : ℕ) (o : Option PageLengths) → ((number : ℕ) → number / 32 ≡ q → new number ≡ old number) → AreKeptOn pages old q o → AreKeptOn pages new q o
   like q None same of_it = λ number here. of_it number here ∙ sym (same number here)
   like q (Some x) same of_it = record { lsn = of_it.lsn; each = λ number here. of_it.each number here ∙ sym (same number here) }

@@ -1,14 +1,13 @@
 -- The values of a sound page have room in its heap: they overlap nowhere.
-use Rattle.std.proofs.Common.{◌≡◌, inl, inr, ℕ, zero, suc, ◌+◌, ◌-◌, ◌*◌, ◌/◌, ◌%◌, ◌≤◌, ◌<◌, Bool, true, false, true≢false, cond, ◌&&◌, ◌||◌, nat_le, nat_lt, Some, None, List, [], ◌∷◌, refl, sym, ap, ◌∙◌, subst, arith}
+use Rattle.std.proofs.Common.{◌≡◌, inl, inr, ℕ, zero, suc, ◌+◌, ◌-◌, ◌*◌, ◌≤◌, ◌<◌, Bool, true, false, true≢false, cond, ◌&&◌, ◌||◌, nat_le, nat_lt, Some, None, List, [], refl, sym, ap, ◌∙◌, subst, arith}
 use Rattle.std.specs.Prelude.{sum_by}
 use Rattle.std.specs.List.{range_with_len}
 use Rattle.std.proofs.lemmas.Bool.{and_from, and_parts, le-leb, leb-true, lt-ltb, ltb-true}
 use Rattle.std.proofs.lemmas.List.Sums.{sum_by-cons}
 use Rattle.record_model.specs.State.{Content, content_at, page_room}
 use Rattle.record_model.specs.State as model
-use Rattle.log_records.specs.Log.{Version, version_at, slot_at}
 use Rattle.log_records.specs.Room.{total_on}
-use Rattle.slotted_page.specs.Layout.{IsSound, content_length, content_of, length_of, offset_of, slots_of}
+use Rattle.slotted_page.specs.Layout.{IsSound, content_length, length_of, offset_of, slots_of}
 use Rattle.slotted_page.proofs.Lengths.{content_length_of}
 use Rattle.slotted_page.proofs.Slots.{get_or-slots_of}
 

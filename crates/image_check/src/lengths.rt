@@ -120,8 +120,8 @@ impl PageLengths {
     fn raised(&self, slot: usize, length: u16) -> PageLengths
         requires { slot < 32 }
         ensures { result ≡ record {
-            lsn = self.now.lsn;
-            lengths = slice_set self.now.lengths slot (max (slice_index_or self.now.lengths slot 0) length);
+          lsn = self.now.lsn;
+          lengths = slice_set self.now.lengths slot (max (slice_index_or self.now.lengths slot 0) length);
         } }
     {
         self.with(slot, self.lengths[slot].max(length))

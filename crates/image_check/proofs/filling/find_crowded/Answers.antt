@@ -1,18 +1,16 @@
-use Rattle.std.proofs.Common.{◌≡◌, ◌==◌, ◌++◌, ◌∷◌, [], ℕ, List, Ok, true, true≢false, map, nat_eq, reverse, is_none, refl, rules, sym, ap, ◌∙◌, subst}
-use Rattle.std.specs.Prelude.{Option, Some, None, IsTrue}
+use Rattle.std.proofs.Common.{◌≡◌, ◌==◌, ◌++◌, ◌∷◌, [], ℕ, List, true, true≢false, map, nat_eq, reverse, is_none, refl, rules, sym, ap, ◌∙◌, subst}
+use Rattle.std.specs.Prelude.{Some}
 use Rattle.std.specs.List.{AllByRecursion, list_any}
 use Rattle.site.specs.State.{State, Image}
 use Rattle.site.proofs.Working.{looks_then, looks_answered}
 use Rattle.indexmap.specs.IndexMap.{get}
-use Rattle.log_records.specs.declared.log_record.LogRecord.{LogRecord}
 use Rattle.log_records.specs.Log.{Entry}
 use Rattle.log_records.specs.Unfinished.{left_open, losers}
 use Rattle.image_meaning.specs.Meaning.{versions_on}
-use Rattle.image_form.specs.declared.place.Place.{Place}
 use Rattle.image_form.specs.Octets.{AreVersions}
 use Rattle.image_check.specs.declared.chains.Chains.{Chains}
 use Rattle.image_check.specs.declared.unfinished.Left.{Left}
-use Rattle.image_check.specs.Filling.{AreKept, HaveRoom, KeepsOpen, Opens, left_in, opened, put_back_by}
+use Rattle.image_check.specs.Filling.{AreKept, HaveRoom, Opens, left_in, opened, put_back_by}
 use Rattle.image_check.proofs.FilledOnes.{Leaving, leaving_first, leaving_chain, chain_fails, left_room, left_txns, all_listed}
 use Rattle.image_check.proofs.ShownOnes.{versions_later}
 use Rattle.image_check.proofs.Walking.{may_later}

@@ -1,5 +1,5 @@
-use Rattle.std.proofs.Common.{rules, ◌≡◌, ◌+◌, ◌*◌, ◌↔◌, IsTrue, List, Err, [], true, true≢false, sym, ap, ◌∙◌, subst, arith}
-use Rattle.std.specs.Prelude.{Option, Result, Some, IfOk, IfSome, IfNone, is_none, is_ok}
+use Rattle.std.proofs.Common.{rules, ◌≡◌, ◌↔◌, IsTrue, List, [], true≢false, sym, ap, ◌∙◌, subst, arith}
+use Rattle.std.specs.Prelude.{Result, Some, IfOk, IfSome, IfNone, is_none, is_ok}
 use Rattle.site.specs.declared.geometry.Geometry.{Geometry}
 use Rattle.site.specs.State.{State, Image}
 use Rattle.site.proofs.Working.{looks_then, looks_answered, looks_failed}

@@ -1,6 +1,6 @@
 use Rattle.std.proofs.Common.{rules, ◌≡◌, IsTrue, refl, ap, subst, sym, arith}
 use Rattle.std.specs.Prelude.{is_none, ◌↔◌, List}
-use Rattle.site.specs.State.{State, Image}
+use Rattle.site.specs.State.{Image}
 use Rattle.log_records.specs.declared.log_record.LogRecord.{LogRecord}
 use Rattle.log_records.specs.Sound.{commit_count}
 use Rattle.image_form.specs.Verdict.{PagesHaveRoom, logical_image_of, values_of}

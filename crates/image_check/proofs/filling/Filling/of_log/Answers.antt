@@ -1,10 +1,9 @@
-use Rattle.std.proofs.Common.{arith, rules, ◌≡◌, ◌+◌, ◌≤◌, ◌++◌, ◌∷◌, [], ℕ, Ok, Err, true≢false, refl, sym, ap, ◌∙◌, subst}
-use Rattle.std.specs.Prelude.{Option, IfSome, ◌↔◌, IsTrue}
+use Rattle.std.proofs.Common.{arith, rules, ◌≡◌, ◌+◌, ◌≤◌, ◌++◌, ◌∷◌, [], ℕ, Ok, Err, true≢false, refl, sym, ◌∙◌, subst}
+use Rattle.std.specs.Prelude.{IfSome, ◌↔◌, IsTrue}
 use Rattle.std.proofs.lemmas.Result.{err_from_is_err_and}
 use Rattle.site.specs.State.{State, Image}
 use Rattle.site.specs.Work.{OnlyReads}
 use Rattle.site.proofs.Working.{looks_then, looks_answered, looks_failed}
-use Rattle.log_records.specs.declared.log_record.LogRecord.{LogRecord}
 use Rattle.log_records.specs.Log.{Entry, number_of}
 use Rattle.image_meaning.specs.Meaning.{versions_on}
 use Rattle.image_form.specs.Octets.{AreVersions}
@@ -49,7 +48,7 @@ loop-filling-preserved g c =
     let to_now : OnlyReads {T = Unit {0}} (Ok tt) old mid = looks_then tt _ old now mid reads (looks_answered answer tt now mid c.in_ok-lsn.ensures.reads) in
     let same : mid.image ≡ old.image = (to_now.same finds.honest).image in
     let heard = subst (λ (image : Image). HearsLog log (versions_on geometry image) at.front c.loop-filling.filling → HearsLog log (versions_on geometry image) (at.front ++ e ∷ []) c.hear.new.self
-        × (IsTrue c.in-Ok-true.field-0 ↔ FitsAt (versions_on geometry image) (filled (versions_on geometry image) (at.front ++ e ∷ [])) (number_of e.rec))) same
+    × (IsTrue c.in-Ok-true.field-0 ↔ FitsAt (versions_on geometry image) (filled (versions_on geometry image) (at.front ++ e ∷ [])) (number_of e.rec))) same
     (c.in-Ok-true.ensures.heard log at.front (versions_later to_now finds) (subst (AreVersions geometry) (sym same) versions) (record { back = at.back; is = at.is; from = _; to = _; in_order = in_order sees; begun = begun }) left) so_far.heard in
     record {
       heard = heard.0;
@@ -78,7 +77,7 @@ returns-in-Ok-false g c =
     let to_now : OnlyReads {T = Unit {0}} (Ok tt) old mid = looks_then tt _ old now mid reads (looks_answered answer tt now mid c.in_ok-lsn.ensures.reads) in
     let same : mid.image ≡ old.image = (to_now.same finds.honest).image in
     let heard = subst (λ (image : Image). HearsLog log (versions_on geometry image) at.front c.loop-filling.filling → HearsLog log (versions_on geometry image) (at.front ++ e ∷ []) c.hear.new.self
-        × (IsTrue c.in-Ok-false.field-0 ↔ FitsAt (versions_on geometry image) (filled (versions_on geometry image) (at.front ++ e ∷ [])) (number_of e.rec))) same
+    × (IsTrue c.in-Ok-false.field-0 ↔ FitsAt (versions_on geometry image) (filled (versions_on geometry image) (at.front ++ e ∷ [])) (number_of e.rec))) same
     (c.in-Ok-false.ensures.heard log at.front (versions_later to_now finds) (subst (AreVersions geometry) (sym same) versions) (record { back = at.back; is = at.is; from = _; to = _; in_order = in_order sees; begun = begun }) left) so_far.heard in (
       (λ wrong. absurd (true≢false (sym wrong)), λ rule. absurd (true≢false (sym (heard.1.1 (fits_there p _ _ (in_order sees) fit at.front e at.back at.is so_far.rooms rule)) ∙ c.in-Ok-false.field-0-test))),
       tt,

@@ -1,6 +1,5 @@
-use Rattle.std.proofs.Common.{rules, ◌≡◌, ◌%◌, ◌/◌, ◌≤◌, ◌<◌, ◌++◌, ◌∷◌, [], ℕ, Some, None, cond, length, refl, sym, ap, ◌∙◌, subst, arith, slice_set}
-use Rattle.std.specs.Prelude.{Option, nat_lt}
-use Rattle.site.specs.State.{State}
+use Rattle.std.proofs.Common.{rules, ◌≡◌, ◌%◌, ◌/◌, ◌++◌, ◌∷◌, [], ℕ, Some, None, cond, length, refl, sym, ap, ◌∙◌, subst, slice_set}
+use Rattle.std.specs.Prelude.{nat_lt}
 use Rattle.log_records.specs.Log.{Entry, number_of}
 use Rattle.image_meaning.specs.Meaning.{versions_on}
 use Rattle.image_form.proofs.FirstRule.{answers_as}

@@ -1,6 +1,5 @@
-use Rattle.std.proofs.Common.{rules, ◌≡◌, ◌%◌, ◌/◌, ◌≤◌, ◌<◌, ◌++◌, ◌∷◌, [], ℕ, Some, None, length, refl, sym, ap, ◌∙◌, subst, arith, slice_index_or, slice_set}
-use Rattle.std.specs.Prelude.{Option, max}
-use Rattle.site.specs.State.{State}
+use Rattle.std.proofs.Common.{rules, ◌≡◌, ◌%◌, ◌/◌, ◌++◌, ◌∷◌, [], ℕ, Some, None, length, refl, sym, ap, ◌∙◌, subst, slice_index_or, slice_set}
+use Rattle.std.specs.Prelude.{max}
 use Rattle.log_records.specs.Log.{number_of}
 use Rattle.image_meaning.specs.Meaning.{versions_on}
 use Rattle.image_form.proofs.FirstRule.{answers_as}
