@@ -62,12 +62,6 @@ calls_behind {r = r} {before = before} {between = between} {now = now} goes same
   faults = second.faults ∙ ap (λ (f : Faults). after_work r f) faults;
 }
 
--- Log and pages, on every site.
-
--- a call that stops is a call of any number of records
-pub works_sooner : {T : Type 0} {stop : Stop} {old new : TransactionStore} {before now : Site} {n : ℕ} (k : ℕ) → KeepsInvariant {T = T} (Err stop) old new before now n → KeepsInvariant {T = T} (Err stop) old new before now k
-works_sooner k first = record { calls = first.calls; going = tt; made = tt; blocks = tt; rises = tt; kept = first.kept; sizes = first.sizes; stops = first.stops; next = first.next }
-
 -- How a call ends on an honest site.
 
 -- a call behind one that left the table

@@ -13,7 +13,8 @@ use Rattle.log_records.specs.Unfinished.{owed}
 use Rattle.lock_table.specs.declared.lock.Lock.{Lock}
 use Rattle.txn_table.specs.declared.active.Active.{Active}
 use Rattle.redo_undo.specs.declared.store.TransactionStore.{TransactionStore}
-use Rattle.engine.specs.PageTests.{FootprintsAre, footprints_of}
+use Rattle.engine.specs.PageTests.{AreLocked, FootprintsAre, footprints_of}
+use Rattle.footprints.specs.Longest.{lengths_on}
 use Rattle.footprints.specs.declared.footprint.Footprint.{Footprint}
 use Rattle.engine.specs.declared.engine.Engine.{Engine}
 use Rattle.engine.specs.declared.restart.Restarted.{Restarted}
@@ -50,13 +51,17 @@ unlocked s is = record {
   reads = λ n r. sym (ap (λ (o : Option Session). list_any (λ read. read == r) (reads_of o)) (nobody n s.sessions is));
 }
 
+no_prints : (len n : ℕ) → slice_index_or {A = List Footprint} (replicate len []) n [] ≡ []
+no_prints zero n = refl
+no_prints (suc len) zero = refl
+no_prints (suc len) (suc n) = no_prints len n
+
 untold : (s : State) → s.sessions ≡ replicate 8 None → FootprintsAre (replicate 8 []) s
-untold s is n = empty 8 n ∙ sym (ap (λ (o : Option Session). footprints_of s.table [] (writes_of o)) (nobody n s.sessions is))
-  where
-    empty : (len n : ℕ) → slice_index_or {A = List Footprint} (replicate len []) n [] ≡ []
-    empty zero n = refl
-    empty (suc len) zero = refl
-    empty (suc len) (suc n) = empty len n
+untold s is n = no_prints 8 n ∙ sym (ap (λ (o : Option Session). footprints_of s.table [] (writes_of o)) (nobody n s.sessions is))
+
+-- on every site: without footprints nothing need be locked
+pub unheld : AreLocked (replicate 8 []) []
+unheld = record { eight = refl; locked = λ n r none. ap (lengths_on r) (no_prints 8 n) }
 
 -- the database stands for the state that the run opens with
 pub started : (g : Geometry) (image : Image) (site : Site) (s : State) (restarted : Restarted) (engine : Engine) → IsTrue site.honest → (opening : Opens g image s) → RestartedAs restarted site s.table s.commits → restarted.blocks ≡ g.blocks →

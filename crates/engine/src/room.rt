@@ -112,7 +112,8 @@ impl Engine {
         requires number { number < 32 * (sizes_of self.now.store).pages }
         requires front { IsInFront self.now.store number }
         requires short { IsShort after.now }
-        ensures answers { (s : State) (site : Site) → Matches self.now site s → result ≡ Ok (full_for s number after.now) }
+        ensures answers { (s : State) (site : Site) → Matches self.now site s
+            → result ≡ Ok (full_for s number after.now) }
         ensures room { IfOk result (λ refused. IfNone refused
             (FitsFront self.now.store.pages (number % 32) after.now)) }
         ensures stops { IfErr result (λ stop. stop ≡ Stop.Foreign) }

@@ -2,7 +2,7 @@ use Rattle.engine.specs.LogReads.{undo_reads}
 use Rattle.record_model.specs.State.{Session, writes_of}
 use Rattle.record_model.specs.Touches.{write_touch, CacheOp}
 use Rattle.redo_laws.proofs.Asking.{asks_same, asks_ok, asks_err}
-use Rattle.std.proofs.Common.{refl, sym, arith, ap, Option, Some, List, map, reverse, length}
+use Rattle.std.proofs.Common.{rules, refl, sym, arith, ap, Option, Some, List, map, reverse, length}
 use Rattle.site.proofs.Laws.{stays_honest}
 use Rattle.engine.specs.declared.engine.Engine.{Engine}
 use Rattle.txn_table.proofs.Owing.{owes, entry_is}
@@ -12,8 +12,9 @@ use Rattle.engine.proofs.Undoing.{abort_is}
 use Rattle.engine.proofs.Updated.{updated_count}
 use Rattle.log_records.specs.Log.{entries_of}
 use Rattle.ring_machine.proofs.Performing.{performs_answered, performs_as, performs_failed}
-use Rattle.engine.proofs.Calling.{does_of}
-use Rattle.redo_undo.proofs.StoreCalling.{keeps_answered, keeps_failed}
+use Rattle.engine.proofs.Calling.{does_of, serves_of}
+use Rattle.engine.proofs.FootprintChanges.{locked_ended}
+use Rattle.redo_undo.proofs.StoreCalling.{keeps_answered, keeps_failed, works_answered}
 use Rattle.engine.proofs.engine.Engine.carry_out_abort.Goals as goal
 
 pub roll_back-requires-clause-few : goal.roll_back-requires-clause-few
@@ -89,3 +90,24 @@ pub returns-in-Err-clause-performs : goal.returns-in-Err-clause-performs
 returns-in-Err-clause-performs g c s fits =
     let found = some_active fits.newest fits.records c.args.self.now.active s fits.sessions c.args.entry.session c.args.entry c.requires.active in
     performs_failed (performs_as (abort_is c.args.self.now (g.S.Site.state c.args.site.now) s c.args.entry fits c.requires.active) (c.in-Err.ensures.performs fits.newest fits.records s.table s.commits fits.holds found.session.writes found.under_way.is_active))
+
+pub end-requires : goal.end-requires
+end-requires g c = (entry_is c.args.self.now.active c.args.entry.session c.args.entry c.requires.going.table c.requires.active).small
+
+pub returns-in-Ok-clause-serves : goal.returns-in-Ok-clause-serves
+returns-in-Ok-clause-serves g c =
+    let small = (entry_is c.args.self.now.active c.args.entry.session c.args.entry c.requires.going.table c.requires.active).small in
+    serves_of (works_answered c.in-Ok.ensures.works) (record {
+      footprints = locked_ended c.args.self.now.footprints _ c.args.self.now.locks _ c.args.entry.session small c.release.ensures c.end.ensures.gone c.requires.going.footprints;
+      store = search rules;
+      going = search rules;
+      cap = search rules;
+      table = search rules;
+      room = search rules;
+      since = search rules;
+      bounded = search rules;
+      budget = search rules;
+      commits = search rules;
+      lasts = search rules;
+      differ = search rules;
+    })

@@ -108,3 +108,6 @@ returns-in-Ok-clause-serves g c =
     let before = going.lasts entry.session entry c.requires.active in
     let last = c.in-Ok.ensures.last in
     serves_of (works_answered works) (still_going entry.session (entry.writes - c.args.stays) entry (after_undone entry (entry.writes - c.args.stays) c.in-Ok.last) going c.requires.active c.undone.ensures.entry c.undone.ensures.table refl refl (omega (arith, before.0, last.0)) last.1 c.undone.ensures.owed works.going works.sizes works.kept works.made works.blocks works.rises refl refl refl (locked_back c.args.self.now.footprints _ _ _ _ c.take_back.ensures going.footprints))
+
+pub take_back-requires-clause-session : goal.take_back-requires-clause-session
+take_back-requires-clause-session g c = (entry_is c.args.self.now.active c.args.entry.session c.args.entry c.requires.going.table c.requires.active).small

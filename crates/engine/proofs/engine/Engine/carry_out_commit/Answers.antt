@@ -1,9 +1,12 @@
-use Rattle.std.proofs.Common.{refl, arith}
+use Rattle.std.proofs.Common.{rules, refl, arith, subst, sym}
 use Rattle.site.proofs.Laws.{stays_honest}
-use Rattle.txn_table.proofs.Owing.{owes}
+use Rattle.txn_table.proofs.Owing.{entry_is, owes}
 use Rattle.engine.proofs.Commits.{may_commit, commits_either, committed_fits}
-use Rattle.engine.proofs.Calling.{does_of}
-use Rattle.redo_undo.proofs.StoreCalling.{keeps_failed, keeps_weaker}
+use Rattle.engine.specs.declared.engine.Engine.{Engine}
+use Rattle.engine.specs.PageTests.{AreLocked}
+use Rattle.engine.proofs.Calling.{does_of, serves_of}
+use Rattle.engine.proofs.FootprintChanges.{locked_ended}
+use Rattle.redo_undo.proofs.StoreCalling.{keeps_failed, keeps_weaker, works_answered}
 use Rattle.engine.proofs.engine.Engine.carry_out_commit.Goals as goal
 
 pub seal_commit-requires-clause-may : goal.seal_commit-requires-clause-may
@@ -27,3 +30,29 @@ returns-in-Ok-clause-performs g c s fits = c.in-Ok.ensures.performs fits.newest 
 
 pub returns-in-Err-clause-performs : goal.returns-in-Err-clause-performs
 returns-in-Err-clause-performs g c s fits = c.in-Err.ensures.performs fits.newest fits.records s.table s.commits fits.holds
+
+pub end-requires : goal.end-requires
+end-requires g c = (entry_is c.args.self.now.active c.args.entry.session c.args.entry c.requires.going.table c.requires.active).small
+
+pub returns-in-Ok-clause-serves : goal.returns-in-Ok-clause-serves
+returns-in-Ok-clause-serves g c =
+    let small = (entry_is c.args.self.now.active c.args.entry.session c.args.entry c.requires.going.table c.requires.active).small in
+    let same = c.seal_commit.ensures.rest in
+    record {
+      log_reads = c.seal_commit.ensures.log_reads;
+      keeps = serves_of (works_answered c.in-Ok.ensures.works) (record {
+        footprints = locked_ended c.seal_commit.new.self.footprints _ c.seal_commit.new.self.locks _ c.args.entry.session small c.release.ensures c.end.ensures.gone
+            (subst (λ (x : Engine). AreLocked x.footprints x.locks) (sym same) c.requires.going.footprints);
+        store = search rules;
+        going = search rules;
+        cap = search rules;
+        table = search rules;
+        room = search rules;
+        since = search rules;
+        bounded = search rules;
+        budget = search rules;
+        commits = search rules;
+        lasts = search rules;
+        differ = search rules;
+      });
+    }

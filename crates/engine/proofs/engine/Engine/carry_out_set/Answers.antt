@@ -201,13 +201,10 @@ returns-in-Err-begin g c =
     record {
       answers = λ s fits.
           let is = sym (model_is s c.args.number c.args.value.now _ c.value_of-after.ensures (c.in-Ok-test_page.ensures.answers s (touched g at) (fits_mid g at s fits))) ∙ c.in_default.is in
-          record {
-            reply = tt;
-            asks = sets_either s c.args.number c.args.value.now (asks_err c.in-Err-begin.stop (one_touch (c.args.number / 32)) _ _ _ _ (asks_then c.in-Ok.field-0 _ (one_touch (c.args.number / 32)) [] _ _ _ _ _ _ c.in-Ok.ensures.asks c.in-Err-begin.ensures.asks))
-                (change_stopped c.in-Err-begin.stop (c.args.number / 32) _ _ _ _ (has_group c.requires.going) (asks_then c.in-Ok.field-0 _ (one_touch (c.args.number / 32)) [] _ _ _ _ _ _ c.in-Ok.ensures.asks c.in-Err-begin.ensures.asks)) (wants_page_room s c.args.number c.args.value.now);
-            does = does_of (let more = none_fewer s c.args.number c.args.value.now (wants_page_room s c.args.number c.args.value.now) in omega (arith, more)) tt
-                (keeps_weaker (early (sizes_of c.args.self.now.store) s _ _) (keeps_failed (keeps_both fits.honest c.in-Ok.ensures.works (c.in-Ok.ensures.keeps fits.newest fits.records s.table s.commits fits.holds) (c.in-Err-begin.ensures.keeps fits.newest fits.records s.table s.commits (held g at s fits)))));
-          };
+          set_written s c.args.number c.args.value.now (wants_page_room s c.args.number c.args.value.now) is c.value_of-after.ensures tt
+          (change_stopped c.in-Err-begin.stop (c.args.number / 32) _ _ _ _ (has_group c.requires.going) (asks_then c.in-Ok.field-0 _ (one_touch (c.args.number / 32)) [] _ _ _ _ _ _ c.in-Ok.ensures.asks c.in-Err-begin.ensures.asks))
+          (does_of (omega arith) tt
+          (keeps_weaker (early (sizes_of c.args.self.now.store) s _ _) (keeps_failed (keeps_both fits.honest c.in-Ok.ensures.works (c.in-Ok.ensures.keeps fits.newest fits.records s.table s.commits fits.holds) (c.in-Err-begin.ensures.keeps fits.newest fits.records s.table s.commits (held g at s fits))))));
       performs = λ s fits.
           let is = sym (model_is s c.args.number c.args.value.now _ c.value_of-after.ensures (c.in-Ok-test_page.ensures.answers s (touched g at) (fits_mid g at s fits))) ∙ c.in_default.is in
           performs_as (ap (work_by s (Set c.args.number c.args.value.now)) is)

@@ -3,7 +3,7 @@ use Rattle.std.proofs.Common.{◌∙◌, refl, ap, rules}
 use Rattle.site.proofs.Laws.{stays_honest}
 use Rattle.site.specs.declared.geometry.Geometry.{Geometry}
 use Rattle.redo_laws.proofs.Endings.{ends_failed, ends_answered, ends_no_memory}
-use Rattle.engine.proofs.Starts.{started}
+use Rattle.engine.proofs.Starts.{started, unheld}
 use Rattle.engine.proofs.RestartedUnits.{next_as, next_at_end, next_no_memory}
 use Rattle.engine.proofs.RingCounts.{restart_again, restart_stopped, restart_answered}
 use Rattle.ring_machine.proofs.Performing.{performs_answered, performs_failed, performs_refused}
@@ -58,3 +58,19 @@ returns-in-Err-new-clause-performs g c honest k newest blocks sound = performs_r
 
 pub returns-clause-performs : goal.returns-clause-performs
 returns-clause-performs g c honest k newest blocks sound = performs_answered (c.in-Ok.ensures.performs honest k newest blocks sound)
+
+pub returns-clause-going : goal.returns-clause-going
+returns-clause-going g c = record {
+  footprints = unheld;
+  store = search rules;
+  going = search rules;
+  cap = search rules;
+  table = search rules;
+  room = search rules;
+  since = search rules;
+  bounded = search rules;
+  budget = search rules;
+  commits = search rules;
+  lasts = search rules;
+  differ = search rules;
+}
