@@ -86,13 +86,6 @@ popped_is old new is = ap reverse is ∙ by (reverse old) (sym (reverse-reverse 
 
 -- What a record has to say.
 
-pub links_update : (t : ℕ) (c : Chain) (rest : List Entry) (lsn : ℕ) (rec : LogRecord) → is_update rec ≡ true → prev_of rec ≡ c.last → IsKept t c rest → Links (begin_at t ∷ rest) (record { lsn = lsn; rec = rec })
-links_update t c rest lsn (Update txn prev page slot before after) is linked k = record { linked = linked ∙ k.last; undoes = tt }
-links_update t c rest lsn Begin is linked k = absurd (true≢false (sym is))
-links_update t c rest lsn (Clr txn prev undo_next page slot after) is linked k = absurd (true≢false (sym is))
-links_update t c rest lsn (Commit txn n) is linked k = absurd (true≢false (sym is))
-links_update t c rest lsn (End txn) is linked k = absurd (true≢false (sym is))
-
 -- what is left are Updates
 pub open_are_updates : (us entries : List Entry) → AllByRecursion (λ u. is_update u.rec ≡ true) us → AllByRecursion (λ u. is_update u.rec ≡ true) (open_updates us entries)
 open_are_updates us [] all = all
@@ -120,14 +113,6 @@ clr_undoes (u ∷ us) Begin w more test is all own says = absurd (true≢false (
 clr_undoes (u ∷ us) (Update txn prev page slot before after) w more test is all own says = absurd (true≢false (sym own))
 clr_undoes (u ∷ us) (Commit txn number) w more test is all own says = absurd (true≢false (sym own))
 clr_undoes (u ∷ us) (End txn) w more test is all own says = absurd (true≢false (sym own))
-
-pub none_undone : (us : List Entry) (clr : LogRecord) → [] ≡ map kept_of us → is_clr clr ≡ true → Undoes us clr → ⊥
-none_undone [] (Clr txn prev undo_next page slot after) is own undoes = undoes
-none_undone [] Begin is own undoes = undoes
-none_undone [] (Update txn prev page slot before after) is own undoes = true≢false (sym own)
-none_undone [] (Commit txn number) is own undoes = undoes
-none_undone [] (End txn) is own undoes = undoes
-none_undone (u ∷ us) clr is own undoes = let e = ap length is in omega (arith, e)
 
 pub last_first : (items : List Pending) (w : Pending) → 0 < length items → w ≡ get_or items (length items - 1) w → reverse items ≡ w ∷ drop 1 (reverse items)
 last_first items w some is = by (reverse items) (sym (reverse-reverse items))

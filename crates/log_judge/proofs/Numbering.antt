@@ -207,29 +207,3 @@ numbered p n heard fit =
   where
     first_is : n.first + n.early ≡ p.master.commits + 1 → n.first ≡ p.master.commits + 1 - length (commit_numbers (before_block p.master.redo p.log))
     first_is some = let early = heard.early in omega (arith, early, some)
-
-pub fits : (p : LogicalImage) (n : Numbers) → Heard p.master.redo n p.log → AreNumbered p → Fit n.first n.early n.late p.master.commits p.hi
-fits p n heard are =
-    let k : ℕ = n.early + n.late in
-    let before : ℕ = length (commit_numbers (before_block p.master.redo p.log)) in
-    let early = heard.early in
-    let late = heard.late in
-    let room = are.fit in
-    let few = are.before_redo in
-    let size : length (commit_numbers p.log) ≡ k = ap length heard.run_on ∙ length-range_with_len n.first k in
-    record {
-      run_on = elim (cases_eq k 0) [
-        | inl none ↦ inl none
-        | inr some ↦
-            let first : n.first + 0 ≡ (p.master.commits + 1 - before) + 0 =
-            sym (get_or-range_with_len n.first k 0 0 (omega (arith, some)))
-            ∙ ap (λ (l : List ℕ). get_or l 0 0) (sym heard.run_on ∙ are.run_on)
-            ∙ get_or-range_with_len (p.master.commits + 1 - before) (length (commit_numbers p.log)) 0 0 (omega (arith, size, some)) in
-            inr (omega (arith, first, early, few))
-      ];
-      room = omega (arith, late, room);
-    }
-
--- and so many were made
-pub counted_all : (p : LogicalImage) (n : Numbers) → Heard p.master.redo n p.log → p.master.commits + n.late ≡ commit_count p
-counted_all p n heard = ap (λ (k : ℕ). p.master.commits + k) heard.late

@@ -35,7 +35,8 @@ pub record IsKept (t : ℕ) (c : Chain) (rest : List Entry) : Type 0 where
 
 -- what is known of an unfinished transaction with these records: its chain, or that they aren't linked
 abbrev pub Knows : ℕ → Option Chain → Bool → List Entry → Type 0
-Knows t (Some c) broken entries = (broken ≡ false) × (entries ≡ begin_at t ∷ drop 1 entries) × IsKept t c (drop 1 entries)
+Knows t (Some c) broken entries = (broken ≡ false) × (entries ≡ begin_at t ∷ drop 1 entries)
+    × IsKept t c (drop 1 entries)
 Knows t None broken entries = (broken ≡ true) × (IsLinked t entries → ⊥)
 
 -- so it is of each one, and nothing is known of others

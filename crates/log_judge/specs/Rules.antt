@@ -4,7 +4,8 @@ use Rattle.std.specs.List.{AllByRecursion}
 use Rattle.log_records.specs.declared.log_record.LogRecord.TheVariants.{Begin}
 use Rattle.log_records.specs.Log.{Entry, entries_of, is_closed}
 use Rattle.log_records.specs.Unfinished.{prev_of, open_updates}
-use Rattle.log_records.specs.Sound.{LogicalImage, InTurn, IsInTable, IsOfOpenTransaction, HaveBegunBefore, Undoes, last_lsn}
+use Rattle.log_records.specs.Sound.{LogicalImage, InTurn, IsInTable, IsOfOpenTransaction, HaveBegunBefore}
+use Rattle.log_records.specs.Sound.{Undoes, last_lsn}
 use Rattle.log_records.specs.Sound.{active_in, before_block, is_known, AreNumbered}
 
 -- A record of a transaction names the one before it, and is an Update, or a CLR of the last Update that is left.

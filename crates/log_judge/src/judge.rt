@@ -1,5 +1,6 @@
 // The rules that records are judged by, all together.
-ghost use Rattle.std.specs.Prelude.{◌≡◌, ◌⊎◌, ◌↔◌, ◌+◌, ◌*◌, ◌^◌, ◌<◌, ◌≤◌, ◌++◌, ◌∷◌, [], ℕ, List, length, false, IsTrue};
+ghost use Rattle.std.specs.Prelude.{◌≡◌, ◌⊎◌, ◌↔◌, ◌+◌, ◌*◌, ◌^◌, ◌<◌, ◌≤◌, ◌++◌, ◌∷◌, [], ℕ, List};
+ghost use Rattle.std.specs.Prelude.{length, false, IsTrue};
 ghost use Rattle.std.specs.Prelude.{IfOk, OnOk, IfErr, IsErrOf, IfSome, IfNone};
 ghost use Rattle.site.specs.declared.outside.Stop.{Stop};
 ghost use Rattle.log_records.specs.Spelling.{HasForm};
@@ -104,7 +105,8 @@ impl Judge {
     // Whether the master names the transactions that were active before the redo block, where this record is the first
     // from there on.
     fn reaches(&self, master: &Master, lsn: u64) -> bool
-        ensures named { (p : LogicalImage) (records : List Entry) → p.master ≡ seen master.now → HasHeard p records self.now
+        ensures named { (p : LogicalImage) (records : List Entry) → p.master ≡ seen master.now
+            → HasHeard p records self.now
             → 512 * p.master.redo ≤ lsn → result ≡ false
             → (p.master.active ≡ active_in (before_block p.master.redo records) → ⊥) }
         ensures early { (p : LogicalImage) → p.master ≡ seen master.now → lsn < 512 * p.master.redo
@@ -158,8 +160,8 @@ impl Judge {
         self.early.hear(lsn, rec)
     }
 
-    /// Hears the next record, of a log whose records stand in order. It is Foreign exactly where this log can't keep the
-    /// rules, whatever stands behind the record. After an error the judge is ended.
+    /// Hears the next record, of a log whose records stand in order. It is Foreign exactly where this log can't keep
+    /// the rules, whatever stands behind the record. After an error the judge is ended.
     pub fn hear(&mut self, master: &Master, lsn: u64, rec: &LogRecord) -> Result<(), Stop>
         requires form { HasForm rec.now }
         ensures sizes { self.new.sizes ≡ self.old.sizes }

@@ -319,8 +319,8 @@ fn judge_of(alloc: Global, log: &LogStore, master: &Master) -> Result<Judge, Sto
     Judge::start(alloc, master, sizes)
 }
 
-/// Analysis and redo of a restart: the log is read once, from its kept block on. Its records are judged as they are read:
-/// where one breaks a rule, or all of them do, it answers Foreign. Analysis hears of each record from the
+/// Analysis and redo of a restart: the log is read once, from its kept block on. Its records are judged as they are
+/// read: where one breaks a rule, or all of them do, it answers Foreign. Analysis hears of each record from the
 /// master's redo block on, and of those of the transactions that the master names; from the redo block on each Update
 /// and each CLR is redone where its page has a smaller LSN. Where the log's content isn't of the form, or a record is
 /// on a page that doesn't exist or has no room for it, it answers Foreign.
