@@ -14,7 +14,7 @@ use Rattle.lock_table.specs.declared.lock.Lock.{Lock}
 use Rattle.txn_table.specs.declared.active.Active.{Active}
 use Rattle.redo_undo.specs.declared.store.TransactionStore.{TransactionStore}
 use Rattle.engine.specs.PageTests.{AreLocked, FootprintsAre, footprints_of}
-use Rattle.footprints.specs.Longest.{lengths_on}
+use Rattle.footprints.specs.Longest.{lengths_on, of_session}
 use Rattle.footprints.specs.declared.footprint.Footprint.{Footprint}
 use Rattle.engine.specs.declared.engine.Engine.{Engine}
 use Rattle.engine.specs.declared.restart.Restarted.{Restarted}
@@ -60,8 +60,8 @@ untold : (s : State) → s.sessions ≡ replicate 8 None → FootprintsAre (repl
 untold s is n = no_prints 8 n ∙ sym (ap (λ (o : Option Session). footprints_of s.table [] (writes_of o)) (nobody n s.sessions is))
 
 -- on every site: without footprints nothing need be locked
-pub unheld : AreLocked (replicate 8 []) []
-unheld = record { eight = refl; locked = λ n r none. ap (lengths_on r) (no_prints 8 n) }
+pub unheld : (standing : List (List Footprint)) (held : List Lock) → standing ≡ replicate 8 [] → AreLocked standing held
+unheld standing held is = record { eight = ap length is; locked = λ n r none. ap (λ l. lengths_on r (of_session l n)) is ∙ ap (lengths_on r) (no_prints 8 n) }
 
 -- the database stands for the state that the run opens with
 pub started : (g : Geometry) (image : Image) (site : Site) (s : State) (restarted : Restarted) (engine : Engine) → IsTrue site.honest → (opening : Opens g image s) → RestartedAs restarted site s.table s.commits → restarted.blocks ≡ g.blocks →

@@ -6,7 +6,7 @@ use Rattle.std.proofs.Common.{rules, refl, sym, arith, ap, Option, Some, List, m
 use Rattle.site.proofs.Laws.{stays_honest}
 use Rattle.engine.specs.declared.engine.Engine.{Engine}
 use Rattle.txn_table.proofs.Owing.{owes, entry_is}
-use Rattle.engine.proofs.Actives.{some_active}
+use Rattle.engine.proofs.Actives.{ended_was, some_active}
 use Rattle.engine.proofs.Aborts.{aborted_fits}
 use Rattle.engine.proofs.Undoing.{abort_is}
 use Rattle.engine.proofs.Updated.{updated_count}
@@ -108,6 +108,6 @@ returns-in-Ok-clause-serves g c =
       bounded = search rules;
       budget = search rules;
       commits = search rules;
-      lasts = search rules;
-      differ = search rules;
+      lasts = λ m other at. let before = c.requires.going.lasts m other (ended_was _ _ c.args.entry.session c.remove.ensures.entry m other at) in (before.0, omega (arith, before.1, c.in-Ok.ensures.works.rises));
+      differ = λ n m a b at_n at_m. c.requires.going.differ n m a b (ended_was _ _ c.args.entry.session c.remove.ensures.entry n a at_n) (ended_was _ _ c.args.entry.session c.remove.ensures.entry m b at_m);
     })

@@ -1,4 +1,7 @@
-use Rattle.std.proofs.Common.{rules, refl, arith, subst, sym}
+use Rattle.std.proofs.Common.{◌≡◌, ◌∙◌, ℕ, Some, ap, rules, refl, arith, subst, sym}
+use Rattle.txn_table.specs.declared.active.Active.{Active}
+use Rattle.txn_table.specs.Entries.{entry_of}
+use Rattle.engine.proofs.Actives.{ended_was}
 use Rattle.site.proofs.Laws.{stays_honest}
 use Rattle.txn_table.proofs.Owing.{entry_is, owes}
 use Rattle.engine.proofs.Commits.{may_commit, commits_either, committed_fits}
@@ -38,6 +41,8 @@ pub returns-in-Ok-clause-serves : goal.returns-in-Ok-clause-serves
 returns-in-Ok-clause-serves g c =
     let small = (entry_is c.args.self.now.active c.args.entry.session c.args.entry c.requires.going.table c.requires.active).small in
     let same = c.seal_commit.ensures.rest in
+    let was : (m : ℕ) (a : Active) → entry_of c.remove.new.active m ≡ Some a → entry_of c.args.self.now.active m ≡ Some a =
+    λ m a at. sym (ap (λ (x : Engine). entry_of x.active m) same) ∙ ended_was _ _ c.args.entry.session c.remove.ensures.entry m a at in
     record {
       log_reads = c.seal_commit.ensures.log_reads;
       keeps = serves_of (works_answered c.in-Ok.ensures.works) (record {
@@ -52,7 +57,7 @@ returns-in-Ok-clause-serves g c =
         bounded = search rules;
         budget = search rules;
         commits = search rules;
-        lasts = search rules;
-        differ = search rules;
+        lasts = λ m other at. let before = c.requires.going.lasts m other (was m other at) in (before.0, omega (arith, before.1, c.in-Ok.ensures.works.rises));
+        differ = λ n m a b at_n at_m. c.requires.going.differ n m a b (was n a at_n) (was m b at_m);
       });
     }

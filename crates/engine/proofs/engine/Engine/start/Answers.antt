@@ -61,7 +61,7 @@ returns-clause-performs g c honest k newest blocks sound = performs_answered (c.
 
 pub returns-clause-going : goal.returns-clause-going
 returns-clause-going g c = record {
-  footprints = unheld;
+  footprints = unheld _ _ (search rules);
   store = search rules;
   going = search rules;
   cap = search rules;
