@@ -1,3 +1,4 @@
-mod Numbered
-mod Lined
+pub mod Numbered
+pub mod Lined
 mod StreamRows
+mod Following

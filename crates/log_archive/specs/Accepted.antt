@@ -120,13 +120,13 @@ abbrev pub after_entries : ℕ → List Entry → Stream → Option Stream
 after_entries pages [] s = Some s
 after_entries pages (e ∷ entries) s = option_and_then (after_entries pages entries) (after_record pages e.lsn e.rec s)
 
-abbrev pub with_next : Stream → Option Stream
-with_next s = Some (record s { next = s.next + 1 })
+abbrev pub with_next : ℕ → Stream → Option Stream
+with_next number s = Some (record s { next = number })
 
 -- behind a whole block: all of its records follow, or it is refused
 abbrev pub after_block : ℕ → List LogRecord → Stream → Option Stream
 after_block pages records s =
-    option_and_then with_next (after_entries pages (entries_from (512 * s.next + 2) records) s)
+    option_and_then (with_next (s.next + 1)) (after_entries pages (entries_from (512 * s.next + 2) records) s)
 
 -- behind a line: that of the next block, with records that follow, or an end line with its number
 abbrev pub AfterLine : ℕ → List ℕ → Stream → Stream → Type 0
