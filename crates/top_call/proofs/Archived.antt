@@ -24,6 +24,15 @@ first_archived status old new fails others = record { after = fails.after; first
     by (inr (inr (inr (inr (inl is))))) = inr (inr (inr (λ e. omega (arith, is, e), λ e. omega (arith, is, e), λ e. omega (arith, is, e), fails.none (inr (inr (inl is))))))
     by (inr (inr (inr (inr (inr is))))) = inr (inr (inr (λ e. omega (arith, is, e), λ e. omega (arith, is, e), λ e. omega (arith, is, e), fails.none (inr (inr (inr is))))))
 
+-- none of its statuses is that of wrong words
+pub not_two : (status : ℕ) → Others status → status ≡ 2 → ⊥
+not_two status (inl is) two = omega (arith, is, two)
+not_two status (inr (inl is)) two = omega (arith, is, two)
+not_two status (inr (inr (inl is))) two = omega (arith, is, two)
+not_two status (inr (inr (inr (inl is)))) two = omega (arith, is, two)
+not_two status (inr (inr (inr (inr (inl is))))) two = omega (arith, is, two)
+not_two status (inr (inr (inr (inr (inr is))))) two = omega (arith, is, two)
+
 pub lacked_archive : (from status : ℕ) (old new : State) → LacksMemory status old new → ArchiveContract from old new status
 lacked_archive from status old new l =
     let is : status ≡ 4 = l.0 in
