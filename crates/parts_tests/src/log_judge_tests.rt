@@ -1,6 +1,6 @@
 // Logs judged record by record. What is expected was worked out by hand. A test is a row of a table, which one function
 // plays.
-ghost use Rattle.std.specs.Prelude.{◌≡◌, ◌≤◌, ◌^◌, IfOk};
+ghost use Rattle.std.specs.Prelude.{◌≡◌};
 ghost use Rattle.log_records.specs.Spelling.{HasForm};
 
 use checkpoint::{Master, Pairs};
@@ -31,8 +31,8 @@ enum Outcome {
     Kept,
 }
 
-// A log of 3 blocks of a table of 2 pages, with room for 16 blocks: by the master's redo block, its oldest kept one, its
-// commits and a transaction that it names, with its last record, 0 for none.
+// A log of 3 blocks of a table of 2 pages, with room for 16 blocks: by the master's redo block, its oldest kept one,
+// its commits and a transaction that it names, with its last record, 0 for none.
 #[derive(Clone, Copy)]
 struct Log {
     redo: u64,
