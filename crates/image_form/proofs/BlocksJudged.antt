@@ -1,4 +1,5 @@
 -- What was read of one block, and of all.
+use Rattle.std.proofs.lemmas.Grind.{common_steps}
 use Rattle.std.proofs.Common.{◌≡◌, inl, inr, ℕ, ◌+◌, ◌-◌, ◌≤◌, ◌<◌, List, sym, ap, ◌∙◌, subst, arith}
 use Rattle.std.proofs.lemmas.Bool.{cases_eq}
 use Rattle.site.specs.State.{State, Image}
@@ -15,11 +16,7 @@ use Rattle.std.proofs.Common.{refl}
 use Rattle.sealed_ring.proofs.Stays.{usable_later}
 
 pub finds_later : (store : LogStore) (a b : State) → Preserves a b → b.image ≡ a.image → Finds store a → Finds store b
-finds_later store a b goes same finds = record {
-  honest = stays_honest a b goes finds.honest;
-  form = subst (λ (image : Image). IsRing (log_shape store.geometry) image.log) (sym same) finds.form;
-  hi = finds.hi ∙ ap (λ (image : Image). hi_of (log_shape store.geometry) image.log) (sym same);
-}
+finds_later store a b goes same finds = grind (arith, common_steps, stays_honest)
 
 pub going_later : (store : LogStore) (a b : State) → Preserves a b → Invariant store a → Invariant store b
 going_later store a b goes going =
