@@ -10,7 +10,7 @@ use Rattle.indexmap.specs.IndexMap.{IndexMap, get}
 use Rattle.record_model.specs.State.{Content}
 use Rattle.log_records.specs.declared.log_record.LogRecord.{LogRecord}
 use Rattle.log_records.specs.declared.log_record.LogRecord.TheVariants.{Begin, Update, Clr, Commit, End}
-use Rattle.log_records.specs.Log.{Entry, is_of, is_update, entries_of, number_of, is_number, before_of, after_of, last_on}
+use Rattle.log_records.specs.Log.{Entry, is_of, is_update, entries_of, number_of, before_of, after_of, last_on}
 use Rattle.log_records.specs.Unfinished.{is_clr, prev_of, open_by, open_updates}
 use Rattle.log_records.specs.Sound.{Continues, Undoes, ShowsLast, last_number}
 use Rattle.log_laws.proofs.Orders.{InTurn-append}

@@ -1,8 +1,8 @@
 -- What pages take up, record by record, and the twelfth rule of it.
 use Rattle.std.proofs.lemmas.Grind.{common_steps}
-use Rattle.std.proofs.Common.{◌≡◌, ◌↔◌, inl, inr, ℕ, zero, suc, ◌+◌, ◌*◌, ◌/◌, ◌%◌, ◌≤◌, ◌<◌, ◌==◌, ◌&&◌, Bool, true, false, true≢false, cond, nat_lt, nat_le, List, [], ◌∷◌, ◌++◌, length, map, take, reverse, get_or, Option, Some, None, refl, sym, ap, ◌∙◌, subst, arith, append-nil, append_assoc}
+use Rattle.std.proofs.Common.{◌≡◌, ◌↔◌, inl, inr, ℕ, suc, ◌+◌, ◌*◌, ◌/◌, ◌%◌, ◌≤◌, ◌<◌, ◌==◌, ◌&&◌, Bool, true, false, true≢false, cond, nat_lt, nat_le, List, [], ◌∷◌, ◌++◌, length, map, take, reverse, get_or, Option, Some, None, refl, sym, ap, ◌∙◌, subst, arith, append-nil, append_assoc}
 use Rattle.site.specs.declared.outside.Stop.{Stop}
-use Rattle.std.specs.Prelude.{Result, Ok, Err, IfOk, IsTrue, is_none, drop, filter, flat_map, max, nat_eq, sum_by, slice_index_or, slice_set}
+use Rattle.std.specs.Prelude.{Result, Ok, Err, IfOk, IsTrue, is_none, filter, flat_map, max, nat_eq, sum_by, slice_index_or, slice_set}
 use Rattle.indexmap.specs.IndexMap.{IndexMap, get}
 use Rattle.std.specs.List.{AllByRecursion, list_any, range_with_len}
 use Rattle.std.specs.Option.{option_or}
@@ -21,8 +21,8 @@ use Rattle.image_check.specs.declared.unfinished.Left.{Left}
 use Rattle.image_check.specs.Unended.{AreLeft, entry_of}
 use Rattle.record_model.specs.State.{Content, content_at, greatest, length_of, page_room}
 use Rattle.log_records.specs.declared.log_record.LogRecord.{LogRecord}
-use Rattle.log_records.specs.Log.{Entry, Version, version_at, slot_at, number_of, is_number, is_on, before_of, after_of, last_where, last_on, shown, shown_by, entries_of}
-use Rattle.log_records.specs.Unfinished.{left_open, losers, open_updates}
+use Rattle.log_records.specs.Log.{Entry, Version, version_at, slot_at, number_of, is_number, is_on, before_of, after_of, last_where, last_on, shown, shown_by}
+use Rattle.log_records.specs.Unfinished.{left_open, losers}
 use Rattle.log_records.specs.Room.{longest, open_length, total_on}
 use Rattle.log_records.specs.Sound.{LogicalImage, IsInOrder, ShowsLast, last_known, redone}
 use Rattle.log_records.proofs.Entries.{in_order_left}
@@ -38,12 +38,11 @@ use Rattle.image_meaning.proofs.Versions.{length-versions, version_is}
 use Rattle.image_meaning.proofs.Redos.{page_of_number, slot_of_page}
 use Rattle.image_form.specs.Octets.{AreVersions}
 use Rattle.image_form.specs.Verdict.{PagesHaveRoom, VersionsFit, LosersCanBeUndone}
-use Rattle.image_check.specs.declared.chain.Chain.{Chain}
 use Rattle.image_check.specs.declared.chains.Chains.{Chains}
 use Rattle.image_check.specs.declared.filling.Filling.{Filling}
 use Rattle.image_check.specs.declared.lengths.PageLengths.{PageLengths}
-use Rattle.image_check.specs.Chaining.{AreChains, Keeps, begin_at}
-use Rattle.image_check.specs.Filling.{is_behind, is_news, filled, opened, AreOn, AreKept, AreKeptOn, FitsAt, Fills, HaveRoom, HearsLog, KeepsOpen, Opens, RedoneFits, left_in, put_back_by}
+use Rattle.image_check.specs.Chaining.{AreChains}
+use Rattle.image_check.specs.Filling.{is_behind, is_news, filled, opened, AreOn, AreKept, AreKeptOn, FitsAt, Fills, HaveRoom, HearsLog, KeepsOpen, Opens, RedoneFits, put_back_by}
 use Rattle.image_check.proofs.PageRooms.{slot_length, sum_last, values_fit}
 use Rattle.image_check.proofs.StrayOnes.{chains_of}
 

@@ -1,9 +1,9 @@
 -- Which transactions are open after one record more.
 use Rattle.std.proofs.Common.{arith}
 use Rattle.std.proofs.lemmas.Grind.{common_steps}
-use Rattle.std.proofs.Common.{◌≡◌, ℕ, ◌*◌, ◌≤◌, Bool, true, false, true≢false, not, ◌&&◌, ◌||◌, cond, List, [], ◌∷◌, ◌++◌, refl, sym, ap, subst, ◌∙◌}
+use Rattle.std.proofs.Common.{◌≡◌, ℕ, ◌*◌, Bool, true, false, true≢false, ◌&&◌, ◌||◌, cond, List, [], ◌∷◌, ◌++◌, refl, sym, ap, ◌∙◌}
 use Rattle.std.specs.Prelude.{map, nat_eq, nat_le, ◌==◌}
-use Rattle.std.specs.List.{AllByRecursion, list_any}
+use Rattle.std.specs.List.{list_any}
 use Rattle.std.proofs.lemmas.List.Elements.{filter-append}
 use Rattle.std.proofs.lemmas.List.Folds.{list_any-append}
 use Rattle.std.proofs.lemmas.Bool.{and_right, eqb-true}
@@ -11,9 +11,9 @@ use Rattle.std_lemmas.proofs.AllOf.{all_right}
 use Rattle.std_lemmas.proofs.Bools.{or_without_last, or_without, or_assoc}
 use Rattle.log_records.specs.declared.log_record.LogRecord.{LogRecord}
 use Rattle.log_records.specs.declared.log_record.LogRecord.TheVariants.{Begin, Update, Clr, Commit, End}
-use Rattle.log_records.specs.Log.{Entry, txn_of, is_of, is_closing, is_closed}
+use Rattle.log_records.specs.Log.{Entry, txn_of, is_closing}
 use Rattle.log_records.specs.Unfinished.{is_begin}
-use Rattle.log_records.specs.Sound.{Active, Master, LogicalImage, InTurn, IsOfOpenTransaction, is_known, from_block}
+use Rattle.log_records.specs.Sound.{Active, Master, LogicalImage, InTurn, is_known, from_block}
 use Rattle.log_laws.specs.Follow.{IsFresh}
 use Rattle.log_laws.proofs.Values.{closed_push}
 use Rattle.log_laws.proofs.Appends.{fresh_open}

@@ -1,6 +1,6 @@
 -- Devices are read in one way.
 use Rattle.std.proofs.lemmas.Grind.{common_steps}
-use Rattle.std.proofs.Common.{◌≡◌, inl, inr, ℕ, zero, suc, ◌+◌, ◌-◌, ◌≤◌, min, List, [], ◌∷◌, length, drop, refl, sym, ap, ◌∙◌, subst, arith}
+use Rattle.std.proofs.Common.{◌≡◌, ℕ, zero, suc, ◌+◌, ◌-◌, ◌≤◌, min, List, [], ◌∷◌, length, drop, refl, sym, ap, ◌∙◌, subst, arith}
 use Rattle.std.specs.Prelude.{map}
 use Rattle.std.proofs.lemmas.Bool.{cases_lt}
 use Rattle.std.specs.List.{AllByRecursion}
@@ -8,7 +8,7 @@ use Rattle.std.proofs.lemmas.List.{length-map, length-drop}
 use Rattle.site.specs.declared.geometry.Geometry.{Geometry}
 use Rattle.site.specs.State.{Image}
 use Rattle.sealed_ring.specs.declared.slots.Shape.{Shape}
-use Rattle.sealed_ring.specs.Ring.{IsLive, hi_of, units_from, last_of}
+use Rattle.sealed_ring.specs.Ring.{IsLive, hi_of, units_from}
 use Rattle.sealed_ring.proofs.Heads.{unit_is}
 use Rattle.sealed_ring.proofs.Units.{live_count}
 use Rattle.image_changes.specs.Rings.{log_shape, units_on}
@@ -17,7 +17,7 @@ use Rattle.log_records.specs.Spelling.{block, AreBlock, IsBlock}
 use Rattle.checkpoint.specs.declared.master.Master.{Master}
 use Rattle.checkpoint.specs.Laws.{OneNewest}
 use Rattle.log_store.specs.Representation.{HasBlocks}
-use Rattle.image_form.specs.Verdict.{Reading, Rule, KeptBlocksAreLive}
+use Rattle.image_form.specs.Verdict.{Reading, Rule}
 use Rattle.image_check.specs.Laws.{OneReading, AReading, SoundFailsNone}
 use Rattle.image_form.proofs.LiveUnits.{all_from}
 use Rattle.log_store.proofs.OneLog.{one_blocks}

@@ -1,10 +1,9 @@
 -- What versions know of a log, record by record, and the sixth rule of it.
 use Rattle.std.proofs.lemmas.Grind.{common_steps}
-use Rattle.std.proofs.Common.{◌≡◌, ℕ, suc, ◌+◌, ◌*◌, ◌/◌, ◌≤◌, ◌<◌, ◌==◌, ◌&&◌, inl, inr, Bool, true, false, true≢false, cond, nat_eq, nat_lt, nat_le, List, [], ◌∷◌, ◌++◌, length, map, Option, Some, None, option_map, refl, sym, ap, ◌∙◌, subst, arith}
+use Rattle.std.proofs.Common.{◌≡◌, ℕ, suc, ◌+◌, ◌*◌, ◌/◌, ◌≤◌, ◌<◌, ◌&&◌, Bool, true, false, true≢false, cond, nat_eq, nat_lt, nat_le, List, [], ◌∷◌, ◌++◌, length, map, Option, Some, None, option_map, refl, sym, ap, ◌∙◌, subst, arith}
 use Rattle.std.specs.Prelude.{slice_get, Ok}
 use Rattle.std.specs.List.{AllByRecursion, list_all, range_with_len}
-use Rattle.std.specs.Option.{option_or}
-use Rattle.std.proofs.lemmas.Bool.{and_from, cases_Bool, cases_eq, eqb-true, ne_eqb}
+use Rattle.std.proofs.lemmas.Bool.{and_from, eqb-true, ne_eqb}
 use Rattle.std.proofs.lemmas.Bool.Decides.{nat_tests}
 use Rattle.std.proofs.lemmas.Option.{slice_get-map, slice_get-get_or, slice_get_within, none-some, same_Some}
 use Rattle.std.proofs.lemmas.List.{map-append}
@@ -16,7 +15,7 @@ use Rattle.site.proofs.Laws.{stays_honest}
 use Rattle.site.specs.Work.{OnlyReads}
 use Rattle.indexmap.specs.IndexMap.{IndexMap, get}
 use Rattle.record_model.specs.State.{Content, content_at}
-use Rattle.log_records.specs.Log.{Entry, Version, blank_version, version_at, number_of, is_number, is_on, after_of, last_where}
+use Rattle.log_records.specs.Log.{Entry, Version, blank_version, version_at, number_of, is_number, is_on, after_of}
 use Rattle.log_records.specs.Sound.{LogicalImage, ShowsLast, before_block, last_known}
 use Rattle.slotted_page.specs.Layout.{lsn_of}
 use Rattle.second_chance.specs.Queue.{Queue}

@@ -12,7 +12,7 @@ use Rattle.std_lemmas.proofs.AllOf.{all_left}
 use Rattle.indexmap.specs.IndexMap.{IndexMap, get}
 use Rattle.log_records.specs.Log.{Entry, txn_of, is_of, is_closing, is_closed, entries_of}
 use Rattle.log_records.specs.Unfinished.{is_begin, losers}
-use Rattle.log_records.specs.Sound.{LogicalImage, InTurn, IsInOrder, IsLoserChain, Continues, HaveBegunBefore}
+use Rattle.log_records.specs.Sound.{LogicalImage, IsInOrder, IsLoserChain, HaveBegunBefore}
 use Rattle.log_laws.proofs.Orders.{filter_none}
 use Rattle.log_laws.proofs.Values.{closed_push, closed_same}
 use Rattle.log_laws.proofs.Listing.{listed_is_loser}

@@ -1,10 +1,9 @@
 -- What one walk over the kept blocks has found so far.
 use Rattle.std.proofs.lemmas.Grind.{common_steps}
 use Rattle.std.proofs.Common.{◌≡◌, ℕ, ◌+◌, ◌^◌, ◌≤◌, ◌<◌, List, [], ◌∷◌, ◌++◌, length, arith}
-use Rattle.std.specs.List.{AllByRecursion}
 use Rattle.indexmap.specs.IndexSet.{IndexSet}
 use Rattle.std.proofs.lemmas.List.{length-append}
-use Rattle.log_records.specs.Log.{Entry, txn_of}
+use Rattle.log_records.specs.Log.{Entry}
 use Rattle.log_records.specs.Sound.{Master, InTurn, IsInOrder}
 use Rattle.log_laws.proofs.Orders.{InTurn-append, InTurn-all}
 use Rattle.image_check.specs.declared.survey.Survey.{Survey}

@@ -3,7 +3,7 @@ use Rattle.std.proofs.lemmas.Grind.{common_steps}
 use Rattle.std.proofs.Common.{◌≡◌, ℕ, ◌+◌, ◌*◌, ◌≤◌, List, [], ◌∷◌, ◌++◌, length, sym, ap, ◌∙◌, subst, arith}
 use Rattle.std.specs.Prelude.{Option, Some, None, Result, Ok, Err, IfSome}
 use Rattle.site.specs.declared.outside.Stop.{Stop}
-use Rattle.site.specs.declared.outside.Stop.TheVariants.{Device, Memory}
+use Rattle.site.specs.declared.outside.Stop.TheVariants.{Memory}
 use Rattle.site.specs.State.{State, Image}
 use Rattle.site.specs.Work.{OnlyReads}
 use Rattle.site.proofs.Working.{looks_then, looks_answered}

@@ -1,11 +1,11 @@
 -- What was read of one block, and of all.
 use Rattle.std.proofs.lemmas.Grind.{common_steps}
-use Rattle.std.proofs.Common.{◌≡◌, inl, inr, ℕ, ◌+◌, ◌-◌, ◌≤◌, ◌<◌, List, sym, ap, ◌∙◌, subst, arith}
+use Rattle.std.proofs.Common.{◌≡◌, inl, inr, ℕ, ◌+◌, ◌-◌, ◌≤◌, ◌<◌, List, sym, subst, arith}
 use Rattle.std.proofs.lemmas.Bool.{cases_eq}
-use Rattle.site.specs.State.{State, Image}
+use Rattle.site.specs.State.{State}
 use Rattle.site.specs.Calls.{Preserves}
 use Rattle.site.proofs.Laws.{stays_honest}
-use Rattle.sealed_ring.specs.Ring.{IsRing, IsLive, hi_of}
+use Rattle.sealed_ring.specs.Ring.{IsLive, hi_of}
 use Rattle.image_changes.specs.Rings.{log_shape}
 use Rattle.log_records.specs.declared.log_record.LogRecord.{LogRecord}
 use Rattle.log_store.specs.declared.store.LogStore.{LogStore}

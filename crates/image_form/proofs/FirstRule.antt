@@ -7,12 +7,10 @@ use Rattle.site.specs.declared.outside.Stop.{Stop}
 use Rattle.site.specs.State.{State, Image}
 use Rattle.site.specs.Calls.{Preserves}
 use Rattle.site.specs.Work.{OnlyReads}
-use Rattle.checkpoint.specs.declared.master.Master.{Master}
-use Rattle.checkpoint.specs.Newest.{HasMaster}
 use Rattle.checkpoint.specs.Laws.{OneNewest}
 use Rattle.image_form.specs.declared.formed.Found.{Found}
 use Rattle.image_form.specs.declared.place.Place.{Place}
-use Rattle.image_form.specs.Octets.{HasSizes, AreRings}
+use Rattle.image_form.specs.Octets.{HasSizes}
 use Rattle.image_form.specs.Formed.{MayBeRead, IsThere}
 use Rattle.image_form.specs.Verdict.{OctetsAreFormed, FailsFirst}
 use Rattle.image_form.proofs.Lasting.{may_read_later, found_later}

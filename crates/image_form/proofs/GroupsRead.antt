@@ -10,7 +10,6 @@ use Rattle.byte_fields.specs.FrameHeads.{blank, present_in_front, AreGroupHeads}
 use Rattle.frame_group.specs.declared.group.TheConstants.{PAGE_LEN, HEADS_LEN}
 use Rattle.frame_group.specs.Groups.{Frame, head_of, frame_of, heads_of, group, IsFrame, IsGroup}
 use Rattle.frame_group.proofs.Pages.{pages_stand}
-use Rattle.slotted_page.specs.Layout.{lsn_of as page_lsn, IsSound}
 use Rattle.flash_cache.proofs.Given.{same_lsn}
 use Rattle.image_meaning.specs.Meaning.{IsFrameOf}
 use Rattle.image_form.specs.Octets.{IsGroupOn}

@@ -1,6 +1,6 @@
 -- The live units of a ring, one by one and as a list.
 use Rattle.std.proofs.lemmas.Grind.{common_steps}
-use Rattle.std.proofs.Common.{◌≡◌, ℕ, zero, suc, ◌+◌, ◌-◌, ◌%◌, ◌≤◌, ◌<◌, min, List, [], refl, subst, arith}
+use Rattle.std.proofs.Common.{◌≡◌, ℕ, zero, suc, ◌+◌, ◌-◌, ◌%◌, ◌≤◌, ◌<◌, min, List, refl, subst, arith}
 use Rattle.std.specs.List.{AllByRecursion}
 use Rattle.std_lemmas.proofs.AllOf.{all_at}
 use Rattle.site.specs.State.{Image}

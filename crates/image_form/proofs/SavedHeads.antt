@@ -11,7 +11,7 @@ use Rattle.sealed_ring.specs.Ring.{IsLive, hi_of}
 use Rattle.sealed_ring.proofs.Units.{live_count}
 use Rattle.image_changes.specs.Rings.{group_shape, segment_shape, units_on}
 use Rattle.byte_fields.specs.declared.frame_head.FrameHead.{FrameHead}
-use Rattle.byte_fields.specs.FrameHeads.{spelling, spelling_of_all, FitsFields}
+use Rattle.byte_fields.specs.FrameHeads.{spelling, spelling_of_all}
 use Rattle.byte_fields.proofs.HeadParts.{length_spelling}
 use Rattle.byte_fields.proofs.GroupHeads.{have_form}
 use Rattle.frame_group.specs.Groups.{heads_of, frames_in, HasHeads}
