@@ -1,4 +1,5 @@
 -- One unfinished transaction after one record more.
+use Rattle.std.proofs.lemmas.Grind.{common_steps}
 use Rattle.std.proofs.Common.{◌≡◌, ℕ, ◌-◌, ◌==◌, nat_eq, Bool, true, false, true≢false, cond, List, [], ◌∷◌, ◌++◌, length, map, take, drop, Option, Some, None, option_map, refl, sym, ap, subst, ◌∙◌, arith}
 use Rattle.std.specs.Prelude.{reverse}
 use Rattle.std.proofs.lemmas.List.{append-nil, length-append, reverse-append, reverse-reverse, take_at}
@@ -9,7 +10,7 @@ use Rattle.indexmap.specs.IndexMap.{IndexMap, get}
 use Rattle.record_model.specs.State.{Content}
 use Rattle.log_records.specs.declared.log_record.LogRecord.{LogRecord}
 use Rattle.log_records.specs.declared.log_record.LogRecord.TheVariants.{Begin, Update, Clr, Commit, End}
-use Rattle.log_records.specs.Log.{Entry, is_of, is_update, entries_of, number_of, is_number, before_of, after_of, last_on}
+use Rattle.log_records.specs.Log.{Entry, is_of, is_update, entries_of, number_of, before_of, after_of, last_on}
 use Rattle.log_records.specs.Unfinished.{is_clr, prev_of, open_by, open_updates}
 use Rattle.log_records.specs.Sound.{Continues, Undoes, ShowsLast, last_number}
 use Rattle.log_laws.proofs.Orders.{InTurn-append}
@@ -34,18 +35,11 @@ map_drop (u ∷ us) = refl
 
 pub kept_update : (t : ℕ) (c : Chain) (new : List LogRecord) (rest : List Entry) (lsn : ℕ) (rec : LogRecord) → is_update rec ≡ true → reverse new ≡ rec ∷ reverse c.updates.items → IsKept t c rest →
     Continues (begin_at t ∷ rest) (record { lsn = lsn; rec = rec }) → (d : Chain) → d.last ≡ lsn → d.updates.items ≡ new → AreLast (rest ++ record { lsn = lsn; rec = rec } ∷ []) d.written.last → IsKept t d (rest ++ record { lsn = lsn; rec = rec } ∷ [])
-kept_update t c new rest lsn (Update txn prev page slot before after) is pushed k goes d last items written =
-    let e : Entry = record { lsn = lsn; rec = Update txn prev page slot before after } in
-    record {
-      continues = InTurn-append Continues (begin_at t ∷ []) rest e k.continues goes;
-      last = last ∙ sym (last_push t rest e);
-      left = ap reverse items ∙ pushed ∙ ap (λ (l : List LogRecord). e.rec ∷ l) k.left ∙ ap (map (λ (u : Entry). u.rec)) (sym (open_push [] rest e));
-      written = written;
-    }
-kept_update t c new rest lsn Begin is pushed k goes d last items written = absurd (true≢false (sym is))
-kept_update t c new rest lsn (Clr txn prev undo_next page slot after) is pushed k goes d last items written = absurd (true≢false (sym is))
-kept_update t c new rest lsn (Commit txn number) is pushed k goes d last items written = absurd (true≢false (sym is))
-kept_update t c new rest lsn (End txn) is pushed k goes d last items written = absurd (true≢false (sym is))
+kept_update t c new rest lsn (Update txn prev page slot before after) is pushed k goes d last items written = grind (arith, common_steps, InTurn-append, last_push, open_push)
+kept_update t c new rest lsn Begin is pushed k goes d last items written = grind (arith, common_steps)
+kept_update t c new rest lsn (Clr txn prev undo_next page slot after) is pushed k goes d last items written = grind (arith, common_steps)
+kept_update t c new rest lsn (Commit txn number) is pushed k goes d last items written = grind (arith, common_steps)
+kept_update t c new rest lsn (End txn) is pushed k goes d last items written = grind (arith, common_steps)
 
 undoes_none : (us : List Entry) (rec : LogRecord) → is_update rec ≡ false → is_clr rec ≡ false → Undoes us rec → ⊥
 undoes_none [] Begin a b undoes = undoes
@@ -59,18 +53,11 @@ undoes_none (u ∷ us) (End txn) a b undoes = undoes
 
 pub kept_clr : (t : ℕ) (c : Chain) (new : List LogRecord) (rest : List Entry) (lsn : ℕ) (rec : LogRecord) → is_update rec ≡ false → reverse new ≡ drop 1 (reverse c.updates.items) → IsKept t c rest →
     Continues (begin_at t ∷ rest) (record { lsn = lsn; rec = rec }) → (d : Chain) → d.last ≡ lsn → d.updates.items ≡ new → AreLast (rest ++ record { lsn = lsn; rec = rec } ∷ []) d.written.last → IsKept t d (rest ++ record { lsn = lsn; rec = rec } ∷ [])
-kept_clr t c new rest lsn (Clr txn prev undo_next page slot after) is popped k goes d last items written =
-    let e : Entry = record { lsn = lsn; rec = Clr txn prev undo_next page slot after } in
-    record {
-      continues = InTurn-append Continues (begin_at t ∷ []) rest e k.continues goes;
-      last = last ∙ sym (last_push t rest e);
-      left = ap reverse items ∙ popped ∙ ap (drop 1) k.left ∙ map_drop (open_updates [] rest) ∙ ap (map (λ (u : Entry). u.rec)) (sym (open_push [] rest e));
-      written = written;
-    }
-kept_clr t c new rest lsn (Update txn prev page slot before after) is popped k goes d last items written = absurd (true≢false is)
-kept_clr t c new rest lsn Begin is popped k goes d last items written = absurd (undoes_none (open_updates [] rest) Begin refl refl goes.undoes)
-kept_clr t c new rest lsn (Commit txn number) is popped k goes d last items written = absurd (undoes_none (open_updates [] rest) (Commit txn number) refl refl goes.undoes)
-kept_clr t c new rest lsn (End txn) is popped k goes d last items written = absurd (undoes_none (open_updates [] rest) (End txn) refl refl goes.undoes)
+kept_clr t c new rest lsn (Clr txn prev undo_next page slot after) is popped k goes d last items written = grind (arith, common_steps, InTurn-append, last_push, map_drop, open_push)
+kept_clr t c new rest lsn (Update txn prev page slot before after) is popped k goes d last items written = grind (arith, common_steps)
+kept_clr t c new rest lsn Begin is popped k goes d last items written = grind (arith, common_steps, undoes_none)
+kept_clr t c new rest lsn (Commit txn number) is popped k goes d last items written = grind (arith, common_steps, undoes_none)
+kept_clr t c new rest lsn (End txn) is popped k goes d last items written = grind (arith, common_steps, undoes_none)
 
 -- the Updates without the last one
 pub popped_is : (old new : List LogRecord) → new ≡ take (length old - 1) old → reverse new ≡ drop 1 (reverse old)
@@ -102,42 +89,24 @@ behind_begin t rest number = option_or_none (last_on rest number)
 
 pub update_goes_on : (t : ℕ) (c : Chain) (rest : List Entry) (lsn : ℕ) (rec : LogRecord) (number : ℕ) → is_update rec ≡ true → number_of rec ≡ Some number → prev_of rec ≡ c.last →
     IsAs (before_of rec) (get nat_eq c.written.last number) → IsKept t c rest → Continues (begin_at t ∷ rest) (record { lsn = lsn; rec = rec })
-update_goes_on t c rest lsn (Update txn prev page slot before after) number is on linked same k = record {
-  linked = linked ∙ k.last;
-  undoes = tt;
-  begins_there = λ n update there.
-      let here : IsAs before (get nat_eq c.written.last n) = subst (λ (m : ℕ). IsAs before (get nat_eq c.written.last m)) (same_Some number n (sym on ∙ there)) same in
-      subst (ShowsLast before) (sym (behind_begin t rest n)) (as_shown before (last_on rest n) (subst (IsAs before) (k.written.each n) here));
-}
-update_goes_on t c rest lsn Begin number is on linked same k = absurd (true≢false (sym is))
-update_goes_on t c rest lsn (Clr txn prev undo_next page slot after) number is on linked same k = absurd (true≢false (sym is))
-update_goes_on t c rest lsn (Commit txn n) number is on linked same k = absurd (true≢false (sym is))
-update_goes_on t c rest lsn (End txn) number is on linked same k = absurd (true≢false (sym is))
+update_goes_on t c rest lsn (Update txn prev page slot before after) number is on linked same k = grind (arith, common_steps, nat_eq, same_Some, behind_begin, as_shown)
+update_goes_on t c rest lsn Begin number is on linked same k = grind (arith, common_steps)
+update_goes_on t c rest lsn (Clr txn prev undo_next page slot after) number is on linked same k = grind (arith, common_steps)
+update_goes_on t c rest lsn (Commit txn n) number is on linked same k = grind (arith, common_steps)
+update_goes_on t c rest lsn (End txn) number is on linked same k = grind (arith, common_steps)
 
 pub update_begins : (t : ℕ) (c : Chain) (rest : List Entry) (lsn : ℕ) (rec : LogRecord) (number : ℕ) → is_update rec ≡ true → number_of rec ≡ Some number → IsKept t c rest →
     Continues (begin_at t ∷ rest) (record { lsn = lsn; rec = rec }) → IsAs (before_of rec) (get nat_eq c.written.last number)
-update_begins t c rest lsn rec number is on k goes =
-    subst (IsAs (before_of rec)) (sym (k.written.each number))
-    (shown_as (before_of rec) (last_on rest number) (subst (ShowsLast (before_of rec)) (behind_begin t rest number) (goes.begins_there number is on)))
+update_begins t c rest lsn rec number is on k goes = grind (arith, common_steps, shown_as, behind_begin)
 
 -- What was written last on each number, with one record more.
 
 pub last_unwritten : {S : Type 0} (records : List Entry) (e : Entry) (contents : IndexMap ℕ Content S) → number_of e.rec ≡ None → AreLast records contents → AreLast (records ++ e ∷ []) contents
-last_unwritten records e contents none are = record {
-  each = λ number. are.each number ∙ sym (ap (option_map (λ (x : Entry). after_of x.rec)) (last_same records e number (ap (is_number number) none)));
-}
+last_unwritten records e contents none are = grind (arith, common_steps, option_map, last_same)
 
 pub last_written : {S : Type 0} (records : List Entry) (e : Entry) (m : ℕ) (old new : IndexMap ℕ Content S) → number_of e.rec ≡ Some m →
     ((n : ℕ) → get nat_eq new n ≡ cond (m == n) (Some (after_of e.rec)) (get nat_eq old n)) → AreLast records old → AreLast (records ++ e ∷ []) new
-last_written records e m old new on updates are = record { each = λ n. updates n ∙ by n (m == n) refl }
-  where
-    by : (n : ℕ) (b : Bool) → (m == n) ≡ b → cond (m == n) (Some (after_of e.rec)) (get nat_eq old n) ≡ option_map (λ (x : Entry). after_of x.rec) (last_on (records ++ e ∷ []) n)
-    by n true here =
-        ap (λ (b : Bool). cond b (Some (after_of e.rec)) (get nat_eq old n)) here
-        ∙ sym (ap (option_map (λ (x : Entry). after_of x.rec)) (last_new records e n (ap (is_number n) on ∙ here)))
-    by n false other =
-        ap (λ (b : Bool). cond b (Some (after_of e.rec)) (get nat_eq old n)) other ∙ are.each n
-        ∙ sym (ap (option_map (λ (x : Entry). after_of x.rec)) (last_same records e n (ap (is_number n) on ∙ other)))
+last_written records e m old new on updates are = grind (arith, common_steps, nat_eq, option_map, last_new, last_same)
 
 -- The records of one transaction.
 
@@ -151,10 +120,7 @@ pub kept_other : (t : ℕ) (c : Chain) (records : List Entry) (e : Entry) → is
 kept_other t c records e other k = subst (λ (l : List Entry). IsKept t c (drop 1 l)) (sym (other_same t records e other)) k
 
 pub kept_begin : (t : ℕ) (c : Chain) (records : List Entry) (e : Entry) → is_of t e ≡ true → entries_of t records ≡ [] → IsKept t c (drop 1 (entries_of t records)) → IsKept t c (drop 1 (entries_of t (records ++ e ∷ [])))
-kept_begin t c records e own none k =
-    let before : drop 1 (entries_of t records) ≡ [] = ap (drop 1) none in
-    let after : drop 1 (entries_of t (records ++ e ∷ [])) ≡ [] = ap (drop 1) (own_more t records e own ∙ ap (λ (l : List Entry). l ++ e ∷ []) none) in
-    subst (IsKept t c) (before ∙ sym after) k
+kept_begin t c records e own none k = grind (arith, common_steps, own_more)
 
 pub kept_behind : (t : ℕ) (records : List Entry) (e : Entry) → is_of t e ≡ true → entries_of t records ≡ begin_at t ∷ drop 1 (entries_of t records) → drop 1 (entries_of t records) ++ e ∷ [] ≡ drop 1 (entries_of t (records ++ e ∷ []))
 kept_behind t records e own is = sym (ap (drop 1) (own_more t records e own ∙ ap (λ (l : List Entry). l ++ e ∷ []) is))

@@ -1,4 +1,5 @@
 -- The rules one after the other.
+use Rattle.std.proofs.lemmas.Grind.{common_steps}
 use Rattle.std.proofs.Common.{◌≡◌, ◌↔◌, inl, inr, ℕ, zero, suc, ◌+◌, ◌≤◌, true, false, true≢false, Bool, IsTrue, List, refl, sym, ◌∙◌, subst, arith}
 use Rattle.std.specs.Prelude.{Ok, ⊤}
 use Rattle.std.proofs.lemmas.Bool.{cases_eq}
@@ -21,11 +22,7 @@ pub sees_of : {i : ℕ} {found : Found} {blocks : List (List LogRecord)} {site :
 sees_of meets = record { log = meets.there.log; has = meets.reads.blocks }
 
 meets_later : (i : ℕ) (found : Found) (blocks : List (List LogRecord)) (a b : State) → Preserves a b → b.image ≡ a.image → MeetsBefore i found blocks a → MeetsBefore i found blocks b
-meets_later i found blocks a b goes same meets = record {
-  there = there_later found a b goes same meets.there;
-  reads = subst (Reads (reading_of found blocks)) (sym same) meets.reads;
-  rules = subst (HoldBefore i (reading_of found blocks)) (sym same) meets.rules;
-}
+meets_later i found blocks a b goes same meets = grind (arith, there_later)
 
 -- The rule of a number.
 
@@ -99,10 +96,7 @@ FailsAt i r image = (3 ≤ i) × HoldBefore i r image × (Rule i r image → ⊥
 module _ {i : ℕ} {found : Found} {blocks : List (List LogRecord)} {old a : State} (past : Past i found blocks old a) where
   -- a call more, behind which it is known that the rules before another one hold
   pub reaches : {T : Type 0} {x : T} {b : State} (end : ℕ) → OnlyReads {T = T} (Ok x) a b → HoldBefore end (reading_of found blocks) a.image → Past end found blocks old b
-  reaches {b = b} end reads holds =
-      let same : b.image ≡ a.image = (reads.same past.meets.there.log.honest).image in
-      let meets : MeetsBefore end found blocks a = record { there = past.meets.there; reads = past.meets.reads; rules = holds } in
-      record { meets = meets_later end found blocks a b reads.preserves same meets; same = same ∙ past.same }
+  reaches {b = b} end reads holds = grind (arith, meets_later)
 
   -- a rule that holds
   pub holds_so : {T : Type 0} {x : T} {b : State} {stand : Bool} → (IsTrue stand ↔ Numbered i (reading_of found blocks) a.image) → OnlyReads {T = T} (Ok x) a b → stand ≡ true → Past (i + 1) found blocks old b
@@ -140,9 +134,7 @@ sound_by {found} {blocks} records commits past values count =
 
 -- before the third rule
 pub meets_both : (found : Found) (site : State) → IsThere found site → OctetsAreFormed found.log.geometry found.master site.image → KeptBlocksAreLive found.log.geometry found.master site.image → (blocks : List (List LogRecord)) × MeetsBefore 3 found blocks site
-meets_both found site there formed live =
-    let read = a_reading found.log.geometry found.master site.image formed live in
-    (read.0, record { there = there; reads = read.1; rules = none_before (reading_of found read.0) site.image })
+meets_both found site there formed live = grind (arith, common_steps, a_reading, none_before)
 
 -- the second one
 pub fails_kept : (found : Found) (site : State) (stand : Bool) → OctetsAreFormed found.log.geometry found.master site.image → (IsTrue stand ↔ KeptBlocksAreLive found.log.geometry found.master site.image) → stand ≡ false → FailsFirst 2 site.image

@@ -1,8 +1,8 @@
 -- What pages take up, record by record, and the twelfth rule of it.
 use Rattle.std.proofs.lemmas.Grind.{common_steps}
-use Rattle.std.proofs.Common.{◌≡◌, ◌↔◌, inl, inr, ℕ, zero, suc, ◌+◌, ◌*◌, ◌/◌, ◌%◌, ◌≤◌, ◌<◌, ◌==◌, ◌&&◌, Bool, true, false, true≢false, cond, nat_lt, nat_le, List, [], ◌∷◌, ◌++◌, length, map, take, reverse, get_or, Option, Some, None, refl, sym, ap, ◌∙◌, subst, arith, append-nil, append_assoc}
+use Rattle.std.proofs.Common.{◌≡◌, ◌↔◌, inl, inr, ℕ, suc, ◌+◌, ◌*◌, ◌/◌, ◌%◌, ◌≤◌, ◌<◌, ◌==◌, ◌&&◌, Bool, true, false, true≢false, cond, nat_lt, nat_le, List, [], ◌∷◌, ◌++◌, length, map, take, reverse, get_or, Option, Some, None, refl, sym, ap, ◌∙◌, subst, arith, append-nil, append_assoc}
 use Rattle.site.specs.declared.outside.Stop.{Stop}
-use Rattle.std.specs.Prelude.{Result, Ok, Err, IfOk, IsTrue, is_none, drop, filter, flat_map, max, nat_eq, sum_by, slice_index_or, slice_set}
+use Rattle.std.specs.Prelude.{Result, Ok, Err, IfOk, IsTrue, is_none, filter, flat_map, max, nat_eq, sum_by, slice_index_or, slice_set}
 use Rattle.indexmap.specs.IndexMap.{IndexMap, get}
 use Rattle.std.specs.List.{AllByRecursion, list_any, range_with_len}
 use Rattle.std.specs.Option.{option_or}
@@ -21,8 +21,8 @@ use Rattle.image_check.specs.declared.unfinished.Left.{Left}
 use Rattle.image_check.specs.Unended.{AreLeft, entry_of}
 use Rattle.record_model.specs.State.{Content, content_at, greatest, length_of, page_room}
 use Rattle.log_records.specs.declared.log_record.LogRecord.{LogRecord}
-use Rattle.log_records.specs.Log.{Entry, Version, version_at, slot_at, number_of, is_number, is_on, before_of, after_of, last_where, last_on, shown, shown_by, entries_of}
-use Rattle.log_records.specs.Unfinished.{left_open, losers, open_updates}
+use Rattle.log_records.specs.Log.{Entry, Version, version_at, slot_at, number_of, is_number, is_on, before_of, after_of, last_where, last_on, shown, shown_by}
+use Rattle.log_records.specs.Unfinished.{left_open, losers}
 use Rattle.log_records.specs.Room.{longest, open_length, total_on}
 use Rattle.log_records.specs.Sound.{LogicalImage, IsInOrder, ShowsLast, last_known, redone}
 use Rattle.log_records.proofs.Entries.{in_order_left}
@@ -38,21 +38,18 @@ use Rattle.image_meaning.proofs.Versions.{length-versions, version_is}
 use Rattle.image_meaning.proofs.Redos.{page_of_number, slot_of_page}
 use Rattle.image_form.specs.Octets.{AreVersions}
 use Rattle.image_form.specs.Verdict.{PagesHaveRoom, VersionsFit, LosersCanBeUndone}
-use Rattle.image_check.specs.declared.chain.Chain.{Chain}
 use Rattle.image_check.specs.declared.chains.Chains.{Chains}
 use Rattle.image_check.specs.declared.filling.Filling.{Filling}
 use Rattle.image_check.specs.declared.lengths.PageLengths.{PageLengths}
-use Rattle.image_check.specs.Chaining.{AreChains, Keeps, begin_at}
-use Rattle.image_check.specs.Filling.{is_behind, is_news, filled, opened, AreOn, AreKept, AreKeptOn, FitsAt, Fills, HaveRoom, HearsLog, KeepsOpen, Opens, RedoneFits, left_in, put_back_by}
+use Rattle.image_check.specs.Chaining.{AreChains}
+use Rattle.image_check.specs.Filling.{is_behind, is_news, filled, opened, AreOn, AreKept, AreKeptOn, FitsAt, Fills, HaveRoom, HearsLog, KeepsOpen, Opens, RedoneFits, put_back_by}
 use Rattle.image_check.proofs.PageRooms.{slot_length, sum_last, values_fit}
 use Rattle.image_check.proofs.StrayOnes.{chains_of}
 
 -- Totals of lengths that are the same on a page.
 
 pub total_as : (page k : ℕ) (f g : ℕ → ℕ) → ((number : ℕ) → number / 32 ≡ page → g number ≤ f number) → total_on page f ≤ k → total_on page g ≤ k
-total_as page k f g less fits =
-    let fewer = total_within page g f (λ slot low. less (32 * page + slot) (page_of_number page slot low)) in
-    omega (arith, fewer, fits)
+total_as page k f g less fits = grind (arith, common_steps, total_within, page_of_number)
 
 -- one of two that are equal is no more than the other
 same_less : (a b : ℕ) → a ≡ b → b ≤ a
@@ -74,36 +71,19 @@ room_more pages old new (Some number) same room fits page less = elim (cases_eq 
 
 pub filled_more : (pages : List Version) (records : List Entry) (e : Entry) (number : ℕ) →
     filled pages (records ++ e ∷ []) number ≡ cond (is_news pages e && is_on number e) (length_of (after_of e.rec)) (filled pages records number)
-filled_more pages records e number = ap (λ (l : List Entry). length_of (shown l pages number)) (filter-append (is_news pages) records (e ∷ [])) ∙ by (is_news pages e) where
-  news : List Entry
-  news = filter (is_news pages) records
-
-  of_cond : (b : Bool) → length_of (cond b (after_of e.rec) (shown news pages number)) ≡ cond b (length_of (after_of e.rec)) (filled pages records number)
-  of_cond true = refl
-  of_cond false = refl
-
-  by : (b : Bool) → length_of (shown (news ++ cond b (e ∷ []) []) pages number) ≡ cond (b && is_on number e) (length_of (after_of e.rec)) (filled pages records number)
-  by true = ap length_of (shown_push news e pages number) ∙ of_cond (is_on number e)
-  by false = ap (λ (l : List Entry). length_of (shown l pages number)) (append-nil news)
+filled_more pages records e number = grind (arith, common_steps, filter-append, shown_push, append-nil)
 
 -- a record that isn't on a number changes nothing of it
 pub filled_off : (pages : List Version) (records : List Entry) (e : Entry) (m : ℕ) → is_on m e ≡ false → filled pages (records ++ e ∷ []) m ≡ filled pages records m
-filled_off pages records e m off = filled_more pages records e m ∙ by (is_news pages e) (is_on m e) off where
-  by : (n o : Bool) → o ≡ false → cond (n && o) (length_of (after_of e.rec)) (filled pages records m) ≡ filled pages records m
-  by true o is = ap (λ (q : Bool). cond q (length_of (after_of e.rec)) (filled pages records m)) is
-  by false o is = refl
+filled_off pages records e m off = grind (arith, common_steps, filled_more)
 
 greatest_more : (ns : List ℕ) (n : ℕ) → greatest (ns ++ n ∷ []) ≡ max (greatest ns) n
 greatest_more [] n = grind arith
 greatest_more (m ∷ ns) n = let rest = greatest_more ns n in grind (arith, rest)
 
 greatest_front : (ns more : List ℕ) → greatest ns ≤ greatest (ns ++ more)
-greatest_front [] more = omega arith
-greatest_front (n ∷ ns) more =
-    let rest = greatest_front ns more in
-    let left = le-max_left n (greatest (ns ++ more)) in
-    let right = le-max_right n (greatest (ns ++ more)) in
-    max-le left (omega (arith, rest, right))
+greatest_front [] more = grind (arith, common_steps)
+greatest_front (n ∷ ns) more = grind (arith, common_steps, le-max_left, le-max_right, max-le, (greatest_front ns more))
 
 module _ (log : List Entry) (pages : List Version) (number : ℕ) where
   on : LogRecord → Bool
@@ -115,17 +95,11 @@ module _ (log : List Entry) (pages : List Version) (number : ℕ) where
 
   lengths_both : (updates more : List LogRecord) → lengths (updates ++ more) ≡ lengths updates ++ map length_of (map before_of (filter on more))
   unfolding on lengths
-  lengths_both updates more =
-      ap (λ (l : List LogRecord). length_of (shown log pages number) ∷ map length_of (map before_of l)) (filter-append on updates more)
-      ∙ ap (λ (l : List Content). length_of (shown log pages number) ∷ map length_of l) (map-append before_of (filter on updates) (filter on more))
-      ∙ ap (λ (l : List ℕ). length_of (shown log pages number) ∷ l) (map-append length_of (map before_of (filter on updates)) (map before_of (filter on more)))
+  lengths_both updates more = grind (arith, common_steps, filter-append, on, map-append)
 
   pub opened_more : (updates : List LogRecord) (u : LogRecord) → opened log pages (updates ++ u ∷ []) number ≡ cond (is_number number (number_of u)) (max (opened log pages updates number) (length_of (before_of u))) (opened log pages updates number)
   unfolding on lengths
-  opened_more updates u = ap greatest (lengths_both updates (u ∷ [])) ∙ by (on u) where
-    by : (b : Bool) → greatest (lengths updates ++ map length_of (map before_of (cond b (u ∷ []) []))) ≡ cond b (max (greatest (lengths updates)) (length_of (before_of u))) (greatest (lengths updates))
-    by true = greatest_more (lengths updates) (length_of (before_of u))
-    by false = ap greatest (append-nil (lengths updates))
+  opened_more updates u = grind (arith, common_steps, lengths_both, on, lengths, greatest_more, append-nil)
 
   pub opened_within : (updates more : List LogRecord) → opened log pages updates number ≤ opened log pages (updates ++ more) number
   unfolding on lengths
@@ -172,34 +146,15 @@ shown_parts slot (Some e) old shows = refl
 
 -- what a version doesn't know of, up to an LSN
 news_on : (pages : List Version) (number lsn : ℕ) (e : Entry) → (nat_le e.lsn lsn && (is_news pages e && is_on number e)) ≡ (is_on number e && (nat_lt (version_at pages (number / 32)).lsn e.lsn && nat_le e.lsn lsn))
-news_on pages number lsn e = by (is_on number e) refl where
-  turned : (a b : Bool) → (a && (b && true)) ≡ (b && a)
-  turned true true = refl
-  turned true false = refl
-  turned false true = refl
-  turned false false = refl
-
-  off : (a b : Bool) → (a && (b && false)) ≡ false
-  off true true = refl
-  off true false = refl
-  off false b = refl
-
-  by : (b : Bool) → is_on number e ≡ b → (nat_le e.lsn lsn && (is_news pages e && b)) ≡ (b && (nat_lt (version_at pages (number / 32)).lsn e.lsn && nat_le e.lsn lsn))
-  by true on = ap (λ (o : Option ℕ). nat_le e.lsn lsn && (is_behind pages e.lsn o && true)) (is_number-Some number (number_of e.rec) on) ∙ turned (nat_le e.lsn lsn) (nat_lt (version_at pages (number / 32)).lsn e.lsn)
-  by false elsewhere = off (nat_le e.lsn lsn) (is_news pages e)
+news_on pages number lsn e = grind (arith, common_steps, nat_le, nat_lt, on, is_number-Some)
 
 last_news : (pages : List Version) (log : List Entry) (number lsn : ℕ) →
     last_on (filter (is_news pages) (up_to lsn log)) number ≡ last_where (λ e. is_on number e && (nat_lt (version_at pages (number / 32)).lsn e.lsn && nat_le e.lsn lsn)) log
-last_news pages log number lsn =
-    last_where-filter (is_on number) (is_news pages) (up_to lsn log)
-    ∙ last_where-filter (λ e. is_news pages e && is_on number e) (λ e. nat_le e.lsn lsn) log
-    ∙ (λ i. last_where (λ e. news_on pages number lsn e i) log)
+last_news pages log number lsn = grind (arith, common_steps, last_where-filter, nat_le, news_on)
 
 module _ (p : LogicalImage) (from to : ℕ) (order : IsInOrder from p.log to) (fit : VersionsFit p) where
   shows_known : (number : ℕ) → number / 32 < length p.pages → ShowsLast (slot_at p.pages number) (last_known p.log (version_at p.pages (number / 32)).lsn number)
-  shows_known number less =
-      let at : 32 * (number / 32) + number % 32 ≡ number = omega arith in
-      subst (λ (n : ℕ). ShowsLast (slot_at p.pages number) (last_known p.log (version_at p.pages (number / 32)).lsn n)) at ((fit (number / 32) less).shows (number % 32) (omega arith))
+  shows_known number less = grind (arith, common_steps)
 
   pub redone_is : (lsn number : ℕ) → number / 32 < length p.pages → (version_at p.pages (number / 32)).lsn ≤ lsn → length_of (redone p lsn number) ≡ filled p.pages (up_to lsn p.log) number
   redone_is lsn number less later =
@@ -270,12 +225,7 @@ module _ (p : LogicalImage) (from to : ℕ) (order : IsInOrder from p.log to) (f
   below = all_below from front e.lsn (in_order_left from front e back to ordered)
 
   first_part : up_to e.lsn p.log ≡ front ++ e ∷ []
-  first_part = ap (up_to e.lsn) split ∙ filter-append (λ x. nat_le x.lsn e.lsn) front (e ∷ back)
-      ∙ (λ i. filter_all (λ x. nat_le x.lsn e.lsn) front (all_weaker (λ x. x.lsn < e.lsn) (λ x. nat_le x.lsn e.lsn ≡ true) (λ x less. le-leb x.lsn e.lsn (omega (arith, less))) front below) i
-      ++ cond (le-leb e.lsn e.lsn (omega arith) i) (e ∷ filter_none (λ x. nat_le x.lsn e.lsn) back behind i) (filter_none (λ x. nat_le x.lsn e.lsn) back behind i))
-    where
-      behind : AllByRecursion (λ x. nat_le x.lsn e.lsn ≡ false) back
-      behind = all_weaker (λ x. e.lsn + 1 ≤ x.lsn) (λ x. nat_le x.lsn e.lsn ≡ false) (λ x above. lt-leb x.lsn e.lsn (omega (arith, above))) back (all_from (e.lsn + 1) back to (in_order_right from front e back to ordered))
+  first_part = grind (arith, common_steps, filter-append, nat_le, filter_all, all_weaker, le-leb, below, filter_none, lt-leb, all_from, in_order_right, ordered)
 
   pub fits_there : RedoneFits p → FitsAt p.pages (filled p.pages (front ++ e ∷ [])) (number_of e.rec)
   fits_there rule = by (number_of e.rec) refl where
@@ -306,29 +256,18 @@ pub record FilledSoFar (log : List Entry) (pages : List Version) (records : List
 -- The other half.
 
 recs_on : (number : ℕ) (us : List Entry) → map (λ (u : Entry). before_of u.rec) (filter (is_on number) us) ≡ map before_of (filter (λ u. is_number number (number_of u)) (map (λ (u : Entry). u.rec) us))
-recs_on number [] = refl
-recs_on number (u ∷ us) = by (is_on number u) (recs_on number us) where
-  by : (b : Bool) → map (λ (x : Entry). before_of x.rec) (filter (is_on number) us) ≡ map before_of (filter (λ x. is_number number (number_of x)) (map (λ (x : Entry). x.rec) us)) →
-      map (λ (x : Entry). before_of x.rec) (cond b (u ∷ filter (is_on number) us) (filter (is_on number) us))
-      ≡ map before_of (cond b (u.rec ∷ filter (λ x. is_number number (number_of x)) (map (λ (x : Entry). x.rec) us)) (filter (λ x. is_number number (number_of x)) (map (λ (x : Entry). x.rec) us)))
-  by true rest = ap (λ (l : List Content). before_of u.rec ∷ l) rest
-  by false rest = rest
+recs_on number [] = grind (arith, common_steps)
+recs_on number (u ∷ us) = grind (arith, common_steps, (recs_on number us))
 
 open_is : (log : List Entry) (pages : List Version) (number : ℕ) → open_length log pages number ≡ opened log pages (put_back_by log (losers log)) number
 open_is log pages number = ap (λ (l : List Content). longest (shown log pages number ∷ l)) (recs_on number (flat_map (left_open log) (losers log)))
 
 -- both
 pub rule_of_both : (p : LogicalImage) → RedoneFits p → HaveRoom p.pages (opened p.log p.pages (put_back_by p.log (losers p.log))) → PagesHaveRoom p
-rule_of_both p redone undone page less = record {
-  redone_fits = λ lsn later. redone page lsn less later;
-  open_fits = room_as p.pages (opened p.log p.pages (put_back_by p.log (losers p.log))) (open_length p.log p.pages) (λ number below. sym (open_is p.log p.pages number)) undone page less;
-}
+rule_of_both p redone undone page less = grind (arith, room_as, below, open_is)
 
 pub both_of_rule : (p : LogicalImage) → PagesHaveRoom p → RedoneFits p × HaveRoom p.pages (opened p.log p.pages (put_back_by p.log (losers p.log)))
-both_of_rule p rule = (
-  λ page lsn less later. (rule page less).redone_fits lsn later,
-  room_as p.pages (open_length p.log p.pages) (opened p.log p.pages (put_back_by p.log (losers p.log))) (λ number below. open_is p.log p.pages number) (λ page less. (rule page less).open_fits),
-)
+both_of_rule p rule = grind (arith, room_as, below, open_is)
 
 -- the Updates of one more transaction
 pub put_back_more : (log : List Entry) (t : ℕ) (txns : List ℕ) → put_back_by log (t ∷ txns) ≡ map (λ (u : Entry). u.rec) (left_open log t) ++ put_back_by log txns
@@ -336,32 +275,17 @@ put_back_more log t txns = map-append (λ (u : Entry). u.rec) (left_open log t) 
 
 -- those of chains
 pub keeps_open : (p : LogicalImage) (chains : Chains) → LosersCanBeUndone p → AreChains p.log p.log chains → KeepsOpen p.log chains
-keeps_open p chains rule is t listed =
-    let chain = chains_of p rule t listed in
-    by (get nat_eq chains.chains t) (is.kept t listed (inr chain)) ∙ ap (λ (l : List Entry). map (λ (u : Entry). u.rec) (open_updates [] l)) (sym chain.begins)
-  where
-    by : (o : Option Chain) → Keeps t o (drop 1 (entries_of t p.log)) → left_in o ≡ map (λ (u : Entry). u.rec) (open_updates [] (begin_at t ∷ drop 1 (entries_of t p.log)))
-    by None none = ap (λ (l : List Entry). map (λ (u : Entry). u.rec) (open_updates [] l)) (sym none)
-    by (Some c) kept = kept.left
+keeps_open p chains rule is t listed = grind (arith, common_steps, chains_of)
 
 -- The lengths of one page.
 
 pub kept_as : {S : Type 0} (pages : List Version) (f g : ℕ → ℕ) (kept : IndexMap ℕ PageLengths S) → ((number : ℕ) → number / 32 < length pages → g number ≡ f number) → AreKept pages f kept → AreKept pages g kept
-kept_as pages f g kept same are = record { each = λ page less. by page (get nat_eq kept page) (λ number here. same number (omega (arith, here, less))) (are.each page less) } where
-  by : (page : ℕ) (o : Option PageLengths) → ((number : ℕ) → number / 32 ≡ page → g number ≡ f number) → AreKeptOn pages f page o → AreKeptOn pages g page o
-  by page None like of_version = λ number here. of_version number here ∙ sym (like number here)
-  by page (Some x) like on = record { lsn = on.lsn; each = λ number here. on.each number here ∙ sym (like number here) }
+kept_as pages f g kept same are = grind (arith, common_steps, on)
 
 -- another length in a slot
 set_on : (pages : List Version) (f g : ℕ → ℕ) (page number n : ℕ) (on : PageLengths) → AreOn pages f page on → number / 32 ≡ page → length on.lengths ≡ 32 → g number ≡ n → ((m : ℕ) → m / 32 ≡ page → (m ≡ number → ⊥) → g m ≡ f m) →
     AreOn pages g page (record { lsn = on.lsn; lengths = slice_set on.lengths (number % 32) n })
-set_on pages f g page number n on are at size own others = record {
-  lsn = are.lsn;
-  each = λ m here. elim (cases_eq m number) [
-    | inl same ↦ ap (λ (k : ℕ). slice_index_or (slice_set on.lengths (number % 32) n) (k % 32) 0) same ∙ get_or-set_same on.lengths (number % 32) n 0 (omega (arith, size)) ∙ sym own ∙ ap g (sym same)
-    | inr other ↦ get_or-set_other on.lengths (number % 32) (m % 32) n 0 (λ same. other (omega (arith, same, here, at))) ∙ are.each m here ∙ sym (others m here other)
-  ];
-}
+set_on pages f g page number n on are at size own others = grind (arith, common_steps, on, get_or-set_same, get_or-set_other)
 
 pub off_number : (o : Option ℕ) (m number : ℕ) → o ≡ Some number → (m ≡ number → ⊥) → is_number m o ≡ false
 off_number o m number on other = ap (is_number m) on ∙ ne_eqb number m (λ same. other (sym same))
@@ -374,25 +298,11 @@ opened_off log pages updates u m off = opened_more log pages m updates u ∙ ap 
 
 pub after_on : (pages : List Version) (records : List Entry) (e : Entry) (page number : ℕ) (on : PageLengths) → number_of e.rec ≡ Some number → number / 32 ≡ page → length on.lengths ≡ 32 → AreOn pages (filled pages records) page on →
     AreOn pages (filled pages (records ++ e ∷ [])) page (cond (nat_lt on.lsn e.lsn) (record { lsn = on.lsn; lengths = slice_set on.lengths (number % 32) (length_of (after_of e.rec)) }) on)
-after_on pages records e page number on is at size are = by (nat_lt on.lsn e.lsn) news where
-  news : is_news pages e ≡ nat_lt on.lsn e.lsn
-  news = ap (is_behind pages e.lsn) is ∙ ap (λ (q : ℕ). nat_lt (version_at pages q).lsn e.lsn) at ∙ ap (λ (n : ℕ). nat_lt n e.lsn) (sym are.lsn)
-
-  more : (m : ℕ) (b : Bool) → is_news pages e ≡ b → filled pages (records ++ e ∷ []) m ≡ cond (b && is_on m e) (length_of (after_of e.rec)) (filled pages records m)
-  more m b is_so = filled_more pages records e m ∙ ap (λ (q : Bool). cond (q && is_on m e) (length_of (after_of e.rec)) (filled pages records m)) is_so
-
-  by : (b : Bool) → is_news pages e ≡ b → AreOn pages (filled pages (records ++ e ∷ [])) page (cond b (record { lsn = on.lsn; lengths = slice_set on.lengths (number % 32) (length_of (after_of e.rec)) }) on)
-  by true is_so = set_on pages (filled pages records) (filled pages (records ++ e ∷ [])) page number (length_of (after_of e.rec)) on are at size
-      (more number true is_so ∙ ap (λ (q : Bool). cond q (length_of (after_of e.rec)) (filled pages records number)) (on_number (number_of e.rec) number is)) (λ m here other. filled_off pages records e m (off_number (number_of e.rec) m number is other))
-  by false is_so = record { lsn = are.lsn; each = λ m here. are.each m here ∙ sym (more m false is_so) }
+after_on pages records e page number on is at size are = grind (arith, common_steps, nat_lt, on, filled_more, lengths, set_on, on_number, filled_off, off_number)
 
 pub raised_on : (log : List Entry) (pages : List Version) (updates : List LogRecord) (u : LogRecord) (page number : ℕ) (on : PageLengths) → number_of u ≡ Some number → number / 32 ≡ page → length on.lengths ≡ 32 → AreOn pages (opened log pages updates) page on →
     AreOn pages (opened log pages (updates ++ u ∷ [])) page (record { lsn = on.lsn; lengths = slice_set on.lengths (number % 32) (max (slice_index_or on.lengths (number % 32) 0) (length_of (before_of u))) })
-raised_on log pages updates u page number on is at size are =
-    set_on pages (opened log pages updates) (opened log pages (updates ++ u ∷ [])) page number (max (slice_index_or on.lengths (number % 32) 0) (length_of (before_of u))) on are at size
-    (opened_more log pages number updates u ∙ ap (λ (q : Bool). cond q (max (opened log pages updates number) (length_of (before_of u))) (opened log pages updates number)) (on_number (number_of u) number is)
-    ∙ ap (λ (n : ℕ). max n (length_of (before_of u))) (sym (are.each number at)))
-    (λ m here other. opened_off log pages updates u m (off_number (number_of u) m number is other))
+raised_on log pages updates u page number on is at size are = grind (arith, common_steps, set_on, on, opened_more, on_number, opened_off, off_number)
 
 -- The lengths of all pages.
 
@@ -413,23 +323,11 @@ fits_by f page n total end is =
 
 pub of_version : (pages : List Version) (page : ℕ) (octets : List ℕ) (lengths : ℕ → ℕ) (on : PageLengths) → version_at pages page ≡ version_in octets → on.lsn ≡ lsn_of octets →
     ((slot : ℕ) → slot < 32 → slice_index_or on.lengths slot 0 ≡ length_of (content_at (slots_of octets) slot)) → AreKeptOn pages lengths page None → AreOn pages lengths page on
-of_version pages page octets lengths on version lsn each kept = record {
-  lsn = lsn ∙ sym (ap (λ (v : Version). v.lsn) version);
-  each = λ number here. each (number % 32) (omega arith) ∙ sym (ap (λ (v : Version). length_of (content_at v.slots (number % 32))) (ap (version_at pages) here ∙ version)) ∙ kept number here;
-}
+of_version pages page octets lengths on version lsn each kept = grind (arith, common_steps)
 
 pub put_kept : {S : Type 0} (pages : List Version) (old new : ℕ → ℕ) (before after : IndexMap ℕ PageLengths S) (page : ℕ) (on : PageLengths) → AreKept pages old before → AreOn pages new page on → ((number : ℕ) → (number / 32 ≡ page → ⊥) → new number ≡ old number) →
     ((n : ℕ) → get nat_eq after n ≡ cond (nat_eq page n) (Some on) (get nat_eq before n)) → AreKept pages new after
-put_kept pages old new before after page on kept are others updates = record {
-  each = λ q less. subst (AreKeptOn pages new q) (sym (updates q)) (elim (cases_eq page q) [
-    | inl same ↦ subst (λ (b : Bool). AreKeptOn pages new q (cond b (Some on) (get nat_eq before q))) (sym (eq-eqb page q same)) (subst (λ (n : ℕ). AreOn pages new n on) same are)
-    | inr other ↦ subst (λ (b : Bool). AreKeptOn pages new q (cond b (Some on) (get nat_eq before q))) (sym (ne_eqb page q other))
-        (like q (get nat_eq before q) (λ number here. others number (λ is. other (sym is ∙ here))) (kept.each q less))
-  ]);
-} where
-  like : (q : ℕ) (o : Option PageLengths) → ((number : ℕ) → number / 32 ≡ q → new number ≡ old number) → AreKeptOn pages old q o → AreKeptOn pages new q o
-  like q None same of_it = λ number here. of_it number here ∙ sym (same number here)
-  like q (Some x) same of_it = record { lsn = of_it.lsn; each = λ number here. of_it.each number here ∙ sym (same number here) }
+put_kept pages old new before after page on kept are others updates = grind (arith, common_steps, on, eq-eqb, ne_eqb)
 
 pub fit_of : (pages : List Version) (new : ℕ → ℕ) (page : ℕ) (on : PageLengths) (fits : Bool) → AreOn pages new page on → (IsTrue fits ↔ (total_on page (λ number. slice_index_or on.lengths (number % 32) 0) ≤ page_room)) → IsTrue fits ↔ (total_on page new ≤ page_room)
 fit_of pages new page on fits are says = (
@@ -440,22 +338,13 @@ fit_of pages new page on fits are says = (
 -- what is kept behind a record on no number, on one of no page, and on one of a page
 module _ {S : Type 0} (pages : List Version) (old new : ℕ → ℕ) (o : Option ℕ) where
   pub fills_none : (kept : IndexMap ℕ PageLengths S) → o ≡ None → ((m : ℕ) → is_number m o ≡ false → new m ≡ old m) → AreKept pages old kept → Fills pages new o kept true
-  fills_none kept none same are = record {
-    kept_so = kept_as pages old new kept (λ m less. same m (ap (is_number m) none)) are;
-    fits_so = (λ yes. subst (FitsAt pages new) (sym none) tt, λ fits. refl);
-  }
+  fills_none kept none same are = grind (arith, common_steps, kept_as)
 
   pub fills_past : (number : ℕ) (kept : IndexMap ℕ PageLengths S) → o ≡ Some number → length pages ≤ number / 32 → ((m : ℕ) → is_number m o ≡ false → new m ≡ old m) → AreKept pages old kept → Fills pages new o kept true
-  fills_past number kept on past same are = record {
-    kept_so = kept_as pages old new kept (λ m less. same m (off_number o m number on (λ is. let at = ap (λ (k : ℕ). k / 32) is in omega (arith, less, past, at)))) are;
-    fits_so = (λ yes. subst (FitsAt pages new) (sym on) (λ less. absurd (omega (arith, less, past))), λ fits. refl);
-  }
+  fills_past number kept on past same are = grind (arith, common_steps, kept_as, off_number, on)
 
 pub fills_on : {S : Type 0} (pages : List Version) (new : ℕ → ℕ) (o : Option ℕ) (number : ℕ) (kept : IndexMap ℕ PageLengths S) (fits : Bool) → o ≡ Some number → number / 32 < length pages → AreKept pages new kept × (IsTrue fits ↔ (total_on (number / 32) new ≤ page_room)) → Fills pages new o kept fits
-fills_on pages new o number kept fits on less says = record {
-  kept_so = says.0;
-  fits_so = (λ yes. subst (FitsAt pages new) (sym on) (λ below. says.1.0 yes), λ room. says.1.1 (subst (FitsAt pages new) on room less));
-}
+fills_on pages new o number kept fits on less says = grind (arith, common_steps, on, below)
 
 -- All that undo puts back.
 
@@ -501,12 +390,7 @@ module _ {S : Type 0} (log : List Entry) (pages : List Version) (whole : List Lo
 
 -- the last of some records comes first where they run back
 pub last_first : (xs : List LogRecord) (k : ℕ) (x : LogRecord) → k < length xs → x ≡ get_or xs k x → reverse (take (suc k) xs) ≡ x ∷ reverse (take k xs)
-last_first xs k x inside at = ap reverse (take_more xs k x inside at) ∙ reverse-append (take k xs) (x ∷ [])
-  where
-    take_more : (ys : List LogRecord) (n : ℕ) (y : LogRecord) → n < length ys → y ≡ get_or ys n y → take (suc n) ys ≡ take n ys ++ y ∷ []
-    take_more [] n y inside at = absurd (omega (arith, inside))
-    take_more (z ∷ ys) zero y inside at = λ i. sym at i ∷ []
-    take_more (z ∷ ys) (suc n) y inside at = ap (λ (l : List LogRecord). z ∷ l) (take_more ys n y (omega (arith, inside)) at)
+last_first xs k x inside at = grind (arith, common_steps, reverse-append, get_or)
 
 -- a version has room for what its slots have
 pub first_room : (g : Geometry) (image : Image) → AreVersions g image → HaveRoom (versions_on g image) (filled (versions_on g image) [])
@@ -521,11 +405,8 @@ below_it log front e back from to split order = all_below from front e.lsn (in_o
 
 -- each of a list of losers is on it
 pub all_listed : (ns : List ℕ) → AllByRecursion (λ n. list_any (λ m. m == n) ns ≡ true) ns
-all_listed [] = tt
-all_listed (n ∷ ns) = (
-  or_left (n == n) (list_any (λ m. m == n) ns) (eq-eqb n n refl),
-  all_weaker (λ m. list_any (λ k. k == m) ns ≡ true) (λ m. list_any (λ k. k == m) (n ∷ ns) ≡ true) (λ m there. or_right (n == m) (list_any (λ k. k == m) ns) there) ns (all_listed ns),
-)
+all_listed [] = grind (arith, common_steps)
+all_listed (n ∷ ns) = grind (arith, common_steps, or_left, eq-eqb, all_weaker, or_right, (all_listed ns))
 
 -- the transactions of entries
 txns_of : (log : List Entry) (ns : List ℕ) → map (λ (e : ℕ × Left). e.0) (map entry_of (map (unfinished_at log) ns)) ≡ ns

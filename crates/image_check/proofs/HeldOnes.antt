@@ -1,10 +1,11 @@
 -- What unfinished transactions have written, after one record more.
-use Rattle.std.proofs.Common.{◌≡◌, ℕ, inl, inr, Bool, true, false, true≢false, not, ◌&&◌, ◌||◌, cond, nat_eq, List, [], ◌∷◌, ◌++◌, map, drop, Option, Some, None, option_map, refl, sym, ap, ◌∙◌}
+use Rattle.std.proofs.Common.{arith}
+use Rattle.std.proofs.lemmas.Grind.{common_steps}
+use Rattle.std.proofs.Common.{◌≡◌, ℕ, Bool, true, false, true≢false, not, ◌&&◌, ◌||◌, cond, nat_eq, List, [], ◌∷◌, ◌++◌, map, drop, Option, Some, None, option_map, refl, sym, ap, ◌∙◌}
 use Rattle.std.specs.Prelude.{filter, is_some, ◌==◌}
 use Rattle.std.specs.List.{AllByRecursion, list_any}
-use Rattle.std.specs.Option.{option_or}
 use Rattle.std.specs.Map.{lookup}
-use Rattle.std.proofs.lemmas.Bool.{and_from, and_parts, or_left, cases_Bool, eqb-true, eq-eqb, not-true, not_from_false}
+use Rattle.std.proofs.lemmas.Bool.{and_from, and_parts, or_left, eqb-true, eq-eqb, not-true, not_from_false}
 use Rattle.std.proofs.lemmas.List.{append-nil}
 use Rattle.std.proofs.lemmas.List.Elements.{filter-append}
 use Rattle.std_lemmas.proofs.AllOf.{all_push, all_weaker, all_between}
@@ -12,7 +13,7 @@ use Rattle.std_lemmas.proofs.Lists.{any_between}
 use Rattle.indexmap.specs.IndexMap.{IndexMap, get}
 use Rattle.log_records.specs.declared.log_record.LogRecord.{LogRecord}
 use Rattle.log_records.specs.declared.log_record.LogRecord.TheVariants.{Begin, Update, Clr, Commit, End}
-use Rattle.log_records.specs.Log.{Entry, txn_of, is_of, is_closed, is_update, is_number, is_on, number_of, entries_of, last_where, last_on}
+use Rattle.log_records.specs.Log.{Entry, txn_of, is_of, is_closed, is_update, is_number, is_on, number_of, entries_of, last_where}
 use Rattle.log_records.specs.Unfinished.{is_begin, losers}
 use Rattle.log_records.specs.Sound.{LogicalImage, Pairwise, HoldsOff, IsLoserChain}
 use Rattle.log_laws.specs.Analysis.{unfinished_at}
@@ -51,20 +52,7 @@ chain_listed log t lives chain =
 
 -- where each unfinished transaction has its chain, each one with a record is on the list or closed
 pub listed : (p : LogicalImage) (front : List Entry) (e : Entry) (back : List Entry) → p.log ≡ front ++ e ∷ back → LosersCanBeUndone p → IsListed p.log (txn_of e)
-listed p front e back split fourth = elim (cases_Bool (is_closed p.log t)) [
-  | inl closed ↦
-      let off : list_any (λ n. n == t) (losers p.log) ≡ false = elim (cases_Bool (list_any (λ n. n == t) (losers p.log))) [
-        | inl there ↦ absurd (true≢false (sym closed ∙ not-true (is_closed p.log t) (and_parts (list_any (is_of t) p.log) (not (is_closed p.log t)) (listed_is_loser p.log t there)).1))
-        | inr other ↦ other
-      ] in
-      closed ∙ sym (ap not off)
-  | inr lives ↦
-      let some : list_any (is_of t) p.log ≡ true = ap (list_any (is_of t)) split ∙ any_between (is_of t) front e back (eq-eqb (txn_of e) t refl) in
-      lives ∙ sym (ap not (chain_listed p.log t lives (fourth t (and_from (list_any (is_of t) p.log) (not (is_closed p.log t)) some (not_from_false (is_closed p.log t) lives)))))
-]
-  where
-    t : ℕ
-    t = txn_of e
+listed p front e back split fourth = grind (arith, common_steps, not-true, and_parts, listed_is_loser, any_between, eq-eqb, chain_listed, and_from, not_from_false)
 
 -- One record more.
 
@@ -76,27 +64,12 @@ filtered log records e b is = filter-append (holds log) records (e ∷ []) ∙ a
 
 -- one that doesn't hold
 pub held_same : {S : Type 0} (log records : List Entry) (e : Entry) (held : IndexMap ℕ ℕ S) → holds log e ≡ false → AreHeld log records held → AreHeld log (records ++ e ∷ []) held
-held_same log records e held other is =
-    let same = filtered log records e false other ∙ append-nil (filter (holds log) records) in
-    record { each = λ number. is.each number ∙ ap (λ (l : List Entry). option_map txn_of (last_on l number)) (sym same) }
+held_same log records e held other is = grind (arith, common_steps, filtered, append-nil, option_map)
 
 -- one that holds a number
 pub held_more : {S : Type 0} (log records : List Entry) (e : Entry) (m : ℕ) (old new : IndexMap ℕ ℕ S) → holds log e ≡ true → number_of e.rec ≡ Some m →
     ((number : ℕ) → get nat_eq new number ≡ cond (nat_eq m number) (Some (txn_of e)) (get nat_eq old number)) → AreHeld log records old → AreHeld log (records ++ e ∷ []) new
-held_more log records e m old new own on updates is = record {
-  each = λ number. updates number ∙ by number (m == number) refl ∙ ap (λ (l : List Entry). option_map txn_of (last_on l number)) (sym (filtered log records e true own));
-}
-  where
-    before : List Entry
-    before = filter (holds log) records
-
-    by : (number : ℕ) (b : Bool) → (m == number) ≡ b → cond (nat_eq m number) (Some (txn_of e)) (get nat_eq old number) ≡ option_map txn_of (last_on (before ++ e ∷ []) number)
-    by number true here =
-        let test : nat_eq m number ≡ true = here in
-        ap (λ (b : Bool). cond b (Some (txn_of e)) (get nat_eq old number)) test ∙ ap (option_map txn_of) (sym (last_new before e number (ap (is_number number) on ∙ here)))
-    by number false other =
-        let test : nat_eq m number ≡ false = other in
-        ap (λ (b : Bool). cond b (Some (txn_of e)) (get nat_eq old number)) test ∙ is.each number ∙ ap (option_map txn_of) (sym (last_same before e number (ap (is_number number) on ∙ other)))
+held_more log records e m old new own on updates is = grind (arith, common_steps, option_map, filtered, nat_eq, last_new, last_same)
 
 pub not_update : (rec : LogRecord) → ((txn prev page slot : ℕ) (before after : Option (List ℕ)) → rec ≡ Update txn prev page slot before after → ⊥) → is_update rec ≡ false
 not_update Begin other = refl
@@ -114,38 +87,12 @@ holds_there log number u = holds log u && is_on number u
 -- where the last of these is of a transaction, or there is none, each is: those before the last hold others off from it
 all_of : (log : List Entry) (number t : ℕ) (xs : List Entry) → Pairwise (HoldsOff log) xs → is_others (option_map txn_of (last_where (holds_there log number) xs)) t ≡ false →
     AllByRecursion (λ u. holds_there log number u ≡ true → txn_of u ≡ t) xs
-all_of log number t [] pairs off = tt
-all_of log number t (y ∷ ys) pairs off = by (last_where (holds_there log number) ys) refl off (all_of log number t ys pairs.1)
-  where
-    own : (n : ℕ) → not (n == t) ≡ false → n ≡ t
-    own n is = eqb-true n t (from_not (n == t) is)
-      where
-        from_not : (k : Bool) → not k ≡ false → k ≡ true
-        from_not true is = refl
-        from_not false is = absurd (true≢false is)
-
-    by : (o : Option Entry) → last_where (holds_there log number) ys ≡ o → is_others (option_map txn_of (option_or o (one (holds_there log number) y))) t ≡ false →
-        (is_others (option_map txn_of (last_where (holds_there log number) ys)) t ≡ false → AllByRecursion (λ u. holds_there log number u ≡ true → txn_of u ≡ t) ys) →
-        (holds_there log number y ≡ true → txn_of y ≡ t) × AllByRecursion (λ u. holds_there log number u ≡ true → txn_of u ≡ t) ys
-    by None last off again = (
-      λ here. own (txn_of y) (sym (ap (λ (o : Option Entry). is_others (option_map txn_of o) t) (one_true (holds_there log number) y here)) ∙ off),
-      again (ap (λ (o : Option Entry). is_others (option_map txn_of o) t) last),
-    )
-    by (Some x) last off again = (
-      λ here.
-          let mine = and_parts (holds log y) (is_on number y) here in
-          let both = and_parts (is_update y.rec) (not (is_closed log (txn_of y))) mine.0 in
-          let its = and_parts (holds log x) (is_on number x) (last_passes (holds_there log number) ys x last) in
-          all_last (HoldsOff log y) (holds_there log number) ys x pairs.0 last number both.0 mine.1 its.1 (not-true (is_closed log (txn_of y)) both.1) ∙ own (txn_of x) off,
-      again (ap (λ (o : Option Entry). is_others (option_map txn_of o) t) last ∙ off),
-    )
+all_of log number t [] pairs off = grind (arith, common_steps)
+all_of log number t (y ∷ ys) pairs off = grind (arith, common_steps, eqb-true, option_map, one, one_true, and_parts, last_passes, all_last, not-true, (all_of log number t ys pairs.1))
 
 -- and then none holds off a record of that transaction
 off_none : (log : List Entry) (e : Entry) (n : ℕ) → number_of e.rec ≡ Some n → (u : Entry) → (holds_there log n u ≡ true → txn_of u ≡ txn_of e) → HoldsOff log u e
-off_none log e n on u own number update on_u on_e lives =
-    let same : n ≡ number = eqb-true n number (sym (ap (is_number number) on) ∙ on_e) in
-    let holder : holds log u ≡ true = and_from (is_update u.rec) (not (is_closed log (txn_of u))) update (not_from_false (is_closed log (txn_of u)) lives) in
-    own (and_from (holds log u) (is_on n u) holder (ap (λ (m : ℕ). is_on m u) same ∙ on_u))
+off_none log e n on u own number update on_u on_e lives = grind (arith, common_steps, eqb-true, and_from, not_from_false)
 
 none_off : (log : List Entry) (e : Entry) → number_of e.rec ≡ None → (xs : List Entry) → AllByRecursion (λ u. HoldsOff log u e) xs
 none_off log e none [] = tt

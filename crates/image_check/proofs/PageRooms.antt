@@ -1,5 +1,6 @@
 -- The values of a sound page have room in its heap: they overlap nowhere.
-use Rattle.std.proofs.Common.{◌≡◌, inl, inr, ℕ, zero, suc, ◌+◌, ◌-◌, ◌*◌, ◌≤◌, ◌<◌, Bool, true, false, true≢false, cond, ◌&&◌, ◌||◌, nat_le, nat_lt, Some, None, List, [], refl, sym, ap, ◌∙◌, subst, arith}
+use Rattle.std.proofs.lemmas.Grind.{common_steps}
+use Rattle.std.proofs.Common.{◌≡◌, inl, inr, ℕ, zero, suc, ◌+◌, ◌-◌, ◌*◌, ◌≤◌, ◌<◌, Bool, true, false, cond, ◌&&◌, ◌||◌, nat_le, nat_lt, Some, None, List, refl, ap, ◌∙◌, arith}
 use Rattle.std.specs.Prelude.{sum_by}
 use Rattle.std.specs.List.{range_with_len}
 use Rattle.std.proofs.lemmas.Bool.{and_from, and_parts, le-leb, leb-true, lt-ltb, ltb-true}
@@ -13,10 +14,8 @@ use Rattle.slotted_page.proofs.Slots.{get_or-slots_of}
 
 -- one number more at the end
 pub sum_last : (f : ℕ → ℕ) (a n : ℕ) → sum_by f (range_with_len a (suc n)) ≡ sum_by f (range_with_len a n) + f (a + n)
-sum_last f a zero = let at = ap f (let same : a + 0 ≡ a = omega arith in same) in omega (arith, at, sum_by-cons f a [])
-sum_last f a (suc n) =
-    let at = ap f (let same : a + 1 + n ≡ a + suc n = omega arith in same) in
-    omega (arith, at, sum_last f (a + 1) n, sum_by-cons f a (range_with_len (a + 1) (suc n)), sum_by-cons f a (range_with_len (a + 1) n))
+sum_last f a zero = grind (arith, common_steps, sum_by-cons)
+sum_last f a (suc n) = grind (arith, common_steps, sum_by-cons, (sum_last f (a + 1) n))
 
 -- How many of n numbers from one on pass a test.
 
@@ -25,45 +24,26 @@ count f base zero = 0
 count f base (suc n) = cond (f base) 1 0 + count f (base + 1) n
 
 count_few : (f : ℕ → Bool) (base n : ℕ) → count f base n ≤ n
-count_few f base zero = omega arith
-count_few f base (suc n) = by (f base) (count_few f (base + 1) n) where
-  by : (b : Bool) → count f (base + 1) n ≤ n → cond b 1 0 + count f (base + 1) n ≤ suc n
-  by true rest = omega (arith, rest)
-  by false rest = omega (arith, rest)
+count_few f base zero = grind (arith, common_steps)
+count_few f base (suc n) = grind (arith, common_steps, (count_few f (base + 1) n))
 
 count_both : (f g : ℕ → Bool) (base n : ℕ) → ((p : ℕ) → f p ≡ true → g p ≡ true → ⊥) → count f base n + count g base n ≤ count (λ p. f p || g p) base n
-count_both f g base zero apart = omega arith
-count_both f g base (suc n) apart = by (f base) (g base) (apart base) (count_both f g (base + 1) n apart) where
-  by : (a b : Bool) → (a ≡ true → b ≡ true → ⊥) → count f (base + 1) n + count g (base + 1) n ≤ count (λ p. f p || g p) (base + 1) n →
-      cond a 1 0 + count f (base + 1) n + (cond b 1 0 + count g (base + 1) n) ≤ cond (a || b) 1 0 + count (λ p. f p || g p) (base + 1) n
-  by true true never rest = absurd (never refl refl)
-  by true false never rest = omega (arith, rest)
-  by false true never rest = omega (arith, rest)
-  by false false never rest = omega (arith, rest)
+count_both f g base zero apart = grind (arith, common_steps)
+count_both f g base (suc n) apart = grind (arith, common_steps, (count_both f g (base + 1) n apart))
 
 abbrev is_in : ℕ → ℕ → ℕ → Bool
 is_in from to p = nat_le from p && nat_lt p to
 
 -- those of a range within
 count_in : (from to base n k : ℕ) → from ≤ base → base + k ≤ to → k ≤ n → k ≤ count (is_in from to) base n
-count_in from to base n zero low high few = omega arith
-count_in from to base zero (suc k) low high few = absurd (omega (arith, few))
-count_in from to base (suc n) (suc k) low high few =
-    let here : is_in from to base ≡ true = and_from (nat_le from base) (nat_lt base to) (le-leb from base low) (lt-ltb base to (omega (arith, high))) in
-    let rest = count_in from to (base + 1) n k (omega (arith, low)) (omega (arith, high)) (omega (arith, few)) in
-    subst (λ (b : Bool). suc k ≤ cond b 1 0 + count (is_in from to) (base + 1) n) (sym here) (omega (arith, rest))
+count_in from to base n zero low high few = grind (arith, common_steps)
+count_in from to base zero (suc k) low high few = grind (arith, common_steps)
+count_in from to base (suc n) (suc k) low high few = grind (arith, common_steps, and_from, nat_le, nat_lt, le-leb, lt-ltb, (count_in from to (base + 1) n k (omega (arith, low)) (omega (arith, high)) (omega (arith, few))))
 
 count_inside : (from to base n d : ℕ) → base + d ≡ from → from ≤ to → to ≤ base + n → to - from ≤ count (is_in from to) base n
-count_inside from to base n zero at order within = count_in from to base n (to - from) (omega (arith, at)) (omega (arith, at, order)) (omega (arith, at, within))
-count_inside from to base zero (suc d) at order within = omega (arith, at, order, within)
-count_inside from to base (suc n) (suc d) at order within =
-    let rest = count_inside from to (base + 1) n d (omega (arith, at)) order (omega (arith, within)) in
-    let more = no_less (is_in from to base) (count (is_in from to) (base + 1) n) in
-    omega (arith, rest, more)
-  where
-    no_less : (b : Bool) (k : ℕ) → k ≤ cond b 1 0 + k
-    no_less true k = omega arith
-    no_less false k = omega arith
+count_inside from to base n zero at order within = grind (arith, common_steps, count_in)
+count_inside from to base zero (suc d) at order within = grind (arith, common_steps)
+count_inside from to base (suc n) (suc d) at order within = grind (arith, common_steps, (count_inside from to (base + 1) n d (omega (arith, at)) order (omega (arith, within))))
 
 -- The octets of a page's values.
 
@@ -77,9 +57,7 @@ module _ (octets : List ℕ) (sound : IsSound octets) (base size : ℕ) (first :
   covered (suc n) p = covered n p || in_slot n p
 
   bounds : (slot p : ℕ) → in_slot slot p ≡ true → (offset_of octets slot ≤ p) × (p < offset_of octets slot + length_of octets slot)
-  bounds slot p here =
-      let both = and_parts (nat_le (offset_of octets slot) p) (nat_lt p (offset_of octets slot + length_of octets slot)) here in
-      (leb-true (offset_of octets slot) p both.0, ltb-true p (offset_of octets slot + length_of octets slot) both.1)
+  bounds slot p here = grind (arith, common_steps, and_parts, nat_le, nat_lt, leb-true, ltb-true)
 
   apart : (a b p : ℕ) → a < b → b < 32 → in_slot a p ≡ true → in_slot b p ≡ true → ⊥
   apart a b p order less left right =
@@ -96,12 +74,8 @@ module _ (octets : List ℕ) (sound : IsSound octets) (base size : ℕ) (first :
 
   -- no octet belongs to two of them
   twice : (n slot p : ℕ) → n ≤ slot → slot < 32 → covered n p ≡ true → in_slot slot p ≡ true → ⊥
-  twice zero slot p order less before here = true≢false (sym before)
-  twice (suc n) slot p order less before here = by (covered n p) (in_slot n p) refl refl before (twice n slot p (omega (arith, order)) less) where
-    by : (a b : Bool) → covered n p ≡ a → in_slot n p ≡ b → (a || b) ≡ true → (covered n p ≡ true → in_slot slot p ≡ true → ⊥) → ⊥
-    by true b is own some again = again is here
-    by false true is own some again = apart n slot p order less own here
-    by false false is own some again = true≢false (sym some)
+  twice zero slot p order less before here = grind (arith, common_steps)
+  twice (suc n) slot p order less before here = grind (arith, common_steps, apart, (twice n slot p (omega (arith, order)) less))
 
   slot_counted : (slot : ℕ) → slot < 32 → length_of octets slot ≤ count (in_slot slot) base size
   slot_counted slot less = by (length_of octets slot) refl where

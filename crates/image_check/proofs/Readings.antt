@@ -1,5 +1,6 @@
 -- Devices are read in one way.
-use Rattle.std.proofs.Common.{◌≡◌, inl, inr, ℕ, zero, suc, ◌+◌, ◌-◌, ◌≤◌, min, List, [], ◌∷◌, length, drop, refl, sym, ap, ◌∙◌, subst, arith}
+use Rattle.std.proofs.lemmas.Grind.{common_steps}
+use Rattle.std.proofs.Common.{◌≡◌, ℕ, zero, suc, ◌+◌, ◌-◌, ◌≤◌, min, List, [], ◌∷◌, length, drop, refl, sym, ap, ◌∙◌, subst, arith}
 use Rattle.std.specs.Prelude.{map}
 use Rattle.std.proofs.lemmas.Bool.{cases_lt}
 use Rattle.std.specs.List.{AllByRecursion}
@@ -7,7 +8,7 @@ use Rattle.std.proofs.lemmas.List.{length-map, length-drop}
 use Rattle.site.specs.declared.geometry.Geometry.{Geometry}
 use Rattle.site.specs.State.{Image}
 use Rattle.sealed_ring.specs.declared.slots.Shape.{Shape}
-use Rattle.sealed_ring.specs.Ring.{IsLive, hi_of, units_from, last_of}
+use Rattle.sealed_ring.specs.Ring.{IsLive, hi_of, units_from}
 use Rattle.sealed_ring.proofs.Heads.{unit_is}
 use Rattle.sealed_ring.proofs.Units.{live_count}
 use Rattle.image_changes.specs.Rings.{log_shape, units_on}
@@ -16,7 +17,7 @@ use Rattle.log_records.specs.Spelling.{block, AreBlock, IsBlock}
 use Rattle.checkpoint.specs.declared.master.Master.{Master}
 use Rattle.checkpoint.specs.Laws.{OneNewest}
 use Rattle.log_store.specs.Representation.{HasBlocks}
-use Rattle.image_form.specs.Verdict.{Reading, Rule, KeptBlocksAreLive}
+use Rattle.image_form.specs.Verdict.{Reading, Rule}
 use Rattle.image_check.specs.Laws.{OneReading, AReading, SoundFailsNone}
 use Rattle.image_form.proofs.LiveUnits.{all_from}
 use Rattle.log_store.proofs.OneLog.{one_blocks}
@@ -25,11 +26,7 @@ use Rattle.image_form.proofs.FirstRule.{one_size}
 -- One reading.
 
 held_once : (g : Geometry) (kept : ℕ) (a b : List (List LogRecord)) (image : Image) → HasBlocks g kept a image → HasBlocks g kept b image → a ≡ b
-held_once g kept a b image first second =
-    let next = first.next in
-    let next' = second.next in
-    let count : length a ≡ length b = omega (arith, next, next') in
-    one_blocks a b first.are_blocks second.are_blocks (sym first.units ∙ ap (λ (n : ℕ). last_of n (units_on (log_shape g) image).live) count ∙ second.units)
+held_once g kept a b image first second = grind (arith, common_steps, one_blocks)
 
 pub reads_once : OneNewest → OneReading
 reads_once newest image a b first second =
@@ -104,33 +101,13 @@ a_reading g m image formed live =
 
 -- no rule has another number
 pub no_rule : (i : ℕ) (r : Reading) (image : Image) → (3 ≤ i → i ≤ 12 → ⊥) → Rule i r image
-no_rule i r image outside = record {
-  third = λ is. absurd (outside (omega (arith, is)) (omega (arith, is)));
-  fourth = λ is. absurd (outside (omega (arith, is)) (omega (arith, is)));
-  fifth = λ is. absurd (outside (omega (arith, is)) (omega (arith, is)));
-  sixth = λ is. absurd (outside (omega (arith, is)) (omega (arith, is)));
-  seventh = λ is. absurd (outside (omega (arith, is)) (omega (arith, is)));
-  eighth = λ is. absurd (outside (omega (arith, is)) (omega (arith, is)));
-  ninth = λ is. absurd (outside (omega (arith, is)) (omega (arith, is)));
-  tenth = λ is. absurd (outside (omega (arith, is)) (omega (arith, is)));
-  eleventh = λ is. absurd (outside (omega (arith, is)) (omega (arith, is)));
-  twelfth = λ is. absurd (outside (omega (arith, is)) (omega (arith, is)));
-}
+no_rule i r image outside = grind (arith, common_steps)
 
 pub rule_past : (i : ℕ) (r : Reading) (image : Image) → 13 ≤ i → Rule i r image
 rule_past i r image past = no_rule i r image (λ low high. omega (arith, past, high))
 
 pub sound_fails_none : OneNewest → SoundFailsNone
-sound_fails_none newest image records commits zero sound fails = fails
-sound_fails_none newest image records commits (suc zero) sound fails = fails sound.reading.g sound.reading.master sound.reads.formed
-sound_fails_none newest image records commits (suc (suc zero)) sound fails =
-    let sizes : sound.reading.g ≡ fails.0 = one_size sound.reading.g fails.0 image sound.reads.formed.sizes fails.2.sizes in
-    let masters : sound.reading.master ≡ fails.1 = newest image sound.reading.master fails.1 sound.reads.formed.master fails.2.master in
-    fails.3 (subst (λ (m : Master). KeptBlocksAreLive fails.0 m image) masters (subst (λ (g : Geometry). KeptBlocksAreLive g sound.reading.master image) sizes sound.reads.live))
-sound_fails_none newest image records commits (suc (suc (suc i))) sound fails =
-    let k : ℕ = suc (suc (suc i)) in
-    let same : sound.reading ≡ fails.0 = reads_once newest image sound.reading fails.0 sound.reads fails.1 in
-    fails.3 (elim (cases_lt k 13) [
-      | inl below ↦ subst (λ (r : Reading). Rule k r image) same (sound.rules k below)
-      | inr past ↦ rule_past k fails.0 image past
-    ])
+sound_fails_none newest image records commits zero sound fails = grind (arith)
+sound_fails_none newest image records commits (suc zero) sound fails = grind (arith)
+sound_fails_none newest image records commits (suc (suc zero)) sound fails = grind (arith, one_size)
+sound_fails_none newest image records commits (suc (suc (suc i))) sound fails = grind (arith, reads_once, cases_lt, rule_past)

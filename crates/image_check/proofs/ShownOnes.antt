@@ -1,9 +1,9 @@
 -- What versions know of a log, record by record, and the sixth rule of it.
-use Rattle.std.proofs.Common.{◌≡◌, ℕ, suc, ◌+◌, ◌*◌, ◌/◌, ◌≤◌, ◌<◌, ◌==◌, ◌&&◌, inl, inr, Bool, true, false, true≢false, cond, nat_eq, nat_lt, nat_le, List, [], ◌∷◌, ◌++◌, length, map, Option, Some, None, option_map, refl, sym, ap, ◌∙◌, subst, arith}
+use Rattle.std.proofs.lemmas.Grind.{common_steps}
+use Rattle.std.proofs.Common.{◌≡◌, ℕ, suc, ◌+◌, ◌*◌, ◌/◌, ◌≤◌, ◌<◌, ◌&&◌, Bool, true, false, true≢false, cond, nat_eq, nat_lt, nat_le, List, [], ◌∷◌, ◌++◌, length, map, Option, Some, None, option_map, refl, sym, ap, ◌∙◌, subst, arith}
 use Rattle.std.specs.Prelude.{slice_get, Ok}
 use Rattle.std.specs.List.{AllByRecursion, list_all, range_with_len}
-use Rattle.std.specs.Option.{option_or}
-use Rattle.std.proofs.lemmas.Bool.{and_from, cases_Bool, cases_eq, eqb-true, ne_eqb}
+use Rattle.std.proofs.lemmas.Bool.{and_from, eqb-true, ne_eqb}
 use Rattle.std.proofs.lemmas.Bool.Decides.{nat_tests}
 use Rattle.std.proofs.lemmas.Option.{slice_get-map, slice_get-get_or, slice_get_within, none-some, same_Some}
 use Rattle.std.proofs.lemmas.List.{map-append}
@@ -15,7 +15,7 @@ use Rattle.site.proofs.Laws.{stays_honest}
 use Rattle.site.specs.Work.{OnlyReads}
 use Rattle.indexmap.specs.IndexMap.{IndexMap, get}
 use Rattle.record_model.specs.State.{Content, content_at}
-use Rattle.log_records.specs.Log.{Entry, Version, blank_version, version_at, number_of, is_number, is_on, after_of, last_where}
+use Rattle.log_records.specs.Log.{Entry, Version, blank_version, version_at, number_of, is_number, is_on, after_of}
 use Rattle.log_records.specs.Sound.{LogicalImage, ShowsLast, before_block, last_known}
 use Rattle.slotted_page.specs.Layout.{lsn_of}
 use Rattle.second_chance.specs.Queue.{Queue}
@@ -49,18 +49,12 @@ is_known (Some known) lsn = nat_le lsn known
 
 -- of a number whose version doesn't know of it, or that it isn't on
 pub written_same : (records : List Entry) (e : Entry) (number : ℕ) (o : Option ℕ) → (is_on number e && is_known o e.lsn) ≡ false → written_by (records ++ e ∷ []) number o ≡ written_by records number o
-written_same records e number None none = refl
-written_same records e number (Some known) none =
-    let test : Entry → Bool = λ x. is_on number x && nat_le x.lsn known in
-    ap (option_map (λ (x : Entry). after_of x.rec)) (last_where-append test records (e ∷ [])
-    ∙ ap (λ (b : Bool). option_or (cond b (Some e) None) (last_where test records)) none)
+written_same records e number None none = grind (arith, common_steps)
+written_same records e number (Some known) none = grind (arith, common_steps, nat_le, option_map, last_where-append)
 
 -- and of the number that it is on
 pub written_now : (records : List Entry) (e : Entry) (number known : ℕ) → (is_on number e && nat_le e.lsn known) ≡ true → written_by (records ++ e ∷ []) number (Some known) ≡ Some (after_of e.rec)
-written_now records e number known here =
-    let test : Entry → Bool = λ x. is_on number x && nat_le x.lsn known in
-    ap (option_map (λ (x : Entry). after_of x.rec)) (last_where-append test records (e ∷ [])
-    ∙ ap (λ (b : Bool). option_or (cond b (Some e) None) (last_where test records)) here)
+written_now records e number known here = grind (arith, common_steps, nat_le, option_map, last_where-append)
 
 pub expected_same : {S : Type 0} (lsns : List ℕ) (records : List Entry) (e : Entry) (contents : IndexMap ℕ Content S) →
     ((number : ℕ) → (is_on number e && is_known (slice_get lsns (number / 32)) e.lsn) ≡ false) → AreExpected lsns records contents → AreExpected lsns (records ++ e ∷ []) contents
@@ -71,67 +65,32 @@ pub on_none : (lsns : List ℕ) (e : Entry) → number_of e.rec ≡ None → (nu
 on_none lsns e none number = ap (λ (o : Option ℕ). is_number number o && is_known (slice_get lsns (number / 32)) e.lsn) none
 
 pub on_unknown : (lsns : List ℕ) (e : Entry) (m : ℕ) → number_of e.rec ≡ Some m → is_known (slice_get lsns (m / 32)) e.lsn ≡ false → (number : ℕ) → (is_on number e && is_known (slice_get lsns (number / 32)) e.lsn) ≡ false
-on_unknown lsns e m on none number = elim (cases_eq m number) [
-  | inl same ↦ ap (λ (b : Bool). is_on number e && b) (ap (λ (n : ℕ). is_known (slice_get lsns (n / 32)) e.lsn) (sym same) ∙ none) ∙ never (is_on number e)
-  | inr other ↦ ap (λ (b : Bool). b && is_known (slice_get lsns (number / 32)) e.lsn) (ap (is_number number) on ∙ ne_eqb m number other)
-]
-  where
-    never : (b : Bool) → (b && false) ≡ false
-    never true = refl
-    never false = refl
+on_unknown lsns e m on none number = grind (arith, common_steps, ne_eqb)
 
 pub expected_more : {S : Type 0} (lsns : List ℕ) (records : List Entry) (e : Entry) (m known : ℕ) (old new : IndexMap ℕ Content S) → number_of e.rec ≡ Some m → slice_get lsns (m / 32) ≡ Some known → e.lsn ≤ known →
     ((number : ℕ) → get nat_eq new number ≡ cond (nat_eq m number) (Some (after_of e.rec)) (get nat_eq old number)) → AreExpected lsns records old → AreExpected lsns (records ++ e ∷ []) new
-expected_more lsns records e m known old new on at low updates is = record { each = λ number. updates number ∙ by number (m == number) refl }
-  where
-    by : (number : ℕ) (b : Bool) → (m == number) ≡ b → cond (nat_eq m number) (Some (after_of e.rec)) (get nat_eq old number) ≡ written_by (records ++ e ∷ []) number (slice_get lsns (number / 32))
-    by number true here =
-        let same : m ≡ number = eqb-true m number here in
-        let test : nat_eq m number ≡ true = here in
-        let there : slice_get lsns (number / 32) ≡ Some known = ap (λ (n : ℕ). slice_get lsns (n / 32)) (sym same) ∙ at in
-        let is_there : is_on number e ≡ true = ap (is_number number) on ∙ here in
-        let knows : nat_le e.lsn known ≡ true = grind (arith, nat_tests, low) in
-        ap (λ (b : Bool). cond b (Some (after_of e.rec)) (get nat_eq old number)) test
-        ∙ sym (ap (written_by (records ++ e ∷ []) number) there ∙ written_now records e number known (and_from (is_on number e) (nat_le e.lsn known) is_there knows))
-    by number false other =
-        let test : nat_eq m number ≡ false = other in
-        let off : (is_on number e && is_known (slice_get lsns (number / 32)) e.lsn) ≡ false = ap (λ (b : Bool). b && is_known (slice_get lsns (number / 32)) e.lsn) (ap (is_number number) on ∙ other) in
-        ap (λ (b : Bool). cond b (Some (after_of e.rec)) (get nat_eq old number)) test ∙ is.each number ∙ sym (written_same records e number (slice_get lsns (number / 32)) off)
+expected_more lsns records e m known old new on at low updates is = grind (arith, common_steps, nat_eq, eqb-true, nat_le, nat_tests, written_now, and_from, written_same)
 
 -- The LSNs of versions.
 
 module _ (pages : List Version) (lsns : List ℕ) (are : lsns ≡ map (λ (v : Version). v.lsn) pages) where
   pub lsn_at : (page : ℕ) → page < length pages → slice_get lsns page ≡ Some (version_at pages page).lsn
-  lsn_at page less =
-      let lsn : Version → ℕ = λ v. v.lsn in
-      ap (λ (l : List ℕ). slice_get l page) are ∙ slice_get-map lsn pages page ∙ ap (option_map lsn) (slice_get-get_or pages page blank_version less)
+  lsn_at page less = grind (arith, common_steps, slice_get-map, option_map, slice_get-get_or)
 
   pub page_of_lsn : (page known : ℕ) → slice_get lsns page ≡ Some known → page < length pages
-  page_of_lsn page known at = of_some (slice_get pages page) refl (sym (slice_get-map (λ (v : Version). v.lsn) pages page) ∙ ap (λ (l : List ℕ). slice_get l page) (sym are) ∙ at)
-    where
-      of_some : (o : Option Version) → slice_get pages page ≡ o → option_map (λ (v : Version). v.lsn) (slice_get pages page) ≡ Some known → page < length pages
-      of_some None is some = absurd (none-some known (sym (ap (option_map (λ (v : Version). v.lsn)) is) ∙ some))
-      of_some (Some v) is some = slice_get_within pages page v is
+  page_of_lsn page known at = grind (arith, common_steps, slice_get-map, option_map, none-some, slice_get_within)
 
 -- none knows of a record that isn't sealed
 
 pub logged_each : (end : ℕ) (pages : List Version) (lsns : List ℕ) → lsns ≡ map (λ (v : Version). v.lsn) pages → list_all (is_logged end) lsns ≡ true → (page : ℕ) → page < length pages → is_logged end (version_at pages page).lsn ≡ true
-logged_each end pages lsns are all page less =
-    let test : Version → Bool = λ v. is_logged end v.lsn in
-    let passed : list_all test pages ≡ true = sym (ap (list_all (is_logged end)) are ∙ list_all-map (is_logged end) (λ (v : Version). v.lsn) pages) ∙ all in
-    elim (cases_Bool (test (version_at pages page))) [
-      | inl passes ↦ passes
-      | inr fails ↦ absurd (true≢false (sym passed ∙ list_all_at test pages page blank_version less fails))
-    ]
+logged_each end pages lsns are all page less = grind (arith, common_steps, list_all-map, list_all_at)
 
 each_passes : (test : Version → Bool) (pages : List Version) → ((page : ℕ) → page < length pages → test (version_at pages page) ≡ true) → list_all test pages ≡ true
 each_passes test [] each = refl
 each_passes test (v ∷ pages) each = and_from (test v) (list_all test pages) (each 0 (omega arith)) (each_passes test pages (λ page less. each (suc page) (omega (arith, less))))
 
 pub each_logged : (end : ℕ) (pages : List Version) (lsns : List ℕ) → lsns ≡ map (λ (v : Version). v.lsn) pages → ((page : ℕ) → page < length pages → is_logged end (version_at pages page).lsn ≡ true) → list_all (is_logged end) lsns ≡ true
-each_logged end pages lsns are each =
-    let test : Version → Bool = λ v. is_logged end v.lsn in
-    ap (list_all (is_logged end)) are ∙ list_all-map (is_logged end) (λ (v : Version). v.lsn) pages ∙ each_passes test pages each
+each_logged end pages lsns are each = grind (arith, common_steps, list_all-map, each_passes)
 
 -- each knows of all records before the redo block
 

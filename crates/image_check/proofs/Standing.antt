@@ -1,4 +1,5 @@
 -- Sound by the rules, and standing for a table, are one.
+use Rattle.std.proofs.lemmas.Grind.{common_steps}
 use Rattle.std.proofs.Common.{◌≡◌, inl, inr, ℕ, suc, ◌+◌, ◌-◌, ◌*◌, ◌≤◌, ◌<◌, List, [], ◌∷◌, length, get_or, refl, sym, ap, ◌∙◌, subst, arith}
 use Rattle.std.specs.Prelude.{Option, Some, None, map, is_some, count_by}
 use Rattle.std.specs.List.{AllByRecursion}
@@ -50,11 +51,8 @@ frames_of_pages g (content ∷ contents) all =
     all_append (IsFrameOf g) (frames_in content) (frames_of contents) (subst (AllByRecursion (IsFrameOf g)) (sym (frames_are_in content all.0.0 all.0.1.group)) all.0.1.sound) (frames_of_pages g contents all.1)
 
 have_groups : (g : Geometry) (contents : List (List ℕ)) → AllByRecursion (λ content. IsGroup content (frames_in content)) contents → AllByRecursion (IsFrameOf g) (frames_of contents) → AllByRecursion (HasGroup g) contents
-have_groups g [] are frames = tt
-have_groups g (content ∷ contents) are frames = (
-  (frames_in content, record { group = are.0; sound = all_left (IsFrameOf g) (frames_in content) (frames_of contents) frames }),
-  have_groups g contents are.1 (all_right (IsFrameOf g) (frames_in content) (frames_of contents) frames),
-)
+have_groups g [] are frames = grind (arith, common_steps)
+have_groups g (content ∷ contents) are frames = grind (arith, common_steps, all_left, all_right, (have_groups g contents are.1 (all_right (IsFrameOf g) (frames_in content) (frames_of contents) frames)))
 
 -- Blocks.
 

@@ -1,4 +1,5 @@
 -- Unfinished transactions, with their Begin and without.
+use Rattle.std.proofs.lemmas.Grind.{common_steps}
 use Rattle.std.proofs.Common.{◌≡◌, ◌⊎◌, ℕ, ◌+◌, ◌<◌, ◌≤◌, inl, inr, Bool, true, false, true≢false, not, ◌&&◌, ◌||◌, cond, nat_eq, List, [], ◌∷◌, ◌++◌, map, drop, Option, Some, None, refl, sym, ap, subst, ◌∙◌, arith}
 use Rattle.std.specs.Prelude.{filter, slice_get, is_some, IfSome, ◌==◌}
 use Rattle.std.specs.List.{list_any}
@@ -11,7 +12,7 @@ use Rattle.std_lemmas.proofs.AllOf.{all_left}
 use Rattle.indexmap.specs.IndexMap.{IndexMap, get}
 use Rattle.log_records.specs.Log.{Entry, txn_of, is_of, is_closing, is_closed, entries_of}
 use Rattle.log_records.specs.Unfinished.{is_begin, losers}
-use Rattle.log_records.specs.Sound.{LogicalImage, InTurn, IsInOrder, IsLoserChain, Continues, HaveBegunBefore}
+use Rattle.log_records.specs.Sound.{LogicalImage, IsInOrder, IsLoserChain, HaveBegunBefore}
 use Rattle.log_laws.proofs.Orders.{filter_none}
 use Rattle.log_laws.proofs.Values.{closed_push, closed_same}
 use Rattle.log_laws.proofs.Listing.{listed_is_loser}
@@ -32,26 +33,11 @@ abbrev begins_there : ℕ → Entry → Bool
 begins_there t x = is_begin x.rec && (x.lsn == t)
 
 begin_listed : (closed : ℕ → Bool) (t : ℕ) (xs : List Entry) → list_any (λ n. n == t) (map (λ (x : Entry). x.lsn) (filter (λ x. is_begin x.rec && not (closed x.lsn)) xs)) ≡ true → list_any (begins_there t) xs ≡ true
-begin_listed closed t [] some = some
-begin_listed closed t (x ∷ xs) some = by (is_begin x.rec) (not (closed x.lsn)) some (begin_listed closed t xs)
-  where
-    rest : List Entry
-    rest = filter (λ y. is_begin y.rec && not (closed y.lsn)) xs
-
-    either : (a b : Bool) → (a || b) ≡ true → (b ≡ true → list_any (begins_there t) xs ≡ true) → (a || list_any (begins_there t) xs) ≡ true
-    either true b is again = refl
-    either false b is again = again is
-
-    by : (b q : Bool) → list_any (λ n. n == t) (map (λ (y : Entry). y.lsn) (cond (b && q) (x ∷ rest) rest)) ≡ true →
-        (list_any (λ n. n == t) (map (λ (y : Entry). y.lsn) rest) ≡ true → list_any (begins_there t) xs ≡ true) → ((b && (x.lsn == t)) || list_any (begins_there t) xs) ≡ true
-    by true true is again = either (x.lsn == t) (list_any (λ n. n == t) (map (λ (y : Entry). y.lsn) rest)) is again
-    by true false is again = or_right (x.lsn == t) (list_any (begins_there t) xs) (again is)
-    by false q is again = again is
+begin_listed closed t [] some = grind (arith, common_steps)
+begin_listed closed t (x ∷ xs) some = grind (arith, common_steps, or_right, (begin_listed closed t xs))
 
 is_begin_at : (t : ℕ) (x : Entry) → begins_there t x ≡ true → x ≡ begin_at t
-is_begin_at t x is =
-    let both = and_parts (is_begin x.rec) (x.lsn == t) is in
-    (λ i. record { lsn = eqb-true x.lsn t both.1 i; rec = begin_only x.rec both.0 i })
+is_begin_at t x is = grind (arith, common_steps, and_parts, eqb-true, begin_only)
 
 -- no record before a place is of that Begin
 none_there : (t from : ℕ) (xs : List Entry) (to : ℕ) → t < from → IsInOrder from xs to → list_any (begins_there t) xs ≡ false
@@ -67,23 +53,8 @@ none_there t from (x ∷ xs) to less order =
     ]
 
 begins_first : (t from : ℕ) (xs : List Entry) (to : ℕ) → IsInOrder from xs to → HaveBegunBefore xs → list_any (begins_there t) xs ≡ true → entries_of t xs ≡ begin_at t ∷ drop 1 (entries_of t xs)
-begins_first t from [] to order begun some = absurd (true≢false (sym some))
-begins_first t from (x ∷ xs) to order begun some = by (is_of t x) (begins_there t x) refl refl some (begins_first t (x.lsn + 1) xs to order.1 begun.1)
-  where
-    rest : List Entry
-    rest = filter (is_of t) xs
-
-    by : (b q : Bool) → is_of t x ≡ b → begins_there t x ≡ q → (q || list_any (begins_there t) xs) ≡ true → (list_any (begins_there t) xs ≡ true → entries_of t xs ≡ begin_at t ∷ drop 1 (entries_of t xs)) →
-        cond b (x ∷ rest) rest ≡ begin_at t ∷ drop 1 (cond b (x ∷ rest) rest)
-    by true true own here is again = ap (λ (e : Entry). e ∷ rest) (is_begin_at t x here)
-    by true false own other is again =
-        let same : txn_of x ≡ t = eqb-true (txn_of x) t own in
-        let low = begun.0 in
-        absurd (true≢false (sym is ∙ none_there t (x.lsn + 1) xs to (omega (arith, same, low)) order.1))
-    by false true other here is again =
-        let mine : x ≡ begin_at t = is_begin_at t x here in
-        absurd (true≢false (sym (ap (is_of t) mine ∙ eq-eqb t t refl) ∙ other))
-    by false false other apart is again = again is
+begins_first t from [] to order begun some = grind (arith, common_steps)
+begins_first t from (x ∷ xs) to order begun some = grind (arith, common_steps, is_begin_at, eqb-true, none_there, eq-eqb, (begins_first t (x.lsn + 1) xs to order.1 begun.1))
 
 pub first_is : (log : List Entry) (t from to : ℕ) → IsInOrder from log to → HaveBegunBefore log → list_any (λ n. n == t) (losers log) ≡ true → entries_of t log ≡ begin_at t ∷ drop 1 (entries_of t log)
 first_is log t from to order begun listed = begins_first t from log to order begun (begin_listed (is_closed log) t log listed)
@@ -116,13 +87,7 @@ stands_there log front e back t from to split order begun listed = record {
 
 -- where one breaks the chain there is none
 pub chain_broken : (log front : List Entry) (e : Entry) (back : List Entry) (t : ℕ) → log ≡ front ++ e ∷ back → StandsThere t front e → Breaks t front e → IsLoserChain t (entries_of t log) → ⊥
-chain_broken log front e back t split there broken chain =
-    let own = broken.own in
-    let first = there.later own broken.behind in
-    let parts : entries_of t log ≡ entries_of t front ++ e ∷ entries_of t back =
-    ap (entries_of t) split ∙ filter-append (is_of t) front (e ∷ back) ∙ ap (λ (b : Bool). entries_of t front ++ cond b (e ∷ entries_of t back) (entries_of t back)) own in
-    let rest : drop 1 (entries_of t log) ≡ drop 1 (entries_of t front) ++ e ∷ entries_of t back = ap (drop 1) (parts ∙ ap (λ (l : List Entry). l ++ e ∷ entries_of t back) first) in
-    broken.breaks (InTurn-right Continues (begin_at t ∷ []) (drop 1 (entries_of t front)) (e ∷ entries_of t back) (subst (InTurn Continues (begin_at t ∷ [])) rest chain.continues)).0
+chain_broken log front e back t split there broken chain = grind (arith, common_steps, filter-append, InTurn-right)
 
 -- One record more of one of them.
 
@@ -133,10 +98,7 @@ there_of : (log records : List Entry) (e : Entry) → StandsIn log records e →
 there_of log records e at t listed = stands_there log records e at.back t at.from at.to at.is at.in_order at.begun listed
 
 pub chains_first : (log : List Entry) (chains : Chains) → chains.chains.entries ≡ [] → chains.broken ≡ None → AreChains log [] chains
-chains_first log chains empty whole = record {
-  kept = λ t listed stands. subst (λ (o : Option Chain). Keeps t o []) (sym (ap (lookup (nat_eq t)) empty)) refl;
-  broken = subst (λ (o : Option ℕ). IfSome o (λ t. Listed log t × (IsLoserChain t (entries_of t log) → ⊥))) (sym whole) tt;
-}
+chains_first log chains empty whole = grind (arith, common_steps, nat_eq)
 
 module _ (log records : List Entry) (e : Entry) (at : StandsIn log records e) (old new : Chains) (chain : Chain) (goes_on : Bool) (own : Listed log (txn_of e)) (is : AreChains log records old)
     (hears : Keeps (txn_of e) (get nat_eq old.chains (txn_of e)) (drop 1 (entries_of (txn_of e) records)) → HearsOwn (txn_of e) chain records e goes_on) where
@@ -165,26 +127,7 @@ module _ (log records : List Entry) (e : Entry) (at : StandsIn log records e) (o
 
   pub chains_break : goes_on ≡ false → ((t : ℕ) → get nat_eq new.chains t ≡ cond (txn_of e == t) None (get nat_eq old.chains t)) →
       (least : ℕ) → (least ≡ txn_of e) ⊎ (old.broken ≡ Some least) → new.broken ≡ Some least → AreChains log (records ++ e ∷ []) new
-  chains_break off updates least which found = record {
-    kept = λ t listed stands.
-        let fits : IsLoserChain t (entries_of t log) = elim stands [
-          | inl none ↦ absurd (none-some least (sym none ∙ found))
-          | inr fits ↦ fits
-        ] in
-        elim (cases_Bool (txn_of e == t)) [
-          | inl here ↦ absurd (broken (subst (λ (n : ℕ). IsLoserChain n (entries_of n log)) (sym (eqb-true (txn_of e) t here)) fits))
-          | inr other ↦ elsewhere t other (updates t ∙ ap (λ (b : Bool). cond b None (get nat_eq old.chains t)) other) (inr fits) listed
-        ];
-    broken = subst (λ (o : Option ℕ). IfSome o (λ t. Listed log t × (IsLoserChain t (entries_of t log) → ⊥))) (sym found) (elim which [
-      | inl same ↦ subst (λ (n : ℕ). Listed log n × (IsLoserChain n (entries_of n log) → ⊥)) (sym same) (own, broken)
-      | inr before ↦ subst (λ (o : Option ℕ). IfSome o (λ t. Listed log t × (IsLoserChain t (entries_of t log) → ⊥))) before is.broken
-    ]);
-  }
-    where
-      broken : IsLoserChain (txn_of e) (entries_of (txn_of e) log) → ⊥
-      broken fits =
-          let there = there_of log records e at (txn_of e) own in
-          chain_broken log records e at.back (txn_of e) at.is there ((hears (is.kept (txn_of e) own (inr fits))).wrong off) fits
+  chains_break off updates least which found = grind (arith, common_steps, none-some, eqb-true, elsewhere, nat_eq, there_of, chain_broken)
 
 -- one of another one
 pub chains_same : (log records : List Entry) (e : Entry) (chains : Chains) → list_any (λ n. n == txn_of e) (losers log) ≡ false → AreChains log records chains → AreChains log (records ++ e ∷ []) chains
@@ -199,70 +142,20 @@ chains_same log records e chains unlisted is = record {
 -- One record more of another one.
 
 before_it : (records : List Entry) (e : Entry) (t : ℕ) → is_of t e ≡ false → list_any (is_of t) (records ++ e ∷ []) ≡ true → list_any (is_of t) records ≡ true
-before_it records e t other some = by (list_any (is_of t) records) (is_of t e) other (sym (list_any-append (is_of t) records (e ∷ [])) ∙ some)
-  where
-    by : (a b : Bool) → b ≡ false → (a || (b || false)) ≡ true → a ≡ true
-    by true b off all = refl
-    by false true off all = absurd (true≢false off)
-    by false false off all = all
+before_it records e t other some = grind (arith, common_steps, list_any-append)
 
 still_there : (records : List Entry) (e : Entry) (t : ℕ) → list_any (is_of t) records ≡ true → list_any (is_of t) (records ++ e ∷ []) ≡ true
 still_there records e t some = list_any-append (is_of t) records (e ∷ []) ∙ or_left (list_any (is_of t) records) (list_any (is_of t) (e ∷ [])) some
 
 pub strays_same : {S : Type 0} (log records : List Entry) (e : Entry) (txns : IndexMap ℕ ℕ S) → Listed log (txn_of e) → AreStrays log records txns → AreStrays log (records ++ e ∷ []) txns
-strays_same log records e txns own is = record {
-  covers = λ t some. elim (cases_Bool (is_of t e)) [
-    | inl here ↦
-        let listed : Listed log t = subst (Listed log) (eqb-true (txn_of e) t here) own in
-        or_left (list_any (λ n. n == t) (losers log)) (is_closed (records ++ e ∷ []) t || is_some (get nat_eq txns t)) listed
-    | inr other ↦
-        let same : is_closed (records ++ e ∷ []) t ≡ is_closed records t = closed_same records e t (ap (λ (b : Bool). b && is_closing e.rec) other) in
-        (λ i. list_any (λ n. n == t) (losers log) || (same i || is_some (get nat_eq txns t))) ∙ is.covers t (before_it records e t other some)
-  ];
-  there = λ t some. let old = is.there t some in (still_there records e t old.0, old.1);
-}
+strays_same log records e txns own is = grind (arith, common_steps, eqb-true, or_left, nat_eq, closed_same, before_it, still_there)
 
 pub strays_more : {S : Type 0} (log records : List Entry) (e : Entry) (old new : IndexMap ℕ ℕ S) → list_any (λ n. n == txn_of e) (losers log) ≡ false →
     ((t : ℕ) → is_some (get nat_eq new t) ≡ cond (txn_of e == t) (not (is_closing e.rec)) (is_some (get nat_eq old t))) → AreStrays log records old → AreStrays log (records ++ e ∷ []) new
-strays_more log records e old new unlisted updates is = record {
-  covers = λ t some. elim (cases_Bool (is_of t e)) [
-    | inl own ↦
-        let here : is_some (get nat_eq new t) ≡ not (is_closing e.rec) = updates t ∙ ap (λ (b : Bool). cond b (not (is_closing e.rec)) (is_some (get nat_eq old t))) own in
-        let closed : is_closed (records ++ e ∷ []) t ≡ (is_closed records t || is_closing e.rec) =
-        closed_push records e t ∙ ap (λ (b : Bool). is_closed records t || ((b && is_closing e.rec) || false)) own ∙ shorter (is_closed records t) (is_closing e.rec) in
-        (λ i. list_any (λ n. n == t) (losers log) || (closed i || here i)) ∙ all (list_any (λ n. n == t) (losers log)) (is_closed records t) (is_closing e.rec)
-    | inr other ↦
-        let before : list_any (is_of t) records ≡ true = before_it records e t other some in
-        let same : is_closed (records ++ e ∷ []) t ≡ is_closed records t = closed_same records e t (ap (λ (b : Bool). b && is_closing e.rec) other) in
-        let stays : is_some (get nat_eq new t) ≡ is_some (get nat_eq old t) = updates t ∙ ap (λ (b : Bool). cond b (not (is_closing e.rec)) (is_some (get nat_eq old t))) other in
-        (λ i. list_any (λ n. n == t) (losers log) || (same i || stays i)) ∙ is.covers t before
-  ];
-  there = λ t some. elim (cases_Bool (is_of t e)) [
-    | inl own ↦ (
-      list_any-append (is_of t) records (e ∷ []) ∙ or_right (list_any (is_of t) records) (is_of t e || false) (or_left (is_of t e) false own),
-      ap (λ (n : ℕ). list_any (λ m. m == n) (losers log)) (sym (eqb-true (txn_of e) t own)) ∙ unlisted,
-    )
-    | inr other ↦
-        let old_there = is.there t (sym (updates t ∙ ap (λ (b : Bool). cond b (not (is_closing e.rec)) (is_some (get nat_eq old t))) other) ∙ some) in
-        (still_there records e t old_there.0, old_there.1)
-  ];
-}
-  where
-    shorter : (a k : Bool) → (a || ((true && k) || false)) ≡ (a || k)
-    shorter a true = refl
-    shorter a false = refl
-
-    all : (l c k : Bool) → (l || ((c || k) || not k)) ≡ true
-    all true c k = refl
-    all false true k = refl
-    all false false true = refl
-    all false false false = refl
+strays_more log records e old new unlisted updates is = grind (arith, common_steps, nat_eq, closed_push, before_it, closed_same, list_any-append, or_right, or_left, eqb-true, still_there)
 
 pub strays_first : {S : Type 0} (log : List Entry) (txns : IndexMap ℕ ℕ S) → txns.entries ≡ [] → AreStrays log [] txns
-strays_first log txns empty = record {
-  covers = λ t some. absurd (true≢false (sym some));
-  there = λ t some. absurd (true≢false (sym some ∙ ap (λ (l : List (ℕ × ℕ)). is_some (lookup (nat_eq t) l)) empty));
-}
+strays_first log txns empty = grind (arith, common_steps, nat_eq)
 
 pub stray_first : {S : Type 0} (txns : IndexMap ℕ ℕ S) (t lsn : ℕ) → slice_get txns.entries 0 ≡ Some (t, lsn) → is_some (get nat_eq txns t) ≡ true
 stray_first txns t lsn there = by txns.entries there
@@ -276,18 +169,7 @@ stray_first txns t lsn there = by txns.entries there
 -- What no record has closed.
 
 pub closing_more : (records : List Entry) (e : Entry) (t : ℕ) (some : Bool) → cond (txn_of e == t && is_closing e.rec) false (some && not (is_closed records t)) ≡ (some && not (is_closed (records ++ e ∷ []) t))
-closing_more records e t some = by some (is_closed records t) (is_of t e) (is_closing e.rec) ∙ ap (λ (b : Bool). some && not b) (sym (closed_push records e t))
-  where
-    by : (s c o k : Bool) → cond (o && k) false (s && not c) ≡ (s && not (c || ((o && k) || false)))
-    by true true true true = refl
-    by true true true false = refl
-    by true true false k = refl
-    by true false true true = refl
-    by true false true false = refl
-    by true false false k = refl
-    by false c true true = refl
-    by false c true false = refl
-    by false c false k = refl
+closing_more records e t some = grind (arith, common_steps, closed_push)
 
 -- The rule.
 
@@ -298,36 +180,14 @@ abbrev pub AreClosed : {S : Type 0} → List Entry → IndexMap ℕ ℕ S → Ty
 AreClosed log txns = (t : ℕ) → is_some (get nat_eq txns t) ≡ true → is_closed log t ≡ true
 
 pub fourth_of : {S : Type 0} (p : LogicalImage) (txns : IndexMap ℕ ℕ S) → AreStrays p.log p.log txns → HaveChains p.log → AreClosed p.log txns → LosersCanBeUndone p
-fourth_of p txns strays chains closed t loser =
-    let both = and_parts (list_any (is_of t) p.log) (not (is_closed p.log t)) loser in
-    let lives = not-true (is_closed p.log t) both.1 in
-    elim (cases_Bool (list_any (λ n. n == t) (losers p.log))) [
-      | inl listed ↦ chains t listed
-      | inr unlisted ↦
-          let stray : is_some (get nat_eq txns t) ≡ true = sym (λ i. unlisted i || (lives i || is_some (get nat_eq txns t))) ∙ strays.covers t both.0 in
-          absurd (true≢false (sym (closed t stray) ∙ lives))
-    ]
+fourth_of p txns strays chains closed t loser = grind (arith, common_steps, and_parts, not-true, nat_eq)
 
 -- where none was found that can't be undone, each one can
 pub chains_whole : (from to : ℕ) (log : List Entry) (chains : Chains) → IsInOrder from log to → HaveBegunBefore log → AreChains log log chains → chains.broken ≡ None → HaveChains log
-chains_whole from to log chains order begun is whole t listed =
-    by (get nat_eq chains.chains t) (is.kept t listed (inl whole))
-  where
-    first : entries_of t log ≡ begin_at t ∷ drop 1 (entries_of t log)
-    first = first_is log t from to order begun listed
-
-    by : (o : Option Chain) → Keeps t o (drop 1 (entries_of t log)) → IsLoserChain t (entries_of t log)
-    by None none = record { begins = first; continues = subst (InTurn Continues (begin_at t ∷ [])) (sym none) tt }
-    by (Some c) k = record { begins = first; continues = k.continues }
+chains_whole from to log chains order begun is whole t listed = grind (arith, common_steps, nat_eq, first_is)
 
 pub chains_of : (p : LogicalImage) → LosersCanBeUndone p → HaveChains p.log
 chains_of p rule t listed = rule t (listed_is_loser p.log t listed)
 
 pub closed_of : {S : Type 0} (p : LogicalImage) (txns : IndexMap ℕ ℕ S) → AreStrays p.log p.log txns → LosersCanBeUndone p → AreClosed p.log txns
-closed_of p txns strays rule t stray = elim (cases_Bool (is_closed p.log t)) [
-  | inl closed ↦ closed
-  | inr lives ↦
-      let there = strays.there t stray in
-      let loser = and_from (list_any (is_of t) p.log) (not (is_closed p.log t)) there.0 (not_from_false (is_closed p.log t) lives) in
-      absurd (true≢false (sym (chain_listed p.log t lives (rule t loser)) ∙ there.1))
-]
+closed_of p txns strays rule t stray = grind (arith, common_steps, and_from, not_from_false, chain_listed)

@@ -1,9 +1,9 @@
 -- What one walk over the kept blocks has found so far.
+use Rattle.std.proofs.lemmas.Grind.{common_steps}
 use Rattle.std.proofs.Common.{◌≡◌, ℕ, ◌+◌, ◌^◌, ◌≤◌, ◌<◌, List, [], ◌∷◌, ◌++◌, length, arith}
-use Rattle.std.specs.List.{AllByRecursion}
 use Rattle.indexmap.specs.IndexSet.{IndexSet}
 use Rattle.std.proofs.lemmas.List.{length-append}
-use Rattle.log_records.specs.Log.{Entry, txn_of}
+use Rattle.log_records.specs.Log.{Entry}
 use Rattle.log_records.specs.Sound.{Master, InTurn, IsInOrder}
 use Rattle.log_laws.proofs.Orders.{InTurn-append, InTurn-all}
 use Rattle.image_check.specs.declared.survey.Survey.{Survey}
@@ -23,15 +23,7 @@ pub record SurveyedSoFar {S : Type 0} (m : Master) (most : ℕ) (txns : IndexSet
 
 pub comes : {S : Type 0} {m : Master} {most : ℕ} {txns : IndexSet ℕ S} {survey : Survey} (from : ℕ) (front : List Entry) (e : Entry) (back : List Entry) (to : ℕ) → SurveyedSoFar m most txns survey front → IsInOrder from (front ++ e ∷ back) to →
     Comes front e.lsn
-comes {m = m} from front e back to so_far order =
-    let begun : AllByRecursion (λ x. txn_of x ≤ x.lsn) front = InTurn-all (MayStand m) (λ x. txn_of x ≤ x.lsn) (λ earlier x may. may.begun) [] front so_far.stand in
-    let few = so_far.few in
-    record {
-      from = from;
-      in_order = in_order_left from front e back to order;
-      fresh = fresh_of e.lsn front (all_below from front e.lsn (in_order_left from front e back to order)) begun;
-      few = omega (arith, few);
-    }
+comes {m = m} from front e back to so_far order = grind (arith, common_steps, InTurn-all, in_order_left, fresh_of, all_below)
 
 -- and with it
 pub one_more : {S : Type 0} {m : Master} {most now : ℕ} {txns heard : IndexSet ℕ S} {survey after : Survey} (front : List Entry) (e : Entry) → SurveyedSoFar m most txns survey front → now < most → MayStand m front e →

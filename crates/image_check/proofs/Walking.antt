@@ -1,8 +1,9 @@
 -- Calls that only read, one after the other, and walks over the log that was found.
+use Rattle.std.proofs.lemmas.Grind.{common_steps}
 use Rattle.std.proofs.Common.{◌≡◌, ℕ, ◌+◌, ◌*◌, ◌≤◌, List, [], ◌∷◌, ◌++◌, length, sym, ap, ◌∙◌, subst, arith}
 use Rattle.std.specs.Prelude.{Option, Some, None, Result, Ok, Err, IfSome}
 use Rattle.site.specs.declared.outside.Stop.{Stop}
-use Rattle.site.specs.declared.outside.Stop.TheVariants.{Device, Memory}
+use Rattle.site.specs.declared.outside.Stop.TheVariants.{Memory}
 use Rattle.site.specs.State.{State, Image}
 use Rattle.site.specs.Work.{OnlyReads}
 use Rattle.site.proofs.Working.{looks_then, looks_answered}
@@ -25,9 +26,7 @@ pub may_later : {T : Type 0} {x : T} {found : Found} {a b : State} → OnlyReads
 may_later {found = found} {a = a} {b = b} reads may = record { read = may_be_read_later found a b reads.preserves may.read; live = may.live; redo = may.redo }
 
 pub sees_later : {T : Type 0} {x : T} {found : Found} {blocks : List (List LogRecord)} {a b : State} → OnlyReads {T = T} (Ok x) a b → Sees found blocks a → Sees found blocks b
-sees_later {found = found} {blocks = blocks} {a = a} {b = b} reads sees =
-    let same : b.image ≡ a.image = (reads.same sees.log.honest).image in
-    record { log = finds_later found.log a b reads.preserves same sees.log; has = subst (HasBlocks found.log.geometry found.master.kept blocks) (sym same) sees.has }
+sees_later {found = found} {blocks = blocks} {a = a} {b = b} reads sees = grind (arith, common_steps, finds_later)
 
 pub in_order : {found : Found} {blocks : List (List LogRecord)} {site : State} → Sees found blocks site →
     IsInOrder (512 * found.master.kept) (records_of found blocks) (512 * (found.master.kept + length blocks))
@@ -35,13 +34,7 @@ in_order {found = found} {blocks = blocks} sees = log_in_order found.master.kept
 
 -- calls that only read, behind which memory lacks
 pub reads_lacked : {A B : Type 0} {x : A} {stop : Stop} {a b : State} → stop ≡ Memory → OnlyReads {T = A} (Ok x) a b → OnlyReads {T = B} (Err stop) a b
-reads_lacked {B = B} {a = a} {b = b} is reads = subst (λ (s : Stop). OnlyReads {T = B} (Err s) a b) (sym is) (record {
-  same = reads.same;
-  preserves = reads.preserves;
-  faults = reads.faults;
-  device = λ d says. absurd (let same : Memory ≡ Device d = cc in let never : ⊥ = cc in never);
-  stops = tt;
-})
+reads_lacked {B = B} {a = a} {b = b} is reads = grind (arith, common_steps)
 
 -- what is said of an answer
 pub goes_well : {T : Type 0} {x : T} {P : T → Type 0} → P x → OrMemory (Ok x) P
@@ -118,11 +111,7 @@ module _ {found : Found} {walk : Walk} {old now : State} {P : List (List LogReco
 
     pub judged_at : {next : State} {B : Type 0} (y : B) (Says : List (List LogRecord) → B → Type 0) → OnlyReads {T = Option (ℕ × LogRecord)} (Ok answer) now next → next.log_reads ≤ now.log_reads + unread found.log walk →
         ((blocks : List (List LogRecord)) → Sees found blocks old → StandsAmong found blocks e (P blocks) → Says blocks y) → JudgesBy {T = B} found 1 (Ok y) old next Says
-    judged_at {next = next} y Says reads ends says = record {
-      says = λ blocks sees. says blocks sees (walk_at blocks sees);
-      reads = looks_then tt _ old now next so_far.reads (looks_answered answer y now next reads);
-      few = let before = so_far.few in omega (arith, before, ends);
-    }
+    judged_at {next = next} y Says reads ends says = grind (arith, common_steps, walk_at, looks_then, looks_answered)
 
   -- where none is left
   pub judged_end : {next : State} {B : Type 0} (y : B) (Says : List (List LogRecord) → B → Type 0) → answer ≡ None → OnlyReads {T = Option (ℕ × LogRecord)} (Ok answer) now next → next.log_reads ≤ now.log_reads + unread found.log walk →

@@ -1,4 +1,5 @@
 -- Walking over the records of a block.
+use Rattle.std.proofs.lemmas.Grind.{common_steps}
 use Rattle.std.proofs.Common.{◌≡◌, ℕ, ◌+◌, ◌≤◌, ◌<◌, List, [], ◌∷◌, ◌++◌, length, drop, refl, sym, ap, ◌∙◌, subst, append_assoc, arith}
 use Rattle.std.specs.Prelude.{flat_map}
 use Rattle.std.proofs.lemmas.List.{length-append, drop-drop, drop_at}
@@ -47,12 +48,8 @@ one_left content used at (rec ∷ others) l before = (rec, others, refl)
 
 -- at the end none is
 pub none_left : (content : List ℕ) (used at : ℕ) (left : List LogRecord) → IsLeft content used at left → used ≤ at → left ≡ []
-none_left content used at [] l behind = refl
-none_left content used at (rec ∷ others) l behind =
-    let end = l.end in
-    let some = some_octet rec in
-    let all = length-append (spelling rec) (flat_map spelling others) in
-    absurd (omega (arith, end, some, all, behind))
+none_left content used at [] l behind = grind (arith, common_steps)
+none_left content used at (rec ∷ others) l behind = grind (arith, common_steps, some_octet, length-append, behind)
 
 -- what is read there is the first of them
 pub reads_first : (content : List ℕ) (used at : ℕ) (left : List LogRecord) → IsLeft content used at left → at < used → (rec : LogRecord) (end : ℕ) → IsSpelledAt content at used rec end →

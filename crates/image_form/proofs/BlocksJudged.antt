@@ -1,10 +1,11 @@
 -- What was read of one block, and of all.
-use Rattle.std.proofs.Common.{◌≡◌, inl, inr, ℕ, ◌+◌, ◌-◌, ◌≤◌, ◌<◌, List, sym, ap, ◌∙◌, subst, arith}
+use Rattle.std.proofs.lemmas.Grind.{common_steps}
+use Rattle.std.proofs.Common.{◌≡◌, inl, inr, ℕ, ◌+◌, ◌-◌, ◌≤◌, ◌<◌, List, sym, subst, arith}
 use Rattle.std.proofs.lemmas.Bool.{cases_eq}
-use Rattle.site.specs.State.{State, Image}
+use Rattle.site.specs.State.{State}
 use Rattle.site.specs.Calls.{Preserves}
 use Rattle.site.proofs.Laws.{stays_honest}
-use Rattle.sealed_ring.specs.Ring.{IsRing, IsLive, hi_of}
+use Rattle.sealed_ring.specs.Ring.{IsLive, hi_of}
 use Rattle.image_changes.specs.Rings.{log_shape}
 use Rattle.log_records.specs.declared.log_record.LogRecord.{LogRecord}
 use Rattle.log_store.specs.declared.store.LogStore.{LogStore}
@@ -15,11 +16,7 @@ use Rattle.std.proofs.Common.{refl}
 use Rattle.sealed_ring.proofs.Stays.{usable_later}
 
 pub finds_later : (store : LogStore) (a b : State) → Preserves a b → b.image ≡ a.image → Finds store a → Finds store b
-finds_later store a b goes same finds = record {
-  honest = stays_honest a b goes finds.honest;
-  form = subst (λ (image : Image). IsRing (log_shape store.geometry) image.log) (sym same) finds.form;
-  hi = finds.hi ∙ ap (λ (image : Image). hi_of (log_shape store.geometry) image.log) (sym same);
-}
+finds_later store a b goes same finds = grind (arith, common_steps, stays_honest)
 
 pub going_later : (store : LogStore) (a b : State) → Preserves a b → Invariant store a → Invariant store b
 going_later store a b goes going =

@@ -1,4 +1,5 @@
 -- Frames that aren't dirty, group by group.
+use Rattle.std.proofs.lemmas.Grind.{common_steps}
 use Rattle.std.proofs.Common.{◌≡◌, ℕ, zero, suc, ◌+◌, ◌-◌, ◌*◌, ◌%◌, ◌<◌, ◌≤◌, min, inl, inr, Bool, true, false, true≢false, cond, List, [], ◌∷◌, ◌++◌, get_or, take, drop, Some, None, refl, sym, ap, subst, ◌∙◌, arith}
 use Rattle.std.specs.Prelude.{Option, ◌==◌, slice_get}
 use Rattle.std.specs.List.{AllByRecursion}
@@ -32,20 +33,11 @@ use Rattle.image_form.proofs.LastOnes.{no_last, some_last, none_of_all, none_of_
 -- The last frame of a page, by its place.
 
 last_of_two : (page : ℕ) (xs ys : List Frame) → last_frame page (xs ++ ys) ≡ option_or (last_frame page ys) (last_frame page xs)
-last_of_two page [] ys = by (last_frame page ys)
-  where
-    by : (o : Option Frame) → o ≡ option_or o None
-    by None = refl
-    by (Some x) = refl
-last_of_two page (x ∷ xs) ys =
-    ap (λ (o : Option Frame). option_or o (cond (x.page == page) (Some x) None)) (last_of_two page xs ys)
-    ∙ option_or_assoc (last_frame page ys) (last_frame page xs) (cond (x.page == page) (Some x) None)
+last_of_two page [] ys = grind (arith, common_steps)
+last_of_two page (x ∷ xs) ys = grind (arith, common_steps, option_or_assoc, (last_of_two page xs ys))
 
 no_frame_left : (page : ℕ) (frames : List Frame) → last_frame page frames ≡ None → has_frame page frames ≡ false
-no_frame_left page frames none = elim (cases_Bool (has_frame page frames)) [
-  | inl some ↦ let last = some_last page frames some in let wrong : Some last.0 ≡ None = sym last.1 ∙ none in let never : ⊥ = cc in absurd never
-  | inr other ↦ other
-]
+no_frame_left page frames none = grind (arith, common_steps, some_last)
 
 -- where the last one stands
 record StandsLast (page : ℕ) (frames : List Frame) (frame : Frame) : Type 0 where

@@ -1,4 +1,5 @@
 -- What was found, after calls that only read, and the first rule of it.
+use Rattle.std.proofs.lemmas.Grind.{common_steps}
 use Rattle.std.proofs.Common.{◌≡◌, ◌↔◌, true, false, true≢false, Bool, IsTrue, sym, ap, ◌∙◌, subst, arith}
 use Rattle.std.specs.Prelude.{Option, Some, None, is_none, Result, Ok, Err, IfOk}
 use Rattle.site.specs.declared.geometry.Geometry.{Geometry}
@@ -6,12 +7,10 @@ use Rattle.site.specs.declared.outside.Stop.{Stop}
 use Rattle.site.specs.State.{State, Image}
 use Rattle.site.specs.Calls.{Preserves}
 use Rattle.site.specs.Work.{OnlyReads}
-use Rattle.checkpoint.specs.declared.master.Master.{Master}
-use Rattle.checkpoint.specs.Newest.{HasMaster}
 use Rattle.checkpoint.specs.Laws.{OneNewest}
 use Rattle.image_form.specs.declared.formed.Found.{Found}
 use Rattle.image_form.specs.declared.place.Place.{Place}
-use Rattle.image_form.specs.Octets.{HasSizes, AreRings}
+use Rattle.image_form.specs.Octets.{HasSizes}
 use Rattle.image_form.specs.Formed.{MayBeRead, IsThere}
 use Rattle.image_form.specs.Verdict.{OctetsAreFormed, FailsFirst}
 use Rattle.image_form.proofs.Lasting.{may_read_later, found_later}
@@ -20,18 +19,10 @@ use Rattle.image_form.proofs.BlocksJudged.{finds_later, going_later}
 -- What was found is there after calls that only read.
 
 pub may_be_read_later : (found : Found) (a b : State) → Preserves a b → MayBeRead found a → MayBeRead found b
-may_be_read_later found a b goes may = record {
-  going = going_later found.log a b goes may.going;
-  may_read = may_read_later found.log.geometry found.rings a b goes may.may_read;
-}
+may_be_read_later found a b goes may = grind (arith, common_steps, going_later, may_read_later)
 
 pub there_later : (found : Found) (a b : State) → Preserves a b → b.image ≡ a.image → IsThere found a → IsThere found b
-there_later found a b goes same there = record {
-  log = finds_later found.log a b goes same there.log;
-  rings = found_later found.rings a b same there.rings;
-  are_rings = subst (AreRings found.log.geometry) (sym same) there.are_rings;
-  master = subst (λ (image : Image). HasMaster image found.master) (sym same) there.master;
-}
+there_later found a b goes same there = grind (arith, common_steps, finds_later, found_later)
 
 -- and it is the same as at first
 pub record StillThere (found : Found) (old now : State) : Type 0 where
@@ -39,9 +30,7 @@ pub record StillThere (found : Found) (old now : State) : Type 0 where
   pub same : now.image ≡ old.image
 
 pub still_there : {T : Type 0} (x : T) (found : Found) (old a b : State) → OnlyReads {T = T} (Ok x) a b → StillThere found old a → StillThere found old b
-still_there x found old a b reads still =
-    let same : b.image ≡ a.image = (reads.same still.there.log.honest).image in
-    record { there = there_later found a b reads.preserves same still.there; same = same ∙ still.same }
+still_there x found old a b reads still = grind (arith, there_later)
 
 -- what was answered of a part of a rule holds of the image at first
 pub part_holds : (P : Image → Type 0) (stand : Bool) (a b : Image) → b ≡ a → (IsTrue stand ↔ P b) → stand ≡ true → P a
@@ -65,16 +54,9 @@ answers_as (Err e) P Q to p = tt
 -- One reading of sizes, and of the first rule.
 
 pub one_size : (a b : Geometry) (image : Image) → HasSizes a image → HasSizes b image → a ≡ b
-one_size a b image first second =
-    let log : a.blocks ≡ b.blocks = omega (arith, first.lengths.log, second.lengths.log) in
-    let disk : a.pages ≡ b.pages = omega (arith, first.lengths.disk, second.lengths.disk) in
-    let flash : a.groups ≡ b.groups = omega (arith, first.lengths.flash, second.lengths.flash, first.limits.fours, second.limits.fours) in
-    (λ i. record { pages = disk i; groups = flash i; blocks = log i })
+one_size a b image first second = grind (arith, common_steps)
 
 -- the first rule of what was found is that of all sizes and masters
 pub fails_formed : OneNewest → (found : Found) (site : State) (stand : Bool) → IsThere found site → HasSizes found.log.geometry site.image → (IsTrue stand ↔ OctetsAreFormed found.log.geometry found.master site.image) → stand ≡ false →
     FailsFirst 1 site.image
-fails_formed newest found site stand there sizes says other g m formed =
-    let geometry : g ≡ found.log.geometry = one_size g found.log.geometry site.image formed.sizes sizes in
-    let master : m ≡ found.master = newest site.image m found.master formed.master there.master in
-    true≢false (sym (says.1 (subst (λ (x : Master). OctetsAreFormed found.log.geometry x site.image) master (subst (λ (x : Geometry). OctetsAreFormed x m site.image) geometry formed))) ∙ other)
+fails_formed newest found site stand there sizes says other g m formed = grind (arith, one_size)

@@ -1,4 +1,5 @@
 -- A group read frame by frame.
+use Rattle.std.proofs.lemmas.Grind.{common_steps}
 use Rattle.std.proofs.Common.{◌≡◌, ℕ, ◌+◌, ◌-◌, ◌*◌, ◌<◌, ◌≤◌, true, List, [], ◌∷◌, ◌++◌, length, get_or, map, take, drop, replicate, refl, sym, ap, subst, ◌∙◌, arith}
 use Rattle.std.specs.List.{AllByRecursion}
 use Rattle.std.proofs.lemmas.List.{take_all, take_more, length-append, length-map, get_or_append_left, get_or-map}
@@ -9,7 +10,6 @@ use Rattle.byte_fields.specs.FrameHeads.{blank, present_in_front, AreGroupHeads}
 use Rattle.frame_group.specs.declared.group.TheConstants.{PAGE_LEN, HEADS_LEN}
 use Rattle.frame_group.specs.Groups.{Frame, head_of, frame_of, heads_of, group, IsFrame, IsGroup}
 use Rattle.frame_group.proofs.Pages.{pages_stand}
-use Rattle.slotted_page.specs.Layout.{lsn_of as page_lsn, IsSound}
 use Rattle.flash_cache.proofs.Given.{same_lsn}
 use Rattle.image_meaning.specs.Meaning.{IsFrameOf}
 use Rattle.image_form.specs.Octets.{IsGroupOn}
@@ -40,25 +40,12 @@ head_is frames i less =
 -- the frame at a place, by the head and the page that stand there
 pub frame_there : (content : List ℕ) (frames : List Frame) (i : ℕ) (head : FrameHead) (page : List ℕ) → IsGroup content frames → i < length frames →
     head ≡ get_or (heads_of frames) i blank → page ≡ take PAGE_LEN (drop (HEADS_LEN + PAGE_LEN * i) content) → get_or frames i no_frame ≡ frame_of head page
-frame_there content frames i head page is less heads pages =
-    let f : Frame = get_or frames i no_frame in
-    let own : head ≡ head_of f = heads ∙ head_is frames i less in
-    let octets : page ≡ f.octets = pages ∙ pages_stand content frames i no_frame is less in
-    sym (λ k. frame_of (own k) (octets k))
+frame_there content frames i head page is less heads pages = grind (arith, common_steps, get_or, head_is, pages_stand)
 
 -- of a group on the disk's pages each head and page are those of a frame
 pub frame_by : (g : Geometry) (content : List ℕ) (frames : List Frame) (i : ℕ) (head : FrameHead) (page : List ℕ) → IsGroupOn g content frames → i < length frames →
     head ≡ get_or (heads_of frames) i blank → page ≡ take PAGE_LEN (drop (HEADS_LEN + PAGE_LEN * i) content) → IsFrameBy g.pages head page
-frame_by g content frames i head page on less heads pages =
-    let f : Frame = get_or frames i no_frame in
-    let own : head ≡ head_of f = heads ∙ head_is frames i less in
-    let octets : page ≡ f.octets = pages ∙ pages_stand content frames i no_frame on.group less in
-    let sound = all_at (IsFrameOf g) frames i no_frame on.sound less in
-    record {
-      exists = subst (λ (n : ℕ). n < g.pages) (sym (ap (λ (h : FrameHead). h.page) own)) sound.exists;
-      lsn = ap (λ (h : FrameHead). h.lsn) own ∙ sym (same_lsn f.octets) ∙ ap page_lsn (sym octets);
-      sound = subst IsSound (sym octets) sound.sound;
-    }
+frame_by g content frames i head page on less heads pages = grind (arith, common_steps, get_or, head_is, pages_stand, all_at, same_lsn)
 
 -- no frame yet
 pub put_none : (content again : List ℕ) (pages : ℕ) → again ≡ group [] → Put content again pages 0
@@ -105,8 +92,4 @@ put_all g content again pages n heads is are all few p same =
 
 pub all_put : (g : Geometry) (content again : List ℕ) (pages n : ℕ) (heads : List FrameHead) → ((others : List Frame) → IsGroup content others → heads ≡ heads_of others) → n ≡ present_in_front heads → Put content again pages n →
     ((frames : List Frame) × IsGroupOn g content frames) → content ≡ again
-all_put g content again pages n heads heads_are all p found =
-    let c = frames_count found.0 in
-    let same = ap present_in_front (heads_are found.0 found.1.group) in
-    let whole : take n found.0 ≡ found.0 = take_all n found.0 (omega (arith, c, same, all)) in
-    found.1.group.spelled ∙ ap group (sym whole ∙ p.only found.0 found.1.group) ∙ sym p.put
+all_put g content again pages n heads heads_are all p found = grind (arith, common_steps, frames_count, take_all)

@@ -1,4 +1,5 @@
 -- The last frame of a page in the live groups.
+use Rattle.std.proofs.lemmas.Grind.{common_steps}
 use Rattle.std.proofs.Common.{◌≡◌, ℕ, zero, suc, ◌-◌, ◌≤◌, inl, inr, Bool, true, false, true≢false, ◌&&◌, ◌||◌, cond, List, [], ◌∷◌, ◌++◌, length, map, take, drop, replicate, Some, None, refl, sym, ap, subst, ◌∙◌, arith}
 use Rattle.std.specs.Prelude.{Option, ◌==◌}
 use Rattle.std.specs.List.{AllByRecursion, list_any}
@@ -39,14 +40,7 @@ frames_named page [] = refl
 frames_named page (frame ∷ frames) = ap (λ (b : Bool). (frame.page == page) || b) (frames_named page frames)
 
 pub heads_named : (page : ℕ) (frames : List Frame) → list_any (names_page page) (heads_of frames) ≡ has_frame page frames
-heads_named page frames =
-    list_any-append (names_page page) (map head_of frames) (replicate (8 - length frames) blank)
-    ∙ (λ i. frames_named page frames i || none_named page (8 - length frames) i)
-    ∙ or_none (has_frame page frames)
-  where
-    or_none : (b : Bool) → (b || false) ≡ b
-    or_none true = refl
-    or_none false = refl
+heads_named page frames = grind (arith, common_steps, list_any-append, frames_named, none_named)
 
 -- the heads that the front of a group's content has
 pub heads_of_part : (content octets : List ℕ) (frames : List Frame) (heads : List FrameHead) → octets ≡ take 128 (drop 0 content) → IsGroup content frames → HasHeads octets heads → heads ≡ heads_of frames
@@ -60,12 +54,8 @@ no_heads_of_part content octets frames is group none =
 -- The last frame of a page, where there is one.
 
 pub no_last : (page : ℕ) (frames : List Frame) → has_frame page frames ≡ false → last_frame page frames ≡ None
-no_last page [] none = refl
-no_last page (frame ∷ frames) none = by (frame.page == page) (has_frame page frames) none (no_last page frames)
-  where
-    by : (b later : Bool) → (b || later) ≡ false → (later ≡ false → last_frame page frames ≡ None) → option_or (last_frame page frames) (cond b (Some frame) None) ≡ None
-    by true later is rest = absurd (true≢false is)
-    by false later is rest = ap (λ (o : Option Frame). option_or o None) (rest is)
+no_last page [] none = grind (arith, common_steps)
+no_last page (frame ∷ frames) none = grind (arith, common_steps, (no_last page frames))
 
 pub some_last : (page : ℕ) (frames : List Frame) → has_frame page frames ≡ true → (frame : Frame) × (last_frame page frames ≡ Some frame)
 some_last page [] some = absurd (true≢false (sym some))
@@ -113,10 +103,8 @@ unnamed_has_none g image page slots none =
 -- Versions.
 
 frames_sound : (g : Geometry) (contents : List (List ℕ)) → AllByRecursion (λ content. (frames : List Frame) × IsGroupOn g content frames) contents → AllByRecursion (IsFrameOf g) (frames_of contents)
-frames_sound g [] all = tt
-frames_sound g (content ∷ contents) all =
-    let on = all.0.1 in
-    all_append (IsFrameOf g) (frames_in content) (frames_of contents) (subst (AllByRecursion (IsFrameOf g)) (sym (frames_are_in content all.0.0 on.group)) on.sound) (frames_sound g contents all.1)
+frames_sound g [] all = grind (arith, common_steps)
+frames_sound g (content ∷ contents) all = grind (arith, common_steps, all_append, frames_are_in, (frames_sound g contents all.1))
 
 pub all_sound : (g : Geometry) (image : Image) → 3 ≤ g.groups → AreGroups g image → AllByRecursion (IsFrameOf g) (frames_on g image)
 all_sound g image slots groups =

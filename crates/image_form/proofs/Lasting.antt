@@ -1,4 +1,6 @@
 -- What was found of sizes and rings holds after calls that only read.
+use Rattle.std.proofs.Common.{arith}
+use Rattle.std.proofs.lemmas.Grind.{common_steps}
 use Rattle.std.proofs.Common.{◌≡◌, sym, ◌∙◌, ap, subst}
 use Rattle.std.specs.Prelude.{Option, Some, IfSome}
 use Rattle.site.specs.declared.outside.Dev.TheVariants.{Log, Flash, Disk}
@@ -42,22 +44,7 @@ shape_some s o ring is shape = subst (λ (x : Option Ring). IfSome x (λ found. 
 -- the four rings
 
 pub may_read_later : (g : Geometry) (rings : Rings) (a b : State) → Preserves a b → MayRead g rings a → MayRead g rings b
-may_read_later g rings a b goes may = record {
-  sizes = sizes_later g a b goes may.sizes;
-  masters = usable_later rings.masters a b goes may.masters;
-  blocks = usable_later rings.blocks a b goes may.blocks;
-  groups = usable_later rings.groups a b goes may.groups;
-  segments = usable_later rings.segments a b goes may.segments;
-  masters_shape = may.masters_shape;
-  blocks_shape = may.blocks_shape;
-  groups_shape = may.groups_shape;
-  segments_shape = may.segments_shape;
-}
+may_read_later g rings a b goes may = grind (arith, common_steps, sizes_later, usable_later)
 
 pub found_later : (rings : Rings) (a b : State) → b.image ≡ a.image → AreFound rings a → AreFound rings b
-found_later rings a b same found = record {
-  masters = fits_later rings.masters a b same found.masters;
-  blocks = fits_later rings.blocks a b same found.blocks;
-  groups = fits_later rings.groups a b same found.groups;
-  segments = fits_later rings.segments a b same found.segments;
-}
+found_later rings a b same found = grind (arith, common_steps, fits_later)

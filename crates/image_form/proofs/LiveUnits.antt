@@ -1,5 +1,6 @@
 -- The live units of a ring, one by one and as a list.
-use Rattle.std.proofs.Common.{◌≡◌, ℕ, zero, suc, ◌+◌, ◌-◌, ◌%◌, ◌≤◌, ◌<◌, min, List, [], refl, subst, arith}
+use Rattle.std.proofs.lemmas.Grind.{common_steps}
+use Rattle.std.proofs.Common.{◌≡◌, ℕ, zero, suc, ◌+◌, ◌-◌, ◌%◌, ◌≤◌, ◌<◌, min, List, refl, subst, arith}
 use Rattle.std.specs.List.{AllByRecursion}
 use Rattle.std_lemmas.proofs.AllOf.{all_at}
 use Rattle.site.specs.State.{Image}
@@ -30,7 +31,4 @@ all_live P s image slots each =
     subst P (unit_is s hi n c slots refl live) (each n live))
 
 pub each_live : (P : List ℕ → Type 0) (s : Shape) (image : Image) → 3 ≤ s.slots → AllByRecursion P (units_on s image).live → OfLive s image (λ n. P (unit_at s (units_on s image) n))
-each_live P s image slots all n live =
-    let c : List ℕ = octets_of s image in
-    let count = live_count s c in
-    all_at P (units_on s image).live (n - (hi_of s c - (s.slots - 1))) [] all (omega (arith, count, slots, live.below, live.near))
+each_live P s image slots all n live = grind (arith, common_steps, live_count, all_at)

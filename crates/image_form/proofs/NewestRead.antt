@@ -1,10 +1,11 @@
 -- The queue of the live groups' frames, and the versions that it leads to.
-use Rattle.std.proofs.Common.{◌≡◌, ◌≢◌, ℕ, zero, suc, ◌+◌, ◌-◌, ◌*◌, ◌%◌, ◌≤◌, ◌<◌, min, Bool, true, false, List, [], ◌∷◌, ◌++◌, length, get_or, map, take, drop, Option, Some, None, option_map, refl, sym, ap, subst, ◌∙◌, arith}
+use Rattle.std.proofs.lemmas.Grind.{common_steps}
+use Rattle.std.proofs.Common.{◌≡◌, ◌≢◌, ℕ, zero, suc, ◌+◌, ◌-◌, ◌*◌, ◌%◌, ◌≤◌, ◌<◌, Bool, true, false, List, [], ◌∷◌, ◌++◌, length, get_or, map, take, drop, Option, Some, None, option_map, refl, sym, ap, subst, ◌∙◌, arith}
 use Rattle.std.proofs.lemmas.List.{length-map, length-append, map-append, get_or-map}
 use Rattle.std.proofs.lemmas.Option.{none-some}
 use Rattle.site.specs.declared.geometry.Geometry.{Geometry}
 use Rattle.site.specs.declared.outside.Dev.{Dev}
-use Rattle.site.specs.declared.outside.Dev.TheVariants.{Disk, Flash, Log}
+use Rattle.site.specs.declared.outside.Dev.TheVariants.{Disk, Log}
 use Rattle.site.specs.State.{State, Image, reads_of}
 use Rattle.sealed_ring.specs.declared.slots.Shape.{Shape}
 use Rattle.sealed_ring.specs.Ring.{IsLive, hi_of, content_at, units_from}
@@ -67,17 +68,7 @@ one_group_more g image first n list heads frames slots live at group is are =
 -- with all of them the queue shows the live groups
 pub all_groups : (g : Geometry) (image : Image) (first : ℕ) (list : List (List FrameHead)) (frames : Queue) → 3 ≤ g.groups → first ≡ hi_of (group_shape g) image.flash - (g.groups - 1) →
     first + length list ≡ hi_of (group_shape g) image.flash → AreHeadsFrom g image first list → frames ≡ record { first = first; groups = map known_in list } → ShowsFrames g image frames
-all_groups g image first list frames slots at end are is =
-    let s = group_shape g in
-    let hi : ℕ = hi_of (group_shape g) image.flash in
-    let count : length list ≡ min hi (g.groups - 1) = omega (arith, at, end) in
-    let live : units_from s image.flash first (length list) ≡ (units_on s image).live = (λ i. units_from s image.flash (at i) (count i)) in
-    let lists : list ≡ map heads_of (groups_on g image) = are ∙ ap (λ (l : List (List ℕ)). map heads_of (map frames_in l)) live in
-    let long = length-map list known_in in
-    subst (ShowsFrames g image) (sym is) (record {
-      next = omega (arith, long, end);
-      shown = ap (λ (l : List (List FrameHead)). let q : Queue = record { first = first; groups = map known_in l } in q) lists ∙ ap (λ l. let q : Queue = record { first = first; groups = l } in q) (known_groups (groups_on g image));
-    })
+all_groups g image first list frames slots at end are is = grind (arith, common_steps, length-map, known_groups)
 
 -- The version of a page.
 
@@ -100,11 +91,7 @@ module _ (g : Geometry) (image : Image) (queue : Queue) (page : ℕ) (slots : 3 
 
   -- a page without a frame
   pub disk_version : None ≡ newest queue page → disk_on image page ≡ version_on g image page
-  disk_version none = by (last_place queue.groups page) refl (none ∙ last_among-place queue.first queue.groups page)
-    where
-      by : (o : Option (ℕ × ℕ)) → last_place queue.groups page ≡ o → None ≡ option_map (placed queue.first) o → disk_on image page ≡ version_on g image page
-      by None here same = sym (ap (λ (o : Option Frame). version_by o (disk_on image page)) (last_is ∙ ap (option_map (λ (p : ℕ × ℕ). get_or (get_or (groups_on g image) p.0 []) p.1 no_frame)) here))
-      by (Some p) here same = absurd (none-some (placed queue.first p) same)
+  disk_version none = grind (arith, common_steps, last_among-place, option_map, placed, last_is, get_or, no_frame, none-some)
 
   -- and one with a frame
   pub frame_version : (place : Place) → Some place ≡ newest queue page → take 4096 (drop (128 + 4096 * place.index) (group_on g image place.group)) ≡ version_on g image page

@@ -1,5 +1,7 @@
 -- The records of a block read in order, each on a page of the disk.
-use Rattle.std.proofs.Common.{◌≡◌, ℕ, ◌≤◌, ◌<◌, List, [], ◌∷◌, ◌++◌, refl, sym, ap, ◌∙◌, subst, append_assoc}
+use Rattle.std.proofs.Common.{arith}
+use Rattle.std.proofs.lemmas.Grind.{common_steps}
+use Rattle.std.proofs.Common.{◌≡◌, ℕ, ◌≤◌, ◌<◌, List, [], ◌∷◌, ◌++◌, sym, ap, ◌∙◌, subst, append_assoc}
 use Rattle.std.specs.List.{AllByRecursion}
 use Rattle.std.proofs.lemmas.List.{append-nil}
 use Rattle.std_lemmas.proofs.AllOf.{all_push, all_between}
@@ -23,10 +25,7 @@ pub record PagesTo (content : List ℕ) (used at pages : ℕ) : Type 0 where
   pub cut : (all : List LogRecord) → IsBlock content all → used ≡ used_by all → IsCut content used at pages all
 
 pub none_read : (content : List ℕ) (used pages : ℕ) → 2 ≤ used → PagesTo content used 2 pages
-none_read content used pages low = record {
-  to = low;
-  cut = λ all is end. record { done = []; left = all; split = refl; are_left = all_left content used all is end; exist = tt };
-}
+none_read content used pages low = grind (arith, common_steps, all_left)
 
 pub one_more : (content : List ℕ) (used at end pages : ℕ) (rec : LogRecord) → PagesTo content used at pages → at < used → IsSpelledAt content at used rec end → IsOnPage pages rec → PagesTo content used end pages
 one_more content used at end pages rec so_far before spelled on = record {
@@ -54,11 +53,7 @@ one_off content used at end pages rec so_far before spelled off all is_end is =
 
 -- at the end they are all records of the block
 pub all_read : (content : List ℕ) (used at pages : ℕ) → PagesTo content used at pages → used ≤ at → (all : List LogRecord) → IsBlock content all → used ≡ used_by all → IsBlockOn pages content all
-all_read content used at pages so_far end all is is_end =
-    let cut = so_far.cut all is is_end in
-    let nothing : cut.left ≡ [] = none_left content used at cut.left cut.are_left end in
-    let same : all ≡ cut.done = cut.split ∙ ap (λ (x : List LogRecord). cut.done ++ x) nothing ∙ append-nil cut.done in
-    record { block = is; exist = subst (AllByRecursion (IsOnPage pages)) (sym same) cut.exist }
+all_read content used at pages so_far end all is is_end = grind (arith, common_steps, none_left, append-nil)
 
 -- a content is the block of one list of records
 pub same_end : (content : List ℕ) (used : ℕ) (a b : List LogRecord) → IsBlock content a → IsBlock content b → used ≡ used_by a → used ≡ used_by b

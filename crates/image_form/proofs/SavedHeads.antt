@@ -1,4 +1,5 @@
 -- Segments follow groups where the octets of heads are the same.
+use Rattle.std.proofs.lemmas.Grind.{common_steps}
 use Rattle.std.proofs.Common.{◌≡◌, ℕ, zero, suc, ◌+◌, ◌-◌, ◌*◌, ◌/◌, ◌%◌, ◌≤◌, ◌<◌, min, List, [], ◌∷◌, ◌++◌, length, get_or, map, take, drop, refl, sym, ap, ◌∙◌, subst, arith}
 use Rattle.std.specs.List.{AllByRecursion}
 use Rattle.std.proofs.lemmas.List.{take-take, take_all, length-map, get_or-map}
@@ -10,7 +11,7 @@ use Rattle.sealed_ring.specs.Ring.{IsLive, hi_of}
 use Rattle.sealed_ring.proofs.Units.{live_count}
 use Rattle.image_changes.specs.Rings.{group_shape, segment_shape, units_on}
 use Rattle.byte_fields.specs.declared.frame_head.FrameHead.{FrameHead}
-use Rattle.byte_fields.specs.FrameHeads.{spelling, spelling_of_all, FitsFields}
+use Rattle.byte_fields.specs.FrameHeads.{spelling, spelling_of_all}
 use Rattle.byte_fields.proofs.HeadParts.{length_spelling}
 use Rattle.byte_fields.proofs.GroupHeads.{have_form}
 use Rattle.frame_group.specs.Groups.{heads_of, frames_in, HasHeads}
@@ -44,14 +45,9 @@ none_dropped zero = refl
 none_dropped (suc n) = refl
 
 drop_spelled : (k : ℕ) (heads : List FrameHead) → drop (16 * k) (spelling_of_all heads) ≡ spelling_of_all (drop k heads)
-drop_spelled zero heads = refl
-drop_spelled (suc k) [] = none_dropped (16 * suc k)
-drop_spelled (suc k) (head ∷ heads) =
-    let size = length_spelling head in
-    let next : 16 * suc k ≡ length (spelling head) + 16 * k = omega (arith, size) in
-    ap (λ (n : ℕ). drop n (spelling head ++ spelling_of_all heads)) next
-    ∙ drop-append-add (spelling head) (spelling_of_all heads) (16 * k)
-    ∙ drop_spelled k heads
+drop_spelled zero heads = grind (arith, common_steps)
+drop_spelled (suc k) [] = grind (arith, common_steps, none_dropped)
+drop_spelled (suc k) (head ∷ heads) = grind (arith, common_steps, length_spelling, drop-append-add, (drop_spelled k heads))
 
 all_taken : (P : FrameHead → Type 0) (n : ℕ) (xs : List FrameHead) → AllByRecursion P xs → AllByRecursion P (take n xs)
 all_taken P zero xs all = tt
@@ -65,10 +61,7 @@ all_dropped P (suc n) (x ∷ xs) all = all_dropped P n xs all.1
 
 -- octets that heads of a group fill
 fill : (octets : List ℕ) (heads : List FrameHead) → length heads ≡ 8 → octets ≡ spelling_of_all heads → take (16 * length heads) octets ≡ spelling_of_all heads
-fill octets heads eight is =
-    let all : 16 * length heads ≡ 16 * 8 = ap (λ (n : ℕ). 16 * n) eight in
-    let whole : take 8 heads ≡ heads = take_all 8 heads (omega (arith, eight)) in
-    ap (λ (n : ℕ). take n octets) all ∙ ap (take (16 * 8)) is ∙ take_spelled 8 heads ∙ ap spelling_of_all whole
+fill octets heads eight is = grind (arith, common_steps, take_all, take_spelled)
 
 -- the heads of a group stand at their place in a segment's content
 part_of : (content : List ℕ) (heads : List FrameHead) (i : ℕ) → i < 4 → IsSegment content heads → take 128 (drop (128 * i) content) ≡ spelling_of_all (heads_of_group heads i)
@@ -80,33 +73,14 @@ part_of content heads i less is =
     ∙ take_spelled 8 (drop (8 * i) heads)
 
 has_part : (content : List ℕ) (heads : List FrameHead) (i : ℕ) → i < 4 → IsSegment content heads → HasHeads (take 128 (drop (128 * i) content)) (heads_of_group heads i)
-has_part content heads i less is =
-    let group = is.are_heads.groups i less in
-    record {
-      at_front = record {
-        text = fill (take 128 (drop (128 * i) content)) (heads_of_group heads i) group.eight (part_of content heads i less is);
-        have_form = have_form (heads_of_group heads i) group;
-        fit_fields = all_taken FitsFields 8 (drop (8 * i) heads) (all_dropped FitsFields (8 * i) heads is.fit_fields);
-      };
-      are_heads = group;
-    }
+has_part content heads i less is = grind (arith, common_steps, fill, part_of, have_form, all_taken, all_dropped)
 
 -- the heads of a group stand in front of its content
 pub heads_in_front : (octets : List ℕ) (heads : List FrameHead) → HasHeads octets heads → HasHeads (take 128 octets) heads
-heads_in_front octets heads has = record {
-  at_front = record {
-    text = take-take (16 * length heads) 128 octets (let eight = has.are_heads.eight in omega (arith, eight)) ∙ has.at_front.text;
-    have_form = has.at_front.have_form;
-    fit_fields = has.at_front.fit_fields;
-  };
-  are_heads = has.are_heads;
-}
+heads_in_front octets heads has = grind (arith, take-take, have_form)
 
 spelled_in_front : (octets : List ℕ) (heads : List FrameHead) → HasHeads octets heads → take 128 octets ≡ spelling_of_all heads
-spelled_in_front octets heads has =
-    let eight = has.are_heads.eight in
-    let all : 128 ≡ 16 * length heads = omega (arith, eight) in
-    ap (λ (n : ℕ). take n octets) all ∙ has.at_front.text
+spelled_in_front octets heads has = grind (arith, common_steps)
 
 -- Segments that stand.
 

@@ -1,5 +1,6 @@
 -- What was read of one live unit of a ring, and of all.
-use Rattle.std.proofs.Common.{◌≡◌, inl, inr, ℕ, ◌+◌, ◌-◌, ◌≤◌, ◌<◌, IsTrue, List, take, drop, refl, sym, ap, ◌∙◌, subst, arith}
+use Rattle.std.proofs.lemmas.Grind.{common_steps}
+use Rattle.std.proofs.Common.{◌≡◌, inl, inr, ℕ, ◌+◌, ◌-◌, ◌≤◌, ◌<◌, IsTrue, List, take, drop, sym, ap, ◌∙◌, subst, arith}
 use Rattle.std.proofs.lemmas.Bool.{cases_eq}
 use Rattle.std.proofs.lemmas.List.{take-take}
 use Rattle.std.specs.Prelude.{Ok}
@@ -17,15 +18,7 @@ use Rattle.image_form.proofs.Lasting.{fits_later}
 -- a unit that was read whole, from a ring of this shape
 pub unit_read : (s : Shape) (ring : Ring) (site : State) (n : ℕ) (read : List ℕ) → 3 ≤ s.slots → ring.shape ≡ s → Matches ring site → IsLive ring.shape ring.hi n →
     read ≡ take ring.shape.room (drop 0 (unit_at ring.shape (units_in ring.shape site) n)) → read ≡ unit_at s (units_on s site.image) n
-unit_read s ring site n read slots shape fits live is =
-    let live' : IsLive ring.shape (hi_of ring.shape (region ring.shape site)) n = subst (λ (h : ℕ). IsLive ring.shape h n) fits live in
-    let slots' : 3 ≤ ring.shape.slots = subst (λ (t : Shape). 3 ≤ t.slots) (sym shape) slots in
-    let stands = unit_is ring.shape (hi_of ring.shape (region ring.shape site)) n (region ring.shape site) slots' refl live' in
-    is
-    ∙ ap (take ring.shape.room) stands
-    ∙ take-take ring.shape.room ring.shape.room _ (omega arith)
-    ∙ sym stands
-    ∙ ap (λ (t : Shape). unit_at t (units_on t site.image) n) shape
+unit_read s ring site n read slots shape fits live is = grind (arith, common_steps, unit_is, take-take)
 
 -- where a ring that was found ends
 pub end_is : (s : Shape) (ring : Ring) (site : State) → ring.shape ≡ s → Matches ring site → ring.hi ≡ hi_of s (region s site)
@@ -39,13 +32,7 @@ live_there s ring site n shape fits near below =
 -- and one that was read whole after calls that only read is that of the content at entry
 pub read_whole : (s : Shape) (ring : Ring) (old now : State) (n len : ℕ) (read : List ℕ) → 3 ≤ s.slots → len ≡ s.room → ring.shape ≡ s → OnlyReads {T = Unit {0}} (Ok tt) old now → IsTrue old.honest → Matches ring old →
     ring.hi ≤ n + (ring.shape.slots - 1) → n < ring.hi → (IsTrue now.honest → Matches ring now → read ≡ take len (drop 0 (unit_at ring.shape (units_in ring.shape now) n))) → read ≡ unit_at s (units_on s old.image) n
-read_whole s ring old now n len read slots room shape reads honest fits near below part =
-    let same : now.image ≡ old.image = (reads.same honest).image in
-    let there : Matches ring now = fits_later ring old now same fits in
-    let whole : len ≡ ring.shape.room = room ∙ ap (λ (t : Shape). t.room) (sym shape) in
-    unit_read s ring now n read slots shape there (record { below = below; near = omega (arith, near, below) })
-    (part (stays_honest old now reads.preserves honest) there ∙ ap (λ (k : ℕ). take k (drop 0 (unit_at ring.shape (units_in ring.shape now) n))) whole)
-    ∙ ap (λ (image : Image). unit_at s (units_on s image) n) same
+read_whole s ring old now n len read slots room shape reads honest fits near below part = grind (arith, common_steps, fits_later, unit_read, stays_honest)
 
 -- one unit more
 pub one_more : (P : List ℕ → Type 0) (s : Shape) (image : Image) (hi at : ℕ) → P (unit_at s (units_on s image) at) → ((n : ℕ) → IsLive s hi n → n < at → P (unit_at s (units_on s image) n)) →

@@ -1,4 +1,5 @@
 -- A walk over the records of a log.
+use Rattle.std.proofs.lemmas.Grind.{common_steps}
 use Rattle.std.proofs.Common.{◌≡◌, ℕ, ◌+◌, ◌-◌, ◌*◌, ◌≤◌, ◌<◌, List, [], ◌∷◌, ◌++◌, length, drop, refl, sym, ap, ◌∙◌, subst, append_assoc, arith}
 use Rattle.std.specs.Prelude.{Option, Some, max, slice_index_or}
 use Rattle.std.proofs.lemmas.List.{append-nil}
@@ -21,9 +22,7 @@ use Rattle.image_form.proofs.BlockReading.{all_left, none_left, reads_first}
 
 -- where nothing is left of the block in memory
 nothing_here : (walk : Walk) (log : LogStore) (image : Image) (left : List Entry) (s : StandsBefore walk log image left) → walk.used ≤ walk.at → left ≡ log_from walk.block s.blocks
-nothing_here walk log image left s end =
-    let none : s.records ≡ [] = none_left walk.content walk.used walk.at s.records s.here end in
-    s.entries ∙ ap (λ (x : List LogRecord). entries_from (walk.from + walk.at) x ++ log_from walk.block s.blocks) none
+nothing_here walk log image left s end = grind (arith, common_steps, none_left)
 
 -- and behind it
 pub nothing_left : (walk : Walk) (log : LogStore) (image : Image) (left : List Entry) → StandsBefore walk log image left → walk.used ≤ walk.at → hi_of (log_shape log.geometry) image.log ≤ walk.block → left ≡ []
