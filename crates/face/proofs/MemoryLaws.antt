@@ -1,5 +1,5 @@
 -- Where memory is wanted before anything is done.
-use Rattle.face.proofs.Names.{◌≡◌, inl, ℕ, [], refl, sym, subst, arith, true, Err, Result, Memory, Geometry, Site, Leaves, LeavesOnly, Failed, State, Serial, Halt, LoadContract, RunContract, IsGood, Headline, Tells, Run, first_lines, RunOutcome, numbers_rise, NeverOpens, run_of, Load, LoadHeadline, LoadTellsDone, LoadWorks, load_run, summary_text, Stands, LeavesTable, goes_nowhere, no_call, told_is, image_is, Image, now_of}
+use Rattle.face.proofs.Names.{inl, ℕ, [], refl, sym, subst, arith, true, Err, Result, Memory, Geometry, Site, Leaves, LeavesOnly, Failed, State, Serial, Halt, LoadContract, RunContract, IsGood, Headline, Tells, Run, first_lines, RunOutcome, numbers_rise, NeverOpens, run_of, Load, LoadHeadline, LoadTellsDone, LoadWorks, load_run, summary_text, Stands, LeavesTable, goes_nowhere, no_call, told_is, image_is, Image, now_of}
 use Rattle.front_end.specs.declared.halt.Halt.TheVariants as halt
 use Rattle.face.specs.TopCall.{NewContract}
 use Rattle.face.proofs.Pagings.{none_read}
@@ -63,9 +63,6 @@ lacked_load_run load old new result tells = load_contract load old new 4
     (status_causes lacks 4 old new refl tt) (λ e. omega (arith, e), λ e. omega (arith, e)) (λ honest. tells_fault lacks 4 old old new result refl tt (goes_nowhere old) honest tells)
 
 module _ (status : ℕ) (old new : Site) (l : LacksMemory status old new) where
-  abbrev is : status ≡ 4
-  is = l.0
-
   pub lacked_new : (g : Geometry) → New g old new status
   lacked_new g = grind arith
 

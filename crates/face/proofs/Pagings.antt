@@ -1,6 +1,6 @@
 -- What a run asks of the page cache, line by line.
 use Rattle.engine.specs.LogReads.{restart_log_reads}
-use Rattle.face.proofs.Names.{start_reads, ◌≡◌, ℕ, suc, ◌+◌, ◌≤◌, Bool, true, false, List, [], ◌∷◌, ◌++◌, length, drop, arith, refl, sym, ap, subst, ◌∙◌, append_assoc, ◌-◌, Result, Ok, Option, if◌then◌else◌, append-nil, SameReads, Flash, Disk, Log, Stop, Site, Image, State, Line, Turn, is_quit, left_by, turns, next_listing, later_listings, Outcome, carried_through, full, CacheLine, Reply, Command, CacheOp, line_touches, run_touches, LogRecord, Master, logical_image_under, Rules, rules_of, after_works, PageStore, EachMoment, TellsPart, unchanged, IsQuiet, HearsOnly, ReadsFor, Engine, Matches, sizes_of, QueueIsOnFlash, WhereItFits, WritesFrom, restart_works, cache_on, commands_of, up_to_quit, Geometry, IsPaged, cache_by, LeavesStaged, Run, answered, first_lines, step, after_lines, state_at, works_of, AsksFew, turns_of, line_log_reads, asked_after, log_reads_after}
+use Rattle.face.proofs.Names.{start_reads, ◌≡◌, ℕ, suc, ◌+◌, ◌≤◌, Bool, true, false, List, [], ◌∷◌, ◌++◌, length, drop, arith, refl, sym, ap, subst, ◌∙◌, append_assoc, ◌-◌, Result, Ok, Option, if◌then◌else◌, append-nil, SameReads, Flash, Disk, Log, Stop, Site, Image, State, Line, Turn, is_quit, left_by, turns, next_listing, later_listings, CacheLine, CacheOp, line_touches, run_touches, LogRecord, Master, logical_image_under, Rules, rules_of, after_works, PageStore, EachMoment, TellsPart, unchanged, IsQuiet, HearsOnly, ReadsFor, Engine, Matches, sizes_of, QueueIsOnFlash, WhereItFits, WritesFrom, restart_works, cache_on, commands_of, up_to_quit, Geometry, IsPaged, cache_by, LeavesStaged, Run, answered, first_lines, step, after_lines, state_at, works_of, AsksFew, turns_of, line_log_reads, asked_after, log_reads_after}
 use Rattle.second_chance.specs.Machine.{Cache, opened}
 use Rattle.engine.proofs.Asking.{still_writes}
 use Rattle.face.proofs.Writings.{writes_told, writes_heard}
@@ -16,10 +16,6 @@ use Rattle.face.specs.RunMeaning.{LeavesItsQueue, LeavesVersions, log_reads_in}
 plain_after : State → List Line → State
 plain_after s [] = s
 plain_after s (line ∷ lines) = plain_after (step s line []).after lines
-
--- what a line leaves doesn't
-abbrev chosen : State → Command → List CacheLine → Bool → Option Reply → Outcome
-chosen s command listing lacks fills = if lacks then record { after = s; reply = full s } else carried_through s command listing fills
 
 pub after_same : (s : State) (line : Line) (listing other : List CacheLine) → (step s line listing).after ≡ (step s line other).after
 after_same s x1 listing other = grind arith
