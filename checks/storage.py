@@ -29,10 +29,13 @@ def fresh(program, sizes):
 
 
 def some_lines(random, sizes, most):
-    """Lines of all kinds, a session that goes back, or sets over all pages, so that pages leave memory and groups are pushed."""
+    """Lines of all kinds, a session that goes back, a page that is full, or sets over all pages, so that pages leave memory
+    and groups are pushed."""
     records = storage_model.SLOTS * sizes.pages
     count = random.choice([0, 1, 3, random.randint(0, most)])
     kind = random.random()
+    if kind < 0.05:
+        return storage_model.full_page_lines(random, records, count)
     if kind < 0.25:
         return storage_model.session_lines(random, records, count)
     if kind < 0.65:

@@ -48,6 +48,10 @@ checks 'a commit is sound' 0 'sound records 1 commits 1' ''
 cp face.log kept
 poke face.log 1590 002
 checks 'another number of a commit' 11 'unsound S11' 'face: rule 11 fails in the log: .*'
+before=$(cat face.* | cksum)
+says 'a run over it' 9 'face: rule 11 fails in the log: .*' run 1
+[ "$(cat "$folder/out")" = 'fault foreign' ] && [ "$before" = "$(cat face.* | cksum)" ]
+verdict 'a run over it opens nothing and changes nothing' $?
 mv kept face.log
 told 'another commit' 0 'open 1/committed 2/committed 3' 'set 5 -/set 6 0c/' run 1
 checks 'three commits on two numbers' 0 'sound records 2 commits 3' ''

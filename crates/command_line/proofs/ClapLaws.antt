@@ -51,7 +51,8 @@ line_of (inr (inl new)) = (codes "new", new.0.pages ∷ new.0.groups ∷ new.0.b
 line_of (inr (inr (inl load))) = (codes "load", load.0.count ∷ load.0.seed ∷ load.0.pool ∷ [])
 line_of (inr (inr (inr (inl simulate)))) = (codes "simulate", simulate.0.groups ∷ simulate.0.pool ∷ [])
 line_of (inr (inr (inr (inr (inl trial))))) = (codes "trial", trial.0.geometry.pages ∷ trial.0.geometry.groups ∷ trial.0.geometry.blocks ∷ trial.0.pool ∷ [])
-line_of (inr (inr (inr (inr (inr check))))) = (codes "check", [])
+line_of (inr (inr (inr (inr (inr (inl check)))))) = (codes "check", [])
+line_of (inr (inr (inr (inr (inr (inr archive)))))) = (codes "archive", archive.0 ∷ [])
 
 pub written_out : {words : List Text} (right : IsRight words) → words ≡ (line_of right).0 ∷ map decimal (line_of right).1
 written_out (inl run) = run.1.words_are
@@ -59,7 +60,8 @@ written_out (inr (inl new)) = new.1.words_are
 written_out (inr (inr (inl load))) = load.1.words_are
 written_out (inr (inr (inr (inl simulate)))) = simulate.1.words_are
 written_out (inr (inr (inr (inr (inl trial))))) = trial.1.words_are
-written_out (inr (inr (inr (inr (inr check))))) = check
+written_out (inr (inr (inr (inr (inr (inl check)))))) = check
+written_out (inr (inr (inr (inr (inr (inr archive)))))) = archive.1.words_are
 
 abbrev pub Fits : ℕ → Type 0
 Fits n = n < 2 ^ 64
@@ -79,7 +81,8 @@ fit (inr (inr (inr (inr (inl trial))))) =
     let blocks = trial.1.limits.sizes.few_blocks in
     let to = trial.1.limits.to in
     (omega (arith, pages), (omega (arith, groups), (omega (arith, blocks), (omega (arith, to), tt))))
-fit (inr (inr (inr (inr (inr check))))) = tt
+fit (inr (inr (inr (inr (inr (inl check)))))) = tt
+fit (inr (inr (inr (inr (inr (inr archive)))))) = (archive.1.fits, tt)
 
 named_undashed : {words : List Text} (right : IsRight words) → is_dashed (line_of right).0 ≡ false
 named_undashed (inl run) = refl
@@ -87,7 +90,8 @@ named_undashed (inr (inl new)) = refl
 named_undashed (inr (inr (inl load))) = refl
 named_undashed (inr (inr (inr (inl simulate)))) = refl
 named_undashed (inr (inr (inr (inr (inl trial))))) = refl
-named_undashed (inr (inr (inr (inr (inr check))))) = refl
+named_undashed (inr (inr (inr (inr (inr (inl check)))))) = refl
+named_undashed (inr (inr (inr (inr (inr (inr archive)))))) = refl
 
 -- a number in decimal begins with a digit
 numeral_undashed : (t : Text) → IsNumeral 10 t → is_dashed t ≡ false
@@ -130,13 +134,18 @@ taken_check : takes program (codes "check" ∷ []) ≡ true
 unfolding clap_on_literals
 taken_check = refl
 
+taken_archive : (t : Text) → Plain t → takes program (codes "archive" ∷ t ∷ []) ≡ true
+unfolding clap_on_literals
+taken_archive t p = rw (p.dashes, p.long, p.short) refl
+
 taken_line : {words : List Text} (right : IsRight words) → AllByRecursion Plain (map decimal (line_of right).1) → takes program ((line_of right).0 ∷ map decimal (line_of right).1) ≡ true
 taken_line (inl run) p = taken_run _ p.0
 taken_line (inr (inl new)) p = taken_new _ _ _ p.0 p.1.0 p.1.1.0
 taken_line (inr (inr (inl load))) p = taken_load _ _ _ p.0 p.1.0 p.1.1.0
 taken_line (inr (inr (inr (inl simulate)))) p = taken_simulate _ _ p.0 p.1.0
 taken_line (inr (inr (inr (inr (inl trial))))) p = taken_trial _ _ _ _ p.0 p.1.0 p.1.1.0 p.1.1.1.0
-taken_line (inr (inr (inr (inr (inr check))))) p = taken_check
+taken_line (inr (inr (inr (inr (inr (inl check)))))) p = taken_check
+taken_line (inr (inr (inr (inr (inr (inr archive)))))) p = taken_archive _ p.0
 
 -- so it takes all right words
 pub right_taken : (words : List Text) → IsRight words → takes program words ≡ true

@@ -1,4 +1,4 @@
--- The words of `run`, of `new`, of `load`, of `simulate` and of `trial` each say one thing.
+-- The words of `run`, `new`, `load`, `simulate`, `trial` and `archive` each say one thing.
 use Rattle.std.proofs.Common.{◌≡◌, ◌∙◌, ℕ, List, [], ◌∷◌, map, get_or, inl, inr, refl, sym}
 use Rattle.std.specs.Prelude.{decimal}
 use Rattle.std.specs.List.{AllByRecursion}
@@ -7,7 +7,7 @@ use Rattle.site.specs.declared.geometry.Geometry.{Geometry}
 use Rattle.command_line.specs.declared.request.Load.{Load}
 use Rattle.command_line.specs.declared.request.Simulation.{Simulation}
 use Rattle.command_line.specs.declared.request.TrialSizes.{TrialSizes}
-use Rattle.command_line.specs.Words.{IsRun, IsNew, IsLoad, IsSimulate, IsTrial, IsRight}
+use Rattle.command_line.specs.Words.{IsArchive, IsRun, IsNew, IsLoad, IsSimulate, IsTrial, IsRight}
 use Rattle.command_line.proofs.ClapLaws.{Fits, fit, line_of, written_out}
 
 -- numbers whose texts are the same are the same
@@ -51,3 +51,8 @@ pub one_trial : (words : List (List ℕ)) (t other : TrialSizes) → IsTrial wor
 one_trial words t other first second =
     let same = one_line {words = words} (inr (inr (inr (inr (inl (t, first)))))) (inr (inr (inr (inr (inl (other, second)))))) in
     λ i. record { geometry = record { pages = get_or (same i) 0 0; groups = get_or (same i) 1 0; blocks = get_or (same i) 2 0 }; pool = get_or (same i) 3 0 }
+
+pub one_from : (words : List (List ℕ)) (from other : ℕ) → IsArchive words from → IsArchive words other → from ≡ other
+one_from words from other first second =
+    let same = one_line {words = words} (inr (inr (inr (inr (inr (inr (from, first))))))) (inr (inr (inr (inr (inr (inr (other, second))))))) in
+    λ i. get_or (same i) 0 0

@@ -1,5 +1,5 @@
 -- The command line of the program, as `clap` sees it.
-use Rattle.std.specs.Prelude.{◌≡◌, ◌≤◌, true, false, codes, decimal, List, [], ℕ, Some}
+use Rattle.std.specs.Prelude.{◌≡◌, ◌≤◌, ◌<◌, ◌^◌, true, false, codes, decimal, List, [], ℕ, Some}
 use Rattle.std.specs.List.{list_any}
 use Rattle.clap.specs.Words.{App, Rule, app_of, fault_of, first_value, new_app, new_rule, subcommand_of}
 use Rattle.clap.specs.Words.{subcommand_rows_of, with_rule, with_subcommand}
@@ -42,6 +42,9 @@ trial_words = with_rule (with_rule (with_rule (with_rule (new_app (codes "trial"
 abbrev pub check_words : App
 check_words = new_app (codes "check")
 
+abbrev pub archive_words : App
+archive_words = with_rule (new_app (codes "archive")) (text (new_rule (codes "from")))
+
 abbrev pub bare : App
 bare = on_top (λ s. record s {
   no_binary_name = true;
@@ -56,10 +59,14 @@ abbrev pub database_words : App
 database_words = with_subcommand (with_subcommand (with_subcommand bare new_words.top) run_words.top) load_words.top
 
 -- and `simulate` with two, `trial` with four, and `check` with none
-abbrev pub program : App
-program =
+abbrev pub earlier_words : App
+earlier_words =
     with_subcommand (with_subcommand (with_subcommand database_words simulate_words.top) trial_words.top)
     check_words.top
+
+-- and `archive` with one
+abbrev pub program : App
+program = with_subcommand earlier_words archive_words.top
 
 -- the command is this one, and no argument of it is global
 abbrev pub IsLike : Command → App → Type 0
@@ -76,6 +83,11 @@ pub record IsPool (found : Found) (pool : ℕ) : Type 0 where
   pub text : first_value found (codes "pool") ≡ Some (decimal pool)
   pub from : 1 ≤ pool
   pub to : pool ≤ 4096
+
+-- the text behind `archive` is the number of a block
+pub record IsFrom (found : Found) (from : ℕ) : Type 0 where
+  pub text : first_value found (codes "from") ≡ Some (decimal from)
+  pub fits : from < 2 ^ 64
 
 -- the texts behind `new` are sizes
 pub record AreSizes (found : Found) (g : Geometry) : Type 0 where

@@ -10,7 +10,7 @@ use Rattle.command_line.specs.declared.request.Load.{Load as Workload}
 use Rattle.command_line.specs.declared.request.Simulation.{Simulation}
 use Rattle.command_line.specs.declared.request.TrialSizes.{TrialSizes}
 use Rattle.command_line.specs.declared.request.Request.{Request}
-use Rattle.command_line.specs.declared.request.Request.TheVariants.{Run, New, Load, Simulate, Trial, Check}
+use Rattle.command_line.specs.declared.request.Request.TheVariants.{Run, New, Load, Simulate, Trial, Check, Archive}
 
 -- the octets of each word
 abbrev pub words_of : List (String Global) → List (List ℕ)
@@ -75,12 +75,17 @@ pub record IsTrial (words : List (List ℕ)) (t : TrialSizes) : Type 0 where
 abbrev pub IsCheck : List (List ℕ) → Type 0
 IsCheck words = words ≡ codes "check" ∷ []
 
+-- `archive FROM`, with FROM below 2^64 in decimal
+pub record IsArchive (words : List (List ℕ)) (from : ℕ) : Type 0 where
+  pub words_are : words ≡ codes "archive" ∷ decimal from ∷ []
+  pub fits : from < 2 ^ 64
+
 -- the words are in the table
 abbrev pub IsRight : List (List ℕ) → Type 0
 IsRight words =
     ((pool : ℕ) × IsRun words pool) ⊎ (((g : Geometry) × IsNew words g)
     ⊎ (((load : Workload) × IsLoad words load) ⊎ (((s : Simulation) × IsSimulate words s)
-    ⊎ (((t : TrialSizes) × IsTrial words t) ⊎ IsCheck words))))
+    ⊎ (((t : TrialSizes) × IsTrial words t) ⊎ (IsCheck words ⊎ ((from : ℕ) × IsArchive words from))))))
 
 -- the words ask for this
 abbrev pub IsRequest : Request → List (List ℕ) → Type 0
@@ -90,6 +95,7 @@ IsRequest (Load load) words = IsLoad words load
 IsRequest (Simulate s) words = IsSimulate words s
 IsRequest (Trial t) words = IsTrial words t
 IsRequest Check words = IsCheck words
+IsRequest (Archive from) words = IsArchive words from
 
 -- the word begins with a dash
 abbrev pub is_dashed : List ℕ → Bool

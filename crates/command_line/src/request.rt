@@ -3,9 +3,11 @@ ghost use Rattle.std.specs.Prelude.{◌≡◌, ◌↔◌, IfSome, IfNone, IfOk, 
 ghost use Rattle.std.specs.List.{list_any};
 ghost use Rattle.clap.specs.Words.{found_of, kind_of, new_rule, rule_of};
 ghost use Rattle.clap.specs.declared.error.kind.ErrorKind.TheVariants.{OutOfMemory};
-ghost use Rattle.command_line.specs.Program.{AreSizes, IsLike, IsLoadOf, IsPool, IsReadFrom, IsSimulationOf, IsTrialOf};
-ghost use Rattle.command_line.specs.Program.{bare, check_words, database_words, load_words, new_words, program};
-ghost use Rattle.command_line.specs.Program.{run_words, simulate_words, text, trial_words};
+ghost use Rattle.command_line.specs.Program.{AreSizes, IsFrom, IsLike, IsLoadOf, IsPool, IsReadFrom};
+ghost use Rattle.command_line.specs.Program.{IsSimulationOf, IsTrialOf};
+ghost use Rattle.command_line.specs.Program.{archive_words, bare, check_words, database_words, earlier_words};
+ghost use Rattle.command_line.specs.Program.{load_words, new_words, program, run_words, simulate_words, text};
+ghost use Rattle.command_line.specs.Program.{trial_words};
 ghost use Rattle.command_line.specs.Words.{HasTrialLimits, IsRight, IsRequest, HasCacheLimits, HasDash, HasLoadLimits};
 ghost use Rattle.command_line.specs.Words.{is_dashed, words_of};
 ghost use Rattle.command_line.specs.declared.request.Load.{Load};
@@ -59,6 +61,8 @@ pub enum Request {
     Trial(TrialSizes),
     /// Whether the devices are sound.
     Check,
+    /// The log's sealed blocks from this one on.
+    Archive(u64),
 }
 
 /// Why words ask for nothing.
@@ -132,6 +136,13 @@ fn check_command<'a>(alloc: Global) -> Command<'a>
     Command::new(alloc, "check")
 }
 
+// The words behind `archive`.
+fn archive_command<'a>(alloc: Global) -> Result<Command<'a>, AllocError>
+    ensures { IfOk result (λ c. IsLike c archive_words) }
+{
+    Command::new(alloc, "archive").arg(text_argument(alloc, "from"))
+}
+
 // The words are the program's without its own name, and there is no help.
 fn bare_command<'a>(alloc: Global) -> Command<'a>
     ensures { IsLike result bare }
@@ -157,9 +168,9 @@ fn database_command<'a>(alloc: Global) -> Result<Command<'a>, AllocError>
         .subcommand(load)
 }
 
-// The program's command line: the words on a database, `simulate` and `trial` with their texts, and `check`.
-fn command<'a>(alloc: Global) -> Result<Command<'a>, AllocError>
-    ensures { IfOk result (λ c. IsLike c program) }
+// The words on a database, `simulate` and `trial` with their texts, and `check`.
+fn earlier_command<'a>(alloc: Global) -> Result<Command<'a>, AllocError>
+    ensures { IfOk result (λ c. IsLike c earlier_words) }
 {
     let simulate = simulate_command(alloc)?;
     let trial = trial_command(alloc)?;
@@ -167,6 +178,14 @@ fn command<'a>(alloc: Global) -> Result<Command<'a>, AllocError>
         .subcommand(simulate)?
         .subcommand(trial)?
         .subcommand(check_command(alloc))
+}
+
+// The program's command line: these words, and `archive` with its text.
+fn command<'a>(alloc: Global) -> Result<Command<'a>, AllocError>
+    ensures { IfOk result (λ c. IsLike c program) }
+{
+    let archive = archive_command(alloc)?;
+    earlier_command(alloc)?.subcommand(archive)
 }
 
 fn begins_with_dash(word: &[u8]) -> bool
@@ -200,6 +219,20 @@ fn pool_in(run: &ArgMatches<'_>) -> Option<u32>
         return None;
     };
     number_within(pool.as_bytes(), 1, POOL_MAX)
+}
+
+// The number of the block that the text behind `archive` gives.
+fn from_in(archive: &ArgMatches<'_>) -> Option<u64>
+    ensures from { IfSome result (λ from. IsFrom (found_of archive.now) from) }
+    ensures none { IfNone result ((from : ℕ) → IsFrom (found_of archive.now) from → ⊥) }
+{
+    let Some(text) = archive.get_str("from") else {
+        return None;
+    };
+    let Some(from) = number_in(text) else {
+        return None;
+    };
+    Some(from)
 }
 
 // The sizes that the texts behind `new` give.
@@ -375,6 +408,12 @@ fn request_in(matches: &ArgMatches<'_>) -> Option<Request>
     }
     if let Some(_check) = matches.subcommand_matches("check") {
         return Some(Request::Check);
+    }
+    if let Some(archive) = matches.subcommand_matches("archive") {
+        let Some(from) = from_in(archive) else {
+            return None;
+        };
+        return Some(Request::Archive(from));
     }
     None
 }

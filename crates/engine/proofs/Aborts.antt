@@ -1,6 +1,6 @@
 -- A session's abort.
 use Rattle.checkpoint.specs.declared.master.Master.{Master}
-use Rattle.std.proofs.Common.{◌≡◌, ◌≢◌, ℕ, ◌+◌, ◌<◌, false, List, length, Option, None, Some, ⊎_elim, refl, sym, ap, subst, ◌∙◌, arith, get_or-set_same, get_or-set_other, length-set, IsTrue, true≢false}
+use Rattle.std.proofs.Common.{◌≡◌, ◌≢◌, ℕ, ◌+◌, ◌<◌, false, List, length, Option, None, Some, ⊎_elim, refl, sym, ap, subst, ◌∙◌, arith, get_or-set_same, get_or-set_other, length-set, IsTrue, true≢false, []}
 use Rattle.std.specs.Prelude.{slice_set, slice_index_or}
 use Rattle.std.proofs.lemmas.Option.{none-some, same_Some}
 use Rattle.std.proofs.lemmas.Bool.{cases_eq}
@@ -23,6 +23,7 @@ use Rattle.engine.specs.Representation.{Matches, SessionIs, SessionsAre, updated
 use Rattle.txn_table.proofs.Owing.{entry_is}
 use Rattle.engine.proofs.Locks.{released}
 use Rattle.engine.proofs.Actives.{some_active}
+use Rattle.engine.proofs.FootprintChanges.{dropped as dropped_there}
 
 -- another session's transaction
 pub others_go_on : (newest : Option Master) (kept : ℕ) (txn : ℕ) (before now : List Entry) → ConcernsOnly newest txn before now → (a : Option Active) (o : Option Session) → ((entry : Active) → a ≡ Some entry → entry.begin ≢ txn) → SessionIs newest kept before a o → SessionIs newest kept now a o
@@ -79,8 +80,9 @@ pub aborted_fits : (engine mid last : Engine) (old new : Site) (s : State) (entr
     mid ≡ record engine { store = mid.store } → mid.store.made ≡ engine.store.made + (entry.writes + 1) →
     ReleasesAll mid.locks last.locks entry.session → ChangesOnly mid.active last.active entry.session None → entries.owed last.active + (entry.writes + 1) ≡ entries.owed mid.active →
     last.store ≡ mid.store → last.commits ≡ mid.commits → last.cap ≡ mid.cap →
+    length engine.footprints ≡ 8 → last.footprints ≡ slice_set mid.footprints entry.session [] →
     Matches last new (effect s (command.Abort entry.session))
-aborted_fits engine mid last old new s entry fits table at honest back rest made releases changes owed_is store_is commits_is cap_is =
+aborted_fits engine mid last old new s entry fits table at honest back rest made releases changes owed_is store_is commits_is cap_is eight gone =
     let n = entry.session in
     let small = (entry_is engine.active n entry table at).small in
     let made_last : last.store.made ≡ engine.store.made + (entry.writes + 1) = ap (λ (j : TransactionStore). j.made) store_is ∙ made in
@@ -97,7 +99,9 @@ aborted_fits engine mid last old new s entry fits table at honest back rest made
         commits = commits_is ∙ ap (λ (x : Engine). x.commits) rest ∙ fits.counts.commits;
         made = omega (arith, made_last, fits.counts.made, count_is engine old s entry fits at);
         cap = cap_is ∙ ap (λ (x : Engine). x.cap) rest ∙ fits.counts.cap;
+        fills = fits.counts.fills;
       };
       sessions = record { count = done.count; each = done.each; all = done.all; owes = done.owes; differ = done.differ };
       locks_are = released engine.locks last.locks s (effect s (command.Abort n)) n (omega (arith, small, fits.sessions.count)) refl (subst (λ (l : List Lock). ReleasesAll l last.locks n) (ap (λ (x : Engine). x.locks) rest) releases) fits.locks_are;
+      footprints_are = dropped_there engine.footprints last.footprints s (effect s (command.Abort n)) n (omega (arith, small, eight)) (omega (arith, small, fits.sessions.count)) (gone ∙ ap (λ (x : Engine). slice_set x.footprints n []) rest) refl refl fits.footprints_are;
     }

@@ -1,6 +1,6 @@
 -- The sessions of the model and the unfinished transactions of the log, one record further.
 use Rattle.checkpoint.specs.declared.master.Master.{Master}
-use Rattle.std.proofs.Common.{◌≡◌, ◌≢◌, ℕ, suc, ◌+◌, ◌*◌, ◌≤◌, ◌<◌, Bool, cond, false, List, [], ◌∷◌, ◌++◌, length, Option, None, Some, ⊎_elim, refl, sym, ap, subst, ◌∙◌, arith, get_or-set_same, get_or-set_other, length-set}
+use Rattle.std.proofs.Common.{◌≡◌, ◌≢◌, ℕ, suc, ◌+◌, ◌*◌, ◌≤◌, ◌<◌, false, List, [], ◌∷◌, ◌++◌, length, Option, None, Some, ⊎_elim, refl, sym, ap, subst, ◌∙◌, arith, get_or-set_same, get_or-set_other, length-set}
 use Rattle.std.specs.Prelude.{slice_set, slice_index_or, drop}
 use Rattle.std.proofs.lemmas.Option.{none-some, same_Some}
 use Rattle.std.proofs.lemmas.Bool.{ne_eqb, eq-eqb, cases_eq}
@@ -111,3 +111,10 @@ begun newest records old new s n lsn made entry are small none changes owes fres
 
     older : (t : ℕ) → t ≢ lsn → (m : ℕ) × (other : Active) × (entry_of old m ≡ Some other) × (other.begin ≡ t) → (m : ℕ) × (other : Active) × (entry_of new m ≡ Some other) × (other.begin ≡ t)
     older t ne found = (found.0, found.1, changes.others found.0 (λ same. none-some found.1 (sym none ∙ ap (entry_of old) (sym same) ∙ found.2)) ∙ found.2, found.3)
+
+-- Where one session has ended, each other one has the entry that it had.
+pub ended_was : (old new : List Active) (n : ℕ) → ChangesOnly old new n None → (m : ℕ) (a : Active) → entry_of new m ≡ Some a → entry_of old m ≡ Some a
+ended_was old new n changes m a at = ⊎_elim
+    (λ (same : m ≡ n). absurd (none-some a (sym changes.own ∙ ap (entry_of new) (sym same) ∙ at)))
+    (λ differ. sym (changes.others m differ) ∙ at)
+    (cases_eq m n)

@@ -27,10 +27,12 @@ use Rattle.redo_undo.specs.StoreRollback.{ConcernsOnly, GoesBack}
 use Rattle.engine.specs.declared.engine.Engine.{Engine}
 use Rattle.engine.specs.Invariant.{Invariant, sizes_of}
 use Rattle.engine.specs.LogReads.{back_reads}
-use Rattle.engine.specs.Representation.{IsUnderWay, LocksAre, Matches, SessionIs, SessionsAre, updated, with_mark}
+use Rattle.engine.specs.Representation.{IsUnderWay, LocksAre, Matches, SessionIs, SessionsAre, with_mark}
 use Rattle.txn_table.proofs.Owing.{entry_is}
 use Rattle.engine.proofs.Aborts.{others_go_on}
 use Rattle.engine.proofs.Actives.{some_active}
+use Rattle.engine.proofs.FootprintChanges.{footprints_stay, went_back}
+use Rattle.engine.specs.PageTests.{AreLocked, AreTakenBack}
 use Rattle.engine.proofs.Locks.{at_set, locks_stay}
 
 -- One session goes on with another entry, and no other transaction is concerned.
@@ -87,18 +89,20 @@ marked_fits engine active site s n entry fits table at changes owed =
       newest = fits.newest;
       records = fits.records;
       holds = fits.holds;
-      counts = record { commits = fits.counts.commits; made = fits.counts.made; cap = fits.counts.cap };
+      counts = record { commits = fits.counts.commits; made = fits.counts.made; cap = fits.counts.cap; fills = fits.counts.fills };
       sessions = changed_one fits.newest fits.records fits.records engine.active active s n now (having_marked found.session) entry (after_mark entry) fits.sessions small at changes refl (nothing_concerned fits.newest entry.begin fits.records) (fits.sessions.owes ∙ sym owed) is
           (record { is_active = under.is_active; born = under.born; count = under.count; mark = under.count; wrote = under.wrote });
       locks_are = same_locks engine.locks s n now found.session (omega (arith, small, fits.sessions.count)) found.is (ap wrote_of is) (ap reads_of is) fits.locks_are;
+      footprints_are = footprints_stay engine.footprints s (with_mark s n) refl (at_set writes_of s.sessions n now (Some found.session) (omega (arith, small, fits.sessions.count)) found.is (ap writes_of is)) fits.footprints_are;
     }
 
 -- The way back to so many writes.
 pub back_fits : (engine last : Engine) (old new : Site) (s : State) (entry : Active) (stays lsn : ℕ) (session : Session) (fits : Matches engine old s) → IsTable engine.active → entry_of engine.active entry.session ≡ Some entry → session_at s entry.session ≡ Some session → IsUnderWay fits.newest s.kept fits.records entry session →
     stays ≤ entry.writes → IsTrue new.honest → GoesBack last.store new fits.newest fits.records s.table s.commits entry.begin (entry.writes - stays) session.writes lsn → last.store.made ≡ engine.store.made + (entry.writes - stays) →
     ChangesOnly engine.active last.active entry.session (Some (after_undone entry (entry.writes - stays) lsn)) → entries.owed last.active + (entry.writes - stays) ≡ entries.owed engine.active → last.locks ≡ engine.locks → last.commits ≡ engine.commits → last.cap ≡ engine.cap →
+    AreTakenBack engine.footprints last.footprints entry.session (entry.writes - stays) →
     Matches last new (effect s (command.Back entry.session (Some stays)))
-back_fits engine last old new s entry stays lsn session fits table at is under less honest back made changes owed locks commits cap =
+back_fits engine last old new s entry stays lsn session fits table at is under less honest back made changes owed locks commits cap taken =
     let n = entry.session in
     let count : ℕ = entry.writes - stays in
     let small = (entry_is engine.active n entry table at).small in
@@ -121,10 +125,11 @@ back_fits engine last old new s entry stays lsn session fits table at is under l
       newest = fits.newest;
       records = back.log;
       holds = back.holds;
-      counts = record { commits = commits ∙ fits.counts.commits; made = omega (arith, made, fits.counts.made, drops); cap = cap ∙ fits.counts.cap };
+      counts = record { commits = commits ∙ fits.counts.commits; made = omega (arith, made, fits.counts.made, drops); cap = cap ∙ fits.counts.cap; fills = fits.counts.fills };
       sessions = record { count = done.count; each = done.each; all = done.all; owes = done.owes; differ = done.differ };
       locks_are = let held = same_locks engine.locks s n now session (omega (arith, small, fits.sessions.count)) is (ap wrote_of is_now) (ap reads_of is_now) fits.locks_are in
           subst (λ (l : List Lock). LocksAre l (effect s (command.Back n (Some stays)))) (sym locks) (record { written = held.written; reads = held.reads });
+      footprints_are = went_back engine.footprints last.footprints s (effect s (command.Back n (Some stays))) n stays count session (omega (arith, small, fits.sessions.count)) is (omega (arith, less, many)) (omega (arith, many)) taken refl refl fits.footprints_are;
     }
   where
     stays_is : entry.writes - (entry.writes - stays) ≡ stays
@@ -133,8 +138,9 @@ back_fits engine last old new s entry stays lsn session fits table at is under l
 -- Of every site: a session goes on with another entry, and so much less is owed as more was made.
 pub still_going : {old new : Engine} {before now : Site} (n count : ℕ) (entry entry' : Active) → Invariant old before → entry_of old.active n ≡ Some entry → ChangesOnly old.active new.active n (Some entry') → IsTable new.active → entry'.begin ≡ entry.begin → entry'.born ≡ entry.born → entry'.begin ≤ entry'.last → entry'.last < end_of new.store.log →
     entries.owed new.active + count ≡ entries.owed old.active → MayWork new.store now → sizes_of new.store ≡ sizes_of old.store → new.store.log.kept ≡ old.store.log.kept → new.store.made ≡ old.store.made + count → blocks_to new.store.log ≤ blocks_to old.store.log + count → end_of old.store.log ≤ end_of new.store.log →
-    new.ended ≡ old.ended → new.cap ≡ old.cap → new.commits ≡ old.commits → Invariant new now
-still_going {old = old} {new = new} n count entry entry' going at changes table begin born above below owed store sizes kept made blocks rises ended cap commits = record {
+    new.ended ≡ old.ended → new.cap ≡ old.cap → new.commits ≡ old.commits → AreLocked new.footprints new.locks → Invariant new now
+still_going {old = old} {new = new} n count entry entry' going at changes table begin born above below owed store sizes kept made blocks rises ended cap commits locked = record {
+  footprints = locked;
   store = store;
   going = ended ∙ going.going;
   cap = ap (λ (k : ℕ). k + 1) cap ∙ going.cap ∙ sym (ap (λ (x : Geometry). x.blocks) sizes);

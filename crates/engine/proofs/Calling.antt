@@ -24,10 +24,11 @@ use Rattle.redo_laws.specs.MachineSteps.{StepsMachine, checkpoint_works}
 use Rattle.log_store.specs.Representation.{end_of}
 use Rattle.txn_table.specs.declared.active.Active.{Active}
 use Rattle.txn_table.specs.Entries.{IsTable, entry_of, owed}
+use Rattle.engine.specs.PageTests.{AreLocked, full_for, tested, touches_by, write_by}
 use Rattle.engine.specs.declared.engine.Engine.{Engine}
 use Rattle.txn_table.proofs.DistinctBegins.{AreApart}
 use Rattle.engine.specs.Invariant.{Invariant, sizes_of}
-use Rattle.engine.specs.Representation.{Matches, IsRefusedWith, run, checkpointed_if, with_write}
+use Rattle.engine.specs.Representation.{Matches, IsRefusedWith, run, checkpointed_if}
 use Rattle.engine.specs.Image.{Stands}
 use Rattle.engine.specs.Leaves.{LeavesTable, LeavesEither}
 use Rattle.engine.specs.Numbers.{checkpoints_by, CountsOn}
@@ -38,7 +39,6 @@ use Rattle.engine.proofs.RingCounts.{counts, count_failed, count_answered, count
 use Rattle.engine.proofs.Replies.{none_made, made_as_asked, step_behind, touches_behind, touched, way}
 use Rattle.site.proofs.Working.{calls_nothing, calls_then, calls_failed, calls_answered, calls_refused}
 use Rattle.site.specs.Work.{Calls}
-use Rattle.redo_undo.specs.declared.store.TransactionStore.{TransactionStore}
 use Rattle.redo_undo.specs.StoreCalls.{KeepsInvariant, Keeps}
 use Rattle.redo_laws.proofs.Endings.{ends_behind, ends_failed, ends_leaving, ends_no_memory, ends_ok, leaves_late}
 use Rattle.redo_undo.proofs.NextUnits.{next_then, next_failed, next_answered, next_nothing, next_refused}
@@ -61,12 +61,6 @@ calls_behind {r = r} {before = before} {between = between} {now = now} goes same
   faults = second.faults ∙ ap (λ (f : Faults). after_work r f) faults;
 }
 
--- Log and pages, on every site.
-
--- a call that stops is a call of any number of records
-pub works_sooner : {T : Type 0} {stop : Stop} {old new : TransactionStore} {before now : Site} {n : ℕ} (k : ℕ) → KeepsInvariant {T = T} (Err stop) old new before now n → KeepsInvariant {T = T} (Err stop) old new before now k
-works_sooner k first = record { calls = first.calls; going = tt; made = tt; blocks = tt; rises = tt; kept = first.kept; sizes = first.sizes; stops = first.stops; next = first.next }
-
 -- How a call ends on an honest site.
 
 -- a call behind one that left the table
@@ -87,8 +81,8 @@ serves_of works going = record { calls = works.calls; going = going; sizes = wor
 
 -- the sessions stay as they were, and there is room for the records that it makes
 pub serves_still : {T : Type 0} {a : T} {old new : Engine} {before now : Site} {n : ℕ} → Invariant old before → KeepsInvariant {T = T} (Ok a) old.store new.store before now n → new.ended ≡ old.ended → new.cap ≡ old.cap → new.active ≡ old.active →
-    old.store.made + owed old.active + n ≤ old.cap → new.commits ≤ end_of new.store.log → KeepsEngine {T = T} (Ok a) old new before now
-serves_still going works ended cap active few commits =
+    old.store.made + owed old.active + n ≤ old.cap → new.commits ≤ end_of new.store.log → AreLocked new.footprints new.locks → KeepsEngine {T = T} (Ok a) old new before now
+serves_still going works ended cap active few commits locked =
     let owes = ap owed active in
     let made = works.made in
     let blocks = works.blocks in
@@ -104,6 +98,7 @@ serves_still going works ended cap active few commits =
       commits = commits;
       lasts = λ m other at. let before = going.lasts m other (sym (ap (λ (xs : List Active). entry_of xs m) active) ∙ at) in (before.0, omega (arith, before.1, works.rises));
       differ = subst AreApart (sym active) going.differ;
+      footprints = locked;
     })
 
 -- and no record of the log is read
@@ -250,11 +245,21 @@ late_either {g = g} {g' = g'} {old = old} {mid = mid} {s = s} {u = u} {after = a
       (λ done. inr (subst (λ (k : Geometry). Stands k x.image after.table after.commits) same done)) q.stands;
 }
 
--- what a session writes
-pub written : {T : Type 0} {r : Result T Stop} {old new : Engine} {before now : Site} {s : State} {P : Snapshot → Type 0} {m n k : ℕ} {x y : Content} (number : ℕ) → n ≡ k → x ≡ y →
-    CommandEffect r old new before now s (with_write s n (number, x)) P m → CommandEffect r old new before now s (with_write s k (number, y)) P m
-written {r = r} {old = old} {new = new} {before = before} {now = now} {s = s} {P = P} {m = m} {k = k} {x = x} number session is does =
-    subst (λ (v : Content). CommandEffect r old new before now s (with_write s k (number, v)) P m) is (subst (λ (j : ℕ). CommandEffect r old new before now s (with_write s j (number, x)) P m) session does)
+-- what a session writes, and what the test of its page gives
+pub as_written : {r : Result Reply Stop} {old new : Engine} {before now : Site} {s : State} {P : Snapshot → Type 0} {m n k : ℕ} {x y : Content} (number : ℕ) → n ≡ k → x ≡ y →
+    CommandContract r old new before now s (tested s (write_by n number x) (full_for s number x)) (touches_by s (write_by n number x) (full_for s number x)) P m → CommandContract r old new before now s (tested s (write_by k number y) (full_for s number y)) (touches_by s (write_by k number y) (full_for s number y)) P m
+as_written {r = r} {old = old} {new = new} {before = before} {now = now} {s = s} {P = P} {m = m} {k = k} {x = x} number session is contract =
+    subst (λ (v : Content). CommandContract r old new before now s (tested s (write_by k number v) (full_for s number v)) (touches_by s (write_by k number v) (full_for s number v)) P m) is
+    (subst (λ (j : ℕ). CommandContract r old new before now s (tested s (write_by j number x) (full_for s number x)) (touches_by s (write_by j number x) (full_for s number x)) P m) session contract)
+
+-- a command whose page is tested last does that
+pub answered_tested : {r : Result Reply Stop} {old new : Engine} {before now : Site} {s : State} {o known : Outcome} {works other : List CacheOp} {P : Snapshot → Type 0} {m : ℕ} {More : Type 0} → (o ≡ known) × ((works ≡ other) × More) →
+    CommandContract r old new before now s known other P m → CommandContract r old new before now s o works P m
+answered_tested is contract = answered is contract.does contract.reply contract.asks
+
+-- and no call is lawful where it failed
+pub contract_ended : {stop : Stop} {old new : Engine} {before now : Site} {s : State} {o : Outcome} {works : List CacheOp} {P : Snapshot → Type 0} {m : ℕ} → CommandContract (Err stop) old new before now s o works P m → CommandContract (Err stop) old (record new { ended = true }) before now s o works P m
+contract_ended contract = record { reply = tt; asks = contract.asks; does = does_failed (omega arith) contract.does }
 
 -- Memory gives out behind a call that was Ok.
 

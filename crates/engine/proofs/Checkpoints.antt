@@ -21,11 +21,12 @@ use Rattle.txn_table.specs.Entries.{IsTable, entry_of, counted_from}
 use Rattle.txn_table.specs.Entries as entries
 use Rattle.txn_table.proofs.BySession.{entry_of-Contains, entry_of-at}
 use Rattle.redo_laws.specs.Holding.{blocks_to}
+use Rattle.engine.proofs.FootprintChanges.{footprints_stay}
+use Rattle.engine.specs.PageTests.{AreLocked, FootprintsAre}
 use Rattle.engine.specs.declared.engine.Engine.{Engine}
 use Rattle.engine.specs.Invariant.{Invariant, sizes_of}
 use Rattle.redo_undo.specs.Stores.{MayWork, HasCheckpoint}
 use Rattle.engine.specs.Representation.{Matches, LocksAre, SessionIs, SessionsAre, checkpointed_if, updated}
-use Rattle.log_records.specs.Unfinished.{open_updates}
 use Rattle.engine.proofs.Actives.{some_active}
 use Rattle.engine.proofs.Namings.{no_active, pair_of, pairs_of}
 use Rattle.engine.proofs.Keeping.{LetsGo, kept_is}
@@ -97,8 +98,9 @@ AreCounted first old new = (n : ℕ) → entry_of new n ≡ option_map (counted_
 -- the database may go on
 pub goes_on : (old new : Engine) (site site' : Site) (first : ℕ) → Invariant old site → LetsGo old first → MayWork new.store site' → new.ended ≡ false → new.cap ≡ old.cap → sizes_of new.store ≡ sizes_of old.store → IsTable new.active →
     AreCounted first old.active new.active → entries.owed new.active ≡ entries.owed old.active → new.store.made + first ≡ old.store.made → blocks_to new.store.log ≡ blocks_to old.store.log → old.store.log.kept ≤ new.store.log.kept →
-    end_of old.store.log ≤ end_of new.store.log → new.commits ≡ old.commits → Invariant new site'
-goes_on old new site site' first going go works ended cap sizes table counted owed made blocks kept end commits = record {
+    end_of old.store.log ≤ end_of new.store.log → new.commits ≡ old.commits → AreLocked new.footprints new.locks → Invariant new site'
+goes_on old new site site' first going go works ended cap sizes table counted owed made blocks kept end commits locked = record {
+  footprints = locked;
   store = works;
   going = ended;
   cap = cap_is;
@@ -163,8 +165,8 @@ sessions_outlive newest master records active new s first are table named keeps 
 
 pub fits_after : (old new : Engine) (site site' : Site) (s : State) (first : ℕ) (fits : Matches old site s) → IsTable old.active → LetsGo old first → IsTrue site'.honest →
     HasCheckpoint new.store site' fits.records s.table s.commits (pairs_of old.active) → AreCounted first old.active new.active → entries.owed new.active ≡ entries.owed old.active → new.store.made + first ≡ old.store.made → new.commits ≡ old.commits → new.cap ≡ old.cap →
-    new.locks ≡ old.locks → Matches new site' (checkpointed_if true s)
-fits_after old new site site' s first fits table go honest has counted owed made commits cap locks =
+    new.locks ≡ old.locks → new.footprints ≡ old.footprints → Matches new site' (checkpointed_if true s)
+fits_after old new site site' s first fits table go honest has counted owed made commits cap locks prints =
     let kept = kept_is old first fits.newest fits.records s fits.sessions fits.counts.made go in
     let held = subst (λ ls. LocksAre ls s) (sym locks) fits.locks_are in
     record {
@@ -172,7 +174,8 @@ fits_after old new site site' s first fits table go honest has counted owed made
       newest = Some has.master;
       records = from_block has.master.kept fits.records;
       holds = has.holds;
-      counts = record { commits = commits ∙ fits.counts.commits; made = omega (arith, made, fits.counts.made, kept); cap = cap ∙ fits.counts.cap };
+      counts = record { commits = commits ∙ fits.counts.commits; made = omega (arith, made, fits.counts.made, kept); cap = cap ∙ fits.counts.cap; fills = fits.counts.fills };
       sessions = sessions_outlive fits.newest has.master fits.records old.active new.active s first fits.sessions table has.named has.keeps go.of_each kept counted owed;
       locks_are = record { written = held.written; reads = held.reads };
+      footprints_are = footprints_stay new.footprints s (checkpointed_if true s) refl (λ n. refl) (subst (λ l. FootprintsAre l s) (sym prints) fits.footprints_are);
     }

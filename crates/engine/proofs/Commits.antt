@@ -27,6 +27,10 @@ use Rattle.txn_table.proofs.Owing.{entry_is}
 use Rattle.engine.proofs.Locks.{released}
 use Rattle.engine.proofs.Changes.{closed}
 use Rattle.engine.proofs.Actives.{some_active}
+use Rattle.engine.proofs.FootprintChanges.{committed as committed_there}
+use Rattle.footprints.specs.declared.footprint.Footprint.{Footprint}
+use Rattle.footprints.specs.Longest.{IsOnlyOf}
+use Rattle.std.specs.Prelude.{slice_set, length}
 use Rattle.engine.proofs.Meanings.{stands_for, table_is, undoable}
 
 -- a session's transaction may be committed
@@ -58,8 +62,9 @@ pub committed_fits : (engine mid last : Engine) (old new : Site) (s : State) (en
     mid ≡ record engine { store = mid.store; commits = mid.commits } → mid.commits ≡ engine.commits + 1 → mid.store.made ≡ engine.store.made + 1 →
     ReleasesAll mid.locks last.locks entry.session → ChangesOnly mid.active last.active entry.session None → entries.owed last.active + (entry.writes + 1) ≡ entries.owed mid.active →
     last.store ≡ mid.store → last.commits ≡ mid.commits → last.cap ≡ mid.cap →
+    length engine.footprints ≡ 8 → last.footprints ≡ slice_set mid.footprints entry.session [] → ((r : ℕ) → (owner : ℕ) × IsOnlyOf mid.footprints owner r) →
     Matches last new (effect s (command.Commit entry.session))
-committed_fits engine mid last old new s entry lsn fits table at honest holds rest commits made releases changes owed store_is commits_is cap_is =
+committed_fits engine mid last old new s entry lsn fits table at honest holds rest commits made releases changes owed store_is commits_is cap_is eight gone owned =
     let n = entry.session in
     let e : Entry = record { lsn = lsn; rec = Commit entry.begin (engine.commits + 1) } in
     let small = (entry_is engine.active n entry table at).small in
@@ -76,7 +81,12 @@ committed_fits engine mid last old new s entry lsn fits table at honest holds re
         commits = commits_is ∙ commits ∙ ap (λ (k : ℕ). k + 1) fits.counts.commits;
         made = let store_made = ap (λ (j : TransactionStore). j.made) store_is in let before = fits.counts.made in omega (arith, store_made, made, before);
         cap = cap_is ∙ ap (λ (x : Engine). x.cap) rest ∙ fits.counts.cap;
+        fills = fits.counts.fills;
       };
       sessions = record { count = done.count; each = done.each; all = done.all; owes = done.owes; differ = done.differ };
       locks_are = released engine.locks last.locks s (effect s (command.Commit n)) n (omega (arith, small, fits.sessions.count)) refl (subst (λ (l : List Lock). ReleasesAll l last.locks n) (ap (λ (x : Engine). x.locks) rest) releases) fits.locks_are;
+      footprints_are =
+          let same = ap (λ (x : Engine). x.footprints) rest in
+          committed_there engine.footprints last.footprints s (effect s (command.Commit n)) n (omega (arith, small, eight)) (omega (arith, small, fits.sessions.count)) (gone ∙ ap (λ (l : List (List Footprint)). slice_set l n []) same)
+          (subst (λ (l : List (List Footprint)). (r : ℕ) → (owner : ℕ) × IsOnlyOf l owner r) same owned) refl refl fits.footprints_are;
     }

@@ -9,13 +9,16 @@ pub mod Updated
 pub mod RestartedRings
 pub mod Checkpoints
 pub mod Commits
+pub mod Footprints
+pub mod FootprintChanges
 pub mod Keeping
 pub mod Locks
 pub mod Meanings
 pub mod Moments
 pub mod Namings
-pub mod NeverFull
+pub mod OpenRooms
 pub mod Openings
+pub mod PageRooms
 pub mod Queues
 pub mod Recovers
 pub mod Replies
@@ -24,6 +27,7 @@ pub mod Scans
 pub mod Settings
 pub mod Starts
 pub mod Stats
+pub mod Tested
 pub mod Writes
 pub mod Asking
 pub mod RingCounts

@@ -2,7 +2,7 @@
 use Rattle.page_store.proofs.Beside.{fits_beside, goes_on_beside}
 use Rattle.image_meaning.proofs.Reading.{spelled_again, each_has}
 use Rattle.sealed_ring.proofs.Alters.{length-units}
-use Rattle.std.proofs.Common.{Option, ◌≡◌, zero, suc, ◌+◌, ◌-◌, min, List, [], ◌∷◌, length, map, take, None, Some, refl, sym, ap, subst, ◌∙◌, arith, ℕ}
+use Rattle.std.proofs.Common.{Option, ◌≡◌, suc, ◌-◌, min, List, [], ◌∷◌, length, map, None, Some, refl, sym, ap, subst, ◌∙◌, arith, ℕ}
 use Rattle.std.specs.Prelude.{if◌then◌else◌}
 use Rattle.std.proofs.Math.Nat.{min-le_left}
 use Rattle.site.specs.declared.geometry.Geometry.{Geometry}
@@ -31,6 +31,7 @@ use Rattle.redo_laws.specs.Holding as both
 use Rattle.engine.specs.Image.{IsSound, Stands}
 use Rattle.engine.specs.Leaves.{LeavesTable}
 use Rattle.engine.specs.Restarting.{IsReady}
+use Rattle.redo_undo.specs.Redoing.{Opening, IsReadable}
 use Rattle.redo_laws.proofs.CallsInSequence.{only_read}
 use Rattle.redo_undo.proofs.Saved.{log_still}
 use Rattle.redo_laws.proofs.Forced.{none_now}
@@ -96,6 +97,24 @@ module _ (g : Geometry) (log : LogStore) (pages : PageStore) (a b c d : State) (
         honest = stays_honest c d third (stays_honest b c second finds.honest);
         form = subst (λ (i : Image). IsRing (log_shape log.geometry) i.log) (sym same) finds.form;
         hi = subst (λ (i : Image). log.ring.hi ≡ hi_of (log_shape log.geometry) i.log) (sym same) finds.hi;
+      }
+
+  pub readable_now : (m : Master) (o : Opening) → log.kept ≡ m.kept → m ≡ saved_by o.newest → page_store.Matches pages c → log_store.Finds log b → log_store.HasBlocks log.geometry (kept_by o.newest) o.blocks b.image → log_store.HasTail log.tail log.used [] →
+      IsReadable o log pages d
+  readable_now m o keeps is fits finds held tail =
+      let back : d.image ≡ b.image = same_third.image ∙ same_second.image in
+      let kept : log.kept ≡ kept_by o.newest = keeps ∙ ap (λ (x : Master). x.kept) is ∙ kept_is o.newest in
+      record {
+        kept = kept;
+        ready = record {
+          pages = fits_beside pages c d (only_read c d same_third) third fits;
+          blocks = log_found finds;
+          records = record {
+            kept = omega (arith, kept);
+            blocks = subst (λ (i : Image). log_store.HasBlocks log.geometry (kept_by o.newest) o.blocks i) (sym back) held;
+            tail = tail;
+          };
+        };
       }
 
   pub ready_now : (masters : Ring) (m : Master) (newest : Option Master) (blocks : List (List LogRecord)) (table : List Content) (commits : ℕ) → pages.flash.geometry ≡ g → pages.pool.frames ≡ [] → log.kept ≡ m.kept → m ≡ saved_by newest → page_store.Matches pages c → Finds masters d → log_store.Finds log b →

@@ -24,9 +24,10 @@ use Rattle.ring_machine.specs.Commands.{saves, command_work, page_work, record_w
 use Rattle.txn_table.specs.declared.active.Active.{Active}
 use Rattle.txn_table.specs.Entries.{IsTable, entry_of}
 use Rattle.txn_table.specs.Entries as entries
+use Rattle.engine.specs.PageTests.{touches_by, work_by}
 use Rattle.engine.specs.declared.engine.Engine.{Engine}
 use Rattle.engine.specs.Invariant.{sizes_of}
-use Rattle.engine.specs.Representation.{Matches, SessionIs, IsFull, IsRefusedWith, IsCarriedOut, run, checkpointed_if}
+use Rattle.engine.specs.Representation.{Matches, SessionIs, IsFull, IsRefusedWith, IsCarriedOut, IsTested, run, checkpointed_if}
 use Rattle.engine.proofs.Actives.{some_active, none_active}
 use Rattle.lock_table.specs.Locks as locks
 use Rattle.engine.proofs.Meanings.{same_size, busy_write_is, busy_read_is}
@@ -45,6 +46,15 @@ touched s command lacks filled =
 abbrev pub worked : State → Command → Bool → Option Reply → List RingOp
 worked s command lacks filled =
     if not lacks && is_none filled then record_work s command else (if not lacks && is_some filled then map cached (tested_touches command) else [])
+
+-- which is what the test of its page says
+pub touched_as : (s : State) (command : Command) (filled : Option Reply) → touched s command false filled ≡ touches_by s command filled
+touched_as s command None = refl
+touched_as s command (Some reply) = refl
+
+pub worked_as : (s : State) (command : Command) (filled : Option Reply) → worked s command false filled ≡ work_by s command filled
+worked_as s command None = refl
+worked_as s command (Some reply) = refl
 
 -- and what it asks with its checkpoint, by its refusal
 abbrev passes_both : State → Command → Option Reply → Bool
@@ -110,6 +120,16 @@ pub carried_out : (s : State) (command : Command) → asks_for_checkpoint s comm
 carried_out s command plain none has fits = (
   step_behind s command (sym plain) none ∙ (λ i. way s command (has i) (fits i)),
   (touches_behind s command (sym plain) none ∙ (λ i. touched s command (has i) (fits i)), work_behind s command (sym plain) none ∙ (λ i. worked s command (has i) (fits i))),
+)
+
+-- the test of its page decides
+pub tested_last : (s : State) (command : Command) → asks_for_checkpoint s command ≡ false → refusal s command ≡ None → lacks_room s command ≡ false → IsTested s command
+tested_last s command plain none has = (
+  step_behind s command (sym plain) none ∙ ap (λ (b : Bool). way s command b (fills_page s command)) has,
+  (
+    touches_behind s command (sym plain) none ∙ ap (λ (b : Bool). touched s command b (fills_page s command)) has ∙ touched_as s command (fills_page s command),
+    work_behind s command (sym plain) none ∙ ap (λ (b : Bool). worked s command b (fills_page s command)) has ∙ worked_as s command (fills_page s command),
+  ),
 )
 
 pub due_is : (engine : Engine) (site : Site) (s : State) → Matches engine site s → nat_le (engine.cap / 2) engine.store.made ≡ is_due s

@@ -64,7 +64,7 @@ module _ (engine : Engine) (site : Site) (s : State) (fits : Matches engine site
   undo : IsUndoable fits.records
   undo = undoable engine.store site fits.newest fits.records s.table s.commits fits.holds
 
-  seen_by : (n : ℕ) → has_written s n number ≡ true → shown fits.records versions number ≡ seen s n number
+  pub seen_by : (n : ℕ) → has_written s n number ≡ true → shown fits.records versions number ≡ seen s n number
   seen_by n wrote =
       let entry = entry_with fits.newest s.kept fits.records number (entry_of engine.active n) (session_at s n) (fits.sessions.each n) wrote in
       let own = entry.0 in

@@ -1,5 +1,4 @@
 -- A set: a transaction of one write, outside sessions.
-use Rattle.image_meaning.proofs.ShortValues.{HaveShort, update_room}
 use Rattle.image_meaning.proofs.Versions.{length-versions}
 use Rattle.checkpoint.specs.declared.master.Master.{Master}
 use Rattle.std.proofs.Common.{Option, ◌≡◌, ◌+◌, ◌*◌, ◌/◌, ◌%◌, ◌<◌, ◌≤◌, ◌==◌, Bool, true, false, ◌||◌, cond, List, [], ◌∷◌, ◌++◌, length, find, None, Some, refl, sym, ap, subst, ◌∙◌, arith, IsTrue, ℕ, ⊎_elim, true≢false}
@@ -12,7 +11,6 @@ use Rattle.site.specs.State.{State as Site}
 use Rattle.record_model.specs.State.{Content, State, Write, session_at, table_with}
 use Rattle.record_model.specs.State as model
 use Rattle.record_model.specs.Step.{making, committed}
-use Rattle.log_records.specs.Spelling.{IsShort}
 use Rattle.log_records.specs.Log.{Entry, is_of, is_closed, is_loser, shown}
 use Rattle.log_records.specs.Unfinished.{owed}
 use Rattle.log_records.specs.declared.log_record.LogRecord.TheVariants.{Begin, Commit}
@@ -42,6 +40,10 @@ use Rattle.engine.specs.Representation.{Matches, SessionsAre, LocksAre}
 use Rattle.engine.proofs.Meanings.{busy_write_is, begins_late, free, fresh_behind, none_of, stands_for, table_is, undoable}
 use Rattle.log_laws.proofs.Follow.{undoable_behind}
 use Rattle.engine.proofs.Actives.{some_active, not_fresh}
+use Rattle.engine.proofs.FootprintChanges.{none_there, one_set}
+use Rattle.engine.specs.PageTests.{AreLocked, FootprintsAre}
+use Rattle.footprints.specs.declared.footprint.Footprint.{Footprint}
+use Rattle.log_records.specs.Room.{HasOpenRoom}
 use Rattle.engine.proofs.Aborts.{others_go_on}
 use Rattle.redo_undo.proofs.StoreRollbacks.{concerns_more}
 
@@ -100,7 +102,7 @@ module _ (engine : Engine) (old : Site) (s : State) (number : ℕ) (fits : Match
   begun : IsActive (master_of fits.newest) (fits.records ++ begin_at txn ∷ []) txn txn []
   begun = active_begun (master_of fits.newest) fits.records txn fresh (begins_late engine.store old fits.newest fits.records s.table s.commits txn fits.holds behind)
 
-  begun_undoable : IsUndoable (fits.records ++ begin_at txn ∷ [])
+  pub begun_undoable : IsUndoable (fits.records ++ begin_at txn ∷ [])
   begun_undoable =
       let m = master_of fits.newest in
       let versions = versions_on (sizes_of engine.store) old.image in
@@ -110,9 +112,9 @@ module _ (engine : Engine) (old : Site) (s : State) (number : ℕ) (fits : Match
   place = div-add-mod number 32
 
   -- behind its Begin its Update may be logged
-  pub may_update : (store : TransactionStore) (site : Site) (lsn : ℕ) (after : Content) → HaveShort (fits.records ++ begin_at txn ∷ []) (versions_on (sizes_of store) site.image) → IsShort after → sizes_of store ≡ sizes_of engine.store → store.log.kept ≡ engine.store.log.kept → blocks_to store.log ≤ blocks_to engine.store.log + 1 →
+  pub may_update : (store : TransactionStore) (site : Site) (lsn : ℕ) (after : Content) → HasOpenRoom ((fits.records ++ begin_at txn ∷ []) ++ update_at txn lsn number (shown_in store site (fits.records ++ begin_at txn ∷ []) number) after ∷ []) (versions_on (sizes_of store) site.image) (number / 32) → sizes_of store ≡ sizes_of engine.store → store.log.kept ≡ engine.store.log.kept → blocks_to store.log ≤ blocks_to engine.store.log + 1 →
       MayGrow store site fits.newest (fits.records ++ begin_at txn ∷ []) (update_at txn lsn number (shown_in store site (fits.records ++ begin_at txn ∷ []) number) after)
-  may_update store site lsn after short fitting same kept more =
+  may_update store site lsn after open_room same kept more =
       let log = fits.records ++ begin_at txn ∷ [] in
       let versions = versions_on (sizes_of store) site.image in
       let before : Content = shown log versions number in
@@ -123,8 +125,7 @@ module _ (engine : Engine) (old : Site) (s : State) (number : ℕ) (fits : Match
       let owes = owed_update log (update_at txn lsn number before after) refl begun.lives.not_closed begun.chain in
       record {
         follows = active_may_write (master_of fits.newest) versions log lsn txn txn (number / 32) (number % 32) [] before after begun_undoable begun within (subst (IsFreeFor log txn) (sym is) free_here) (ap (shown log versions) (sym is))
-            -- as long as values are short
-            (update_room log versions lsn txn txn number after short fitting (omega (arith, within, is)));
+            (subst (HasOpenRoom (log ++ update_at txn lsn number before after ∷ []) versions) (omega (arith, is)) open_room);
         no_commit = refl;
         room = omega (arith, owes, owed_begin fits.records txn fresh, fits.sessions.owes, room, blocks, cap, more, ap (λ (g : Geometry). g.blocks) same, kept);
       }
@@ -176,9 +177,9 @@ sets_one {store = store} {site = site} {newest = newest} {table = table} {commit
 pub set_fits : (engine one last : Engine) (old between new : Site) (s : State) (number txn lsn : ℕ) (after : Content) (fits : Matches engine old s) (w : HasOneWrite one.store between fits.newest fits.records s.table s.commits txn number after) → IsTrue new.honest →
     Represents last.store new fits.newest (w.log ++ record { lsn = lsn; rec = Commit txn (one.commits + 1) } ∷ []) (table_with s.table (writes_in txn w.log)) (s.commits + 1) →
     one ≡ record engine { store = one.store } → last ≡ record one { store = last.store; commits = last.commits } → last.commits ≡ one.commits + 1 →
-    one.store.made ≡ engine.store.made + 2 → last.store.made ≡ one.store.made + 1 →
+    one.store.made ≡ engine.store.made + 2 → last.store.made ≡ one.store.made + 1 → AreLocked engine.footprints engine.locks → locks.busy_write engine.locks None number ≡ None →
     Matches last new (making 3 (committed s ((number, after) ∷ [])))
-set_fits engine one last old between new s number txn lsn after fits w honest holds rest_one rest_last commits made_one made_last =
+set_fits engine one last old between new s number txn lsn after fits w honest holds rest_one rest_last commits made_one made_last locked unlocked =
     let e : Entry = record { lsn = lsn; rec = Commit txn (one.commits + 1) } in
     let log = w.log ++ e ∷ [] in
     let owes_two = active_owes (master_of fits.newest) w.log txn w.last ((number, after) ∷ []) w.active in
@@ -196,7 +197,11 @@ set_fits engine one last old between new s number txn lsn after fits w honest ho
         commits = commits ∙ ap (λ (n : ℕ). n + 1) (ap (λ (x : Engine). x.commits) rest_one ∙ fits.counts.commits);
         made = omega (arith, made_last, made_one, fits.counts.made);
         cap = ap (λ (x : Engine). x.cap) engine_is ∙ fits.counts.cap;
+        fills = fits.counts.fills;
       };
       sessions = record { count = kept.count; each = kept.each; all = kept.all; owes = kept.owes; differ = kept.differ };
       locks_are = record { written = held.written; reads = held.reads };
+      footprints_are =
+          subst (λ (l : List (List Footprint)). FootprintsAre l (making 3 (committed s ((number, after) ∷ [])))) (sym (ap (λ (x : Engine). x.footprints) engine_is))
+          (one_set engine.footprints s (making 3 (committed s ((number, after) ∷ []))) number after (none_there engine.footprints engine.locks number locked unlocked) refl refl fits.footprints_are);
     }

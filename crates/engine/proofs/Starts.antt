@@ -7,12 +7,15 @@ use Rattle.std.specs.List.{list_any}
 use Rattle.std.proofs.lemmas.Option.{none-some}
 use Rattle.site.specs.declared.geometry.Geometry.{Geometry}
 use Rattle.site.specs.State.{State as Site, Image}
-use Rattle.record_model.specs.State.{Session, State, wrote_of, reads_of}
+use Rattle.record_model.specs.State.{Session, State, writes_of, wrote_of, reads_of}
 use Rattle.log_records.specs.Log.{Entry, is_loser}
 use Rattle.log_records.specs.Unfinished.{owed}
 use Rattle.lock_table.specs.declared.lock.Lock.{Lock}
 use Rattle.txn_table.specs.declared.active.Active.{Active}
 use Rattle.redo_undo.specs.declared.store.TransactionStore.{TransactionStore}
+use Rattle.engine.specs.PageTests.{AreLocked, FootprintsAre, footprints_of}
+use Rattle.footprints.specs.Longest.{lengths_on, of_session}
+use Rattle.footprints.specs.declared.footprint.Footprint.{Footprint}
 use Rattle.engine.specs.declared.engine.Engine.{Engine}
 use Rattle.engine.specs.declared.restart.Restarted.{Restarted}
 use Rattle.engine.specs.Image.{Opens}
@@ -48,10 +51,22 @@ unlocked s is = record {
   reads = λ n r. sym (ap (λ (o : Option Session). list_any (λ read. read == r) (reads_of o)) (nobody n s.sessions is));
 }
 
+no_prints : (len n : ℕ) → slice_index_or {A = List Footprint} (replicate len []) n [] ≡ []
+no_prints zero n = refl
+no_prints (suc len) zero = refl
+no_prints (suc len) (suc n) = no_prints len n
+
+untold : (s : State) → s.sessions ≡ replicate 8 None → FootprintsAre (replicate 8 []) s
+untold s is n = no_prints 8 n ∙ sym (ap (λ (o : Option Session). footprints_of s.table [] (writes_of o)) (nobody n s.sessions is))
+
+-- on every site: without footprints nothing need be locked
+pub unheld : (standing : List (List Footprint)) (held : List Lock) → standing ≡ replicate 8 [] → AreLocked standing held
+unheld standing held is = record { eight = ap length is; locked = λ n r none. ap (λ l. lengths_on r (of_session l n)) is ∙ ap (lengths_on r) (no_prints 8 n) }
+
 -- the database stands for the state that the run opens with
 pub started : (g : Geometry) (image : Image) (site : Site) (s : State) (restarted : Restarted) (engine : Engine) → IsTrue site.honest → (opening : Opens g image s) → RestartedAs restarted site s.table s.commits → restarted.blocks ≡ g.blocks →
-    engine.store ≡ restarted.store → engine.commits ≡ restarted.commits → engine.cap ≡ restarted.blocks - 1 → engine.active ≡ [] → engine.locks ≡ [] → Matches engine site s
-started g image site s restarted engine honest opening done blocks store_is commits_is cap_is active_is locks_is =
+    engine.store ≡ restarted.store → engine.commits ≡ restarted.commits → engine.cap ≡ restarted.blocks - 1 → engine.active ≡ [] → engine.locks ≡ [] → engine.footprints ≡ replicate 8 [] → Matches engine site s
+started g image site s restarted engine honest opening done blocks store_is commits_is cap_is active_is locks_is prints_is =
     let sessions_are : s.sessions ≡ replicate 8 None = ap (λ (x : State). x.sessions) opening.state in
     let sessions = subst (λ (a : List Active). SessionsAre done.newest done.records a s) (sym active_is) (idle done.newest done.records s done.finished (owed_none done.records done.finished) sessions_are) in
     record {
@@ -66,7 +81,9 @@ started g image site s restarted engine honest opening done blocks store_is comm
             let none : s.kept ≡ 0 = ap (λ (x : State). x.kept) opening.state in
             omega (arith, ap (λ (j : TransactionStore). j.made) store_is, done.made, made, none);
         cap = cap_is ∙ ap (λ (n : ℕ). n - 1) blocks ∙ sym (ap (λ (x : State). x.cap) opening.state);
+        fills = ap (λ (x : State). x.pages_fill) opening.state;
       };
       sessions = sessions;
       locks_are = subst (λ (l : List Lock). LocksAre l s) (sym locks_is) (unlocked s sessions_are);
+      footprints_are = subst (λ (l : List (List Footprint)). FootprintsAre l s) (sym prints_is) (untold s sessions_are);
     }

@@ -39,7 +39,7 @@ stood_more table earlier (x ∷ xs) write =
     (stood_more table (earlier ++ x ∷ []) xs write ∙ ap (λ (l : List Write). stood_before table (earlier ++ x ∷ []) xs ++ (write.0, stands_at table l write.0) ∷ []) (append_assoc earlier (x ∷ []) xs))
 
 -- Of Updates, the last one first, each begins with what those before it leave in the table.
-abbrev StoodThere : List Content → List Entry → Type 0
+abbrev pub StoodThere : List Content → List Entry → Type 0
 StoodThere table [] = ⊤
 StoodThere table (u ∷ earlier) = ((number : ℕ) → number_of u.rec ≡ Some number → before_of u.rec ≡ stands_at table (standing.writes_of earlier) number) × StoodThere table earlier
 
@@ -91,8 +91,8 @@ module _ (engine : Engine) (site : Site) (s : State) (entry : Active) (fits : Ma
   found : Finds fits.newest s.kept fits.records entry (session_at s entry.session)
   found = some_active fits.newest fits.records engine.active s fits.sessions entry.session entry at
 
-  there : StoodThere s.table left
-  there =
+  pub stood : StoodThere s.table left
+  stood =
       let log = fits.holds.both.log_holds in
       let active = found.under_way.is_active in
       stood_there fits.records versions s.table (table_is engine.store site fits.newest fits.records s.table s.commits fits.holds) left
@@ -103,11 +103,11 @@ module _ (engine : Engine) (site : Site) (s : State) (entry : Active) (fits : Ma
   pub abort_is : undoes s.table (writes_of (session_at s entry.session)) ≡ undo_one_work fits.records entry.begin
   abort_is =
       ap (λ o. undoes s.table (writes_of o)) found.is ∙ ap (undoes s.table) found.under_way.is_active.writes_are
-      ∙ ap (λ (w : List RingOp). w ++ ends) (sym (taken_back s.table left [] (subst (StoodThere s.table) (sym (append-nil left)) there)))
+      ∙ ap (λ (w : List RingOp). w ++ ends) (sym (taken_back s.table left [] (subst (StoodThere s.table) (sym (append-nil left)) stood)))
 
   -- of so many Updates the last ones are undone, and the others stay
   pub back_is : (writes : List Write) → writes_of (session_at s entry.session) ≡ writes → (count stays : ℕ) → count + stays ≡ length writes → goes_back s.table (take stays writes) (drop stays writes) ≡ clrs_for (take count left)
-  back_is writes is count stays all = (λ i. goes_back s.table (first i) (last i)) ∙ sym (taken_back s.table (take count left) (drop count left) (subst (StoodThere s.table) (sym (take-append-drop count left)) there))
+  back_is writes is count stays all = (λ i. goes_back s.table (first i) (last i)) ∙ sym (taken_back s.table (take count left) (drop count left) (subst (StoodThere s.table) (sym (take-append-drop count left)) stood))
     where
       same : writes ≡ standing.writes_of left
       same = sym is ∙ ap writes_of found.is ∙ found.under_way.is_active.writes_are

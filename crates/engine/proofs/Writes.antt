@@ -1,9 +1,7 @@
 -- A session's read, and its write.
 use Rattle.engine.proofs.Scans.{none_more_written}
 use Rattle.std.proofs.Math.Bool.{or-false, and-true}
-use Rattle.image_meaning.proofs.ShortValues.{update_room}
 use Rattle.image_meaning.proofs.Versions.{length-versions}
-use Rattle.redo_laws.proofs.ShortRecords.{records_are_short}
 use Rattle.checkpoint.specs.declared.master.Master.{Master}
 use Rattle.std.proofs.Common.{◌≡◌, ℕ, ◌+◌, ◌*◌, ◌/◌, ◌%◌, ◌<◌, ◌≤◌, ◌&&◌, ◌||◌, ◌==◌, Bool, true, false, not, cond, ◌++◌, ◌∷◌, [], List, length, find, Option, None, Some, ⊎_elim, refl, sym, ap, subst, ◌∙◌, arith, IsTrue, get_or-set_same, get_or-set_other, length-set}
 use Rattle.std.specs.Prelude.{slice_set, slice_index_or, option_map, unwrap_or}
@@ -11,11 +9,10 @@ use Rattle.std.specs.List.{list_any, range_with_len}
 use Rattle.std.proofs.lemmas.Bool.{cases_eq, eq-eqb, ne_eqb}
 use Rattle.std.proofs.lemmas.Option.{none-some}
 use Rattle.site.specs.State.{State as Site}
-use Rattle.record_model.specs.State.{Content, Session, State, Write, session_at, writes_of, wrote_of, reads_of, content_at, last_write, seen}
+use Rattle.record_model.specs.State.{Content, Session, State, Write, session_at, writes_of, wrote_of, reads_of, content_at, last_write, length_of, seen}
 use Rattle.record_model.specs.State as model
 use Rattle.record_model.specs.Step.{having_written, having_read}
-use Rattle.log_records.specs.Spelling.{IsShort}
-use Rattle.log_records.specs.Log.{Entry, is_on, shown}
+use Rattle.log_records.specs.Log.{Entry, shown}
 use Rattle.log_laws.specs.Follow.{IsFreeFor}
 use Rattle.log_laws.proofs.Losers.{active_may_write}
 use Rattle.log_laws.proofs.Owing.{owed_update}
@@ -31,9 +28,16 @@ use Rattle.image_meaning.specs.Meaning.{master_of, versions_on}
 use Rattle.redo_laws.specs.Holding.{blocks_to}
 use Rattle.redo_undo.specs.declared.store.TransactionStore.{TransactionStore}
 use Rattle.engine.specs.Invariant.{sizes_of}
-use Rattle.redo_undo.specs.Stores.{Represents, MayGrow, shown_in, update_by}
+use Rattle.redo_undo.specs.Stores.{IsInFront, Represents, MayGrow, shown_in, update_by}
 use Rattle.engine.specs.Representation.{Matches, LocksAre, SessionIs, SessionsAre, with_write, with_read}
 use Rattle.engine.proofs.Actives.{some_active}
+use Rattle.engine.proofs.FootprintChanges.{footprints_stay, wrote}
+use Rattle.engine.proofs.PageRooms.{room_written}
+use Rattle.engine.specs.PageTests.{footprint_of, full_for}
+use Rattle.footprints.specs.declared.footprint.Footprint.{Footprint}
+use Rattle.footprints.specs.Longest.{of_session}
+use Rattle.page_store.specs.Representation.{IsStore}
+use Rattle.log_records.specs.Room.{HasOpenRoom}
 use Rattle.engine.proofs.Changes.{wrote_more}
 use Rattle.engine.proofs.Locks.{at_set}
 use Rattle.engine.proofs.Meanings.{busy_write_is, free_for, undoable}
@@ -134,10 +138,10 @@ may_read_too s n number = find_less (λ m. not (n == m) && model.has_written s m
 
 -- A write.
 
-pub may_write : (engine : Engine) (site : Site) (s : State) (fits : Matches engine site s) (entry : Active) (number lsn : ℕ) (after : Content) → IsShort after → IsTable engine.active → entry_of engine.active entry.session ≡ Some entry → number < 32 * (sizes_of engine.store).pages →
+pub may_write : (engine : Engine) (site : Site) (s : State) (fits : Matches engine site s) (entry : Active) (number lsn : ℕ) (after : Content) → full_for s number after ≡ None → length engine.footprints ≡ 8 → IsStore engine.store.pages → IsInFront engine.store number → IsTable engine.active → entry_of engine.active entry.session ≡ Some entry → number < 32 * (sizes_of engine.store).pages →
     locks.busy_write engine.locks (Some entry.session) number ≡ None → engine.store.made + entries.owed engine.active + 2 ≤ engine.cap → blocks_to engine.store.log ≤ engine.store.log.kept + engine.store.made → engine.cap + 1 ≡ (sizes_of engine.store).blocks →
     MayGrow engine.store site fits.newest fits.records (record { lsn = lsn; rec = update_by entry.begin entry.last number (shown_in engine.store site fits.records number) after })
-may_write engine site s fits entry number lsn after fitting table at less free room blocks cap =
+may_write engine site s fits entry number lsn after has eight own front table at less free room blocks cap =
     let n = entry.session in
     let versions = versions_on (sizes_of engine.store) site.image in
     let before : Content = shown_in engine.store site fits.records number in
@@ -151,8 +155,7 @@ may_write engine site s fits entry number lsn after fitting table at less free r
     record {
       follows = active_may_write (master_of fits.newest) versions fits.records lsn entry.begin entry.last (number / 32) (number % 32) found.session.writes before after (undoable engine.store site fits.newest fits.records s.table s.commits fits.holds) active
           (omega (arith, place, less, size)) (subst (IsFreeFor fits.records entry.begin) (sym place) only) (ap (shown fits.records versions) (sym place))
-          -- as long as values are short
-          (update_room fits.records versions lsn entry.begin entry.last number after (records_are_short engine.store.log engine.store.pages site fits.newest fits.records s.table s.commits fits.holds.both) fitting (omega (arith, less, size)));
+          (subst (HasOpenRoom (fits.records ++ e ∷ []) versions) (omega (arith, place)) (room_written engine site s fits table eight number less own front after has lsn entry.begin entry.last));
       no_commit = refl;
       room = omega (arith, owed_update fits.records e refl active.lives.not_closed active.chain, fits.sessions.owes, room, blocks, cap);
     }
@@ -161,8 +164,9 @@ pub write_fits : (engine last : Engine) (old new : Site) (s : State) (entry : Ac
     Represents last.store new fits.newest (fits.records ++ record { lsn = lsn; rec = update_by entry.begin entry.last number before after } ∷ []) s.table s.commits →
     last.store.made ≡ engine.store.made + 1 → last.commits ≡ engine.commits → last.cap ≡ engine.cap →
     AddsLock engine.locks last.locks entry.session number true → ChangesOnly engine.active last.active entry.session (Some (after_write entry lsn)) → entries.owed last.active ≡ entries.owed engine.active + 1 →
+    length engine.footprints ≡ 8 → (f : Footprint) → f ≡ record { number = number; stood = length_of before; written = length_of after } → last.footprints ≡ slice_set engine.footprints entry.session (of_session engine.footprints entry.session ++ f ∷ []) →
     Matches last new (with_write s entry.session (number, after))
-write_fits engine last old new s entry number lsn before after fits table at honest there holds made commits cap adds changes owes =
+write_fits engine last old new s entry number lsn before after fits table at honest there holds made commits cap adds changes owes eight f tells set =
     let n = entry.session in
     let e : Entry = record { lsn = lsn; rec = update_by entry.begin entry.last number before after } in
     let found = some_active fits.newest fits.records engine.active s fits.sessions n entry at in
@@ -176,9 +180,12 @@ write_fits engine last old new s entry number lsn before after fits table at hon
       newest = fits.newest;
       records = fits.records ++ e ∷ [];
       holds = holds;
-      counts = record { commits = commits ∙ fits.counts.commits; made = let before = fits.counts.made in omega (arith, made, before); cap = cap ∙ fits.counts.cap };
+      counts = record { commits = commits ∙ fits.counts.commits; made = let before = fits.counts.made in omega (arith, made, before); cap = cap ∙ fits.counts.cap; fills = fits.counts.fills };
       sessions = more;
       locks_are = added_write engine.locks last.locks s n number after found.session (omega (arith, small, fits.sessions.count)) found.is adds fits.locks_are;
+      footprints_are =
+          let same : f ≡ footprint_of s.table found.session.writes (number, after) = tells ∙ (λ i. record { number = number; stood = length_of ((there ∙ ap (λ (o : Option Session). unwrap_or (last_write (writes_of o) number) (content_at s.table number)) found.is) i); written = length_of after }) in
+          wrote engine.footprints last.footprints s (with_write s n (number, after)) n number after found.session f (omega (arith, small, eight)) (omega (arith, small, fits.sessions.count)) found.is same set refl refl fits.footprints_are;
     }
 
 -- A read.
@@ -210,9 +217,10 @@ touched_fits engine store old new s fits honest holds made = record {
   newest = fits.newest;
   records = fits.records;
   holds = holds;
-  counts = record { commits = fits.counts.commits; made = ap (λ (k : ℕ). k + s.kept) made ∙ fits.counts.made; cap = fits.counts.cap };
+  counts = record { commits = fits.counts.commits; made = ap (λ (k : ℕ). k + s.kept) made ∙ fits.counts.made; cap = fits.counts.cap; fills = fits.counts.fills };
   sessions = fits.sessions;
   locks_are = fits.locks_are;
+  footprints_are = fits.footprints_are;
 }
 
 pub read_fits : (engine : Engine) (held : _) (site : Site) (s : State) (n number : ℕ) (entry : Active) (fits : Matches engine site s) → IsTable engine.active → entry_of engine.active n ≡ Some entry → AddsLock engine.locks held n number false →
@@ -225,7 +233,8 @@ read_fits engine held site s n number entry fits table at adds =
       newest = fits.newest;
       records = fits.records;
       holds = fits.holds;
-      counts = record { commits = fits.counts.commits; made = fits.counts.made; cap = fits.counts.cap };
+      counts = record { commits = fits.counts.commits; made = fits.counts.made; cap = fits.counts.cap; fills = fits.counts.fills };
       sessions = read_more fits.newest fits.records engine.active s n number entry fits.sessions small at;
       locks_are = added_read engine.locks held s n number found.session (omega (arith, small, fits.sessions.count)) found.is adds fits.locks_are;
+      footprints_are = footprints_stay engine.footprints s (with_read s n number) refl (at_set writes_of s.sessions n (option_map (having_read (number ∷ [])) (session_at s n)) (Some found.session) (omega (arith, small, fits.sessions.count)) found.is (ap (λ (o : Option Session). writes_of (option_map (having_read (number ∷ [])) o)) found.is)) fits.footprints_are;
     }

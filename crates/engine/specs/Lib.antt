@@ -14,3 +14,4 @@ pub mod Representation
 pub mod Restarting
 pub mod Scans
 pub mod SeenVersions
+pub mod Judged

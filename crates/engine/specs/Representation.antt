@@ -1,7 +1,7 @@
 -- The database of an honest site, and the model's state.
 use Rattle.std.specs.Prelude.{◌≡◌, ℕ, ◌+◌, ◌<◌, List, [], ◌∷◌, length, filter_map, Option, Some, None, option_map}
 use Rattle.std.specs.Prelude.{IsTrue, ⊤}
-use Rattle.std.specs.Prelude.{Bool, if◌then◌else◌}
+use Rattle.std.specs.Prelude.{Bool, true, if◌then◌else◌}
 use Rattle.site.specs.State.{State as Site}
 use Rattle.record_model.specs.State.{Session, State, Write, session_at, kept_by_checkpoint}
 use Rattle.record_model.specs.State as model
@@ -64,11 +64,12 @@ pub record LocksAre (held : List Lock) (s : State) : Type 0 where
   pub written : (n r : ℕ) → locks.has_written held n r ≡ model.has_written s n r
   pub reads : (n r : ℕ) → locks.has_read held n r ≡ model.has_read s n r
 
--- the counts; those of records begin with the oldest kept one
+-- the counts; those of records begin with the oldest kept one, and pages can be full
 pub record CountsAre (engine : Engine) (s : State) : Type 0 where
   pub commits : engine.commits ≡ s.commits
   pub made : engine.store.made + s.kept ≡ s.made
   pub cap : engine.cap ≡ s.cap
+  pub fills : s.pages_fill ≡ true
 
 -- Of an honest site: the database stands for this state.
 pub record Matches (engine : Engine) (site : Site) (s : State) : Type 0 where

@@ -14,6 +14,7 @@ ghost use Rattle.log_records.specs.declared.log_record.LogRecord.{LogRecord};
 ghost use Rattle.lock_table.specs.Locks.{busy_read, busy_write};
 ghost use Rattle.txn_table.specs.Entries.{owed};
 ghost use Rattle.page_store.specs.Stopping.{MayStop};
+ghost use Rattle.engine.specs.Judged.{JudgesRecords};
 ghost use Rattle.engine.specs.Restarting.{LeavesNext};
 ghost use Rattle.engine.specs.Invariant.{Invariant, sizes_of};
 ghost use Rattle.engine.specs.Image.{log_under, IsSound, Stands, Opens};
@@ -110,6 +111,9 @@ impl Engine {
             → PerformsFrom result (λ engine. engine.store) (rules_of pool g.groups)
             (restart_work (logical_image_under newest g (S.state site.old).image blocks))
             (machine_on g (S.state site.old).image) (S.state site.new) }
+
+        // Of every honest site: records that break a rule of those that are judged are refused.
+        ensures judged { IsTrue (S.state site.old).honest → JudgesRecords result (S.state site.old).image }
 
         // Of every honest site of these sizes.
         ensures next { IsTrue (S.state site.old).honest

@@ -13,8 +13,12 @@ ghost use Rattle.log_records.specs.Sound.{Means};
 ghost use Rattle.log_store.specs.Representation as log_store;
 ghost use Rattle.checkpoint.specs.declared.master.Master.{Master};
 ghost use Rattle.page_store.specs.Stopping.{MayStop};
-ghost use Rattle.image_meaning.specs.Meaning.{logical_image_under};
+ghost use Rattle.image_meaning.specs.Meaning.{logical_image_under, saved_by};
 ghost use Rattle.engine.specs.Invariant.{sizes_of};
+ghost use Rattle.log_judge.specs.Rules.{IsJudged};
+ghost use Rattle.redo_undo.specs.Redoing as redoing;
+ghost use Rattle.redo_undo.specs.Redoing.{Opening, IsReadable};
+ghost use Rattle.engine.specs.Judged.{IsLegible, JudgesRecords, read_of};
 ghost use Rattle.engine.specs.Image.{log_under, IsSound, Stands};
 ghost use Rattle.engine.specs.Leaves.{HasNoSizes, IsRefused, LeavesTable};
 ghost use Rattle.engine.specs.Restarting.{MayRecover, IsReady, RestartedAs, Restarts, Recovers};
@@ -118,6 +122,12 @@ fn open<S: Site>(
         → IsUnchanged (S.state site.old) (S.state site.new) }
     ensures next { IsTrue (S.state site.old).honest
         → IfOk result (λ opened. AreNext (found_store opened) (S.state site.new)) }
+    ensures legible { IsTrue (S.state site.old).honest
+        → (newest : Option Master) (blocks : List (List LogRecord))
+        → IsLegible newest geometry.now (S.state site.old).image blocks
+        → IfOk result (λ opened. (opened.master ≡ saved_by newest)
+        × IsReadable (read_of geometry.now (S.state site.old).image newest blocks) opened.log opened.pages
+        (S.state site.new)) }
     ensures cache { IsTrue (S.state site.old).honest
         → (newest : Option Master) (blocks : List (List LogRecord))
         → IsSound newest geometry.now (S.state site.old).image blocks
@@ -177,6 +187,10 @@ fn recover<S: Site>(alloc: Global, site: &mut S, opened: Opened) -> Result<Resta
         → PerformsFrom result (λ restarted. restarted.store) (rules opened.pages)
         (restart_work (logical_image_under newest opened.pages.flash.geometry (S.state site.old).image blocks))
         (found_machine opened) (S.state site.new) }
+
+    // Of an honest site that log and pages fit, whatever the records say.
+    ensures judged { (o : Opening) → opened.master ≡ saved_by o.newest → o.sizes ≡ opened.pages.flash.geometry
+        → IsReadable o opened.log opened.pages (S.state site.old) → OnOk result (IsJudged (redoing.opened o)) }
 
     // Of every honest site on which the next units are those that were found.
     ensures next { IsTrue (S.state site.old).honest → AreNext (found_store opened) (S.state site.old)
@@ -280,6 +294,9 @@ pub fn restart<S: Site>(alloc: Global, site: &mut S, pool: u32) -> Result<Restar
         → PerformsFrom result (λ restarted. restarted.store) (rules_of pool g.groups)
         (restart_work (logical_image_under newest g (S.state site.old).image blocks))
         (machine_on g (S.state site.old).image) (S.state site.new) }
+
+    // Of every honest site: records that break a rule of those that are judged are refused.
+    ensures judged { IsTrue (S.state site.old).honest → JudgesRecords result (S.state site.old).image }
 
     // Of every honest site of these sizes.
     ensures next { IsTrue (S.state site.old).honest

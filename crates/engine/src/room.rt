@@ -1,25 +1,16 @@
 // Room in pages: before a value is written its record's page is tested, and what each write may have taken back is
 // remembered.
-ghost use Rattle.std.specs.Prelude.{Option, ◌≡◌, ◌*◌, ◌/◌, ◌%◌, ◌<◌, ◌≤◌, ◌↔◌, ℕ, List, length, slice_index_or};
-ghost use Rattle.std.specs.Prelude.{IsTrue, Some, None, IfNone, IfOk, OnOk};
+ghost use Rattle.std.specs.Prelude.{Option, ◌≡◌, ◌*◌, ◌%◌, ◌<◌, ◌↔◌, ℕ, length, slice_index_or, IsTrue, None, Ok};
+ghost use Rattle.std.specs.Prelude.{IfNone, IfOk, IfErr};
+ghost use Rattle.site.specs.declared.outside.Stop.{Stop};
 ghost use Rattle.site.specs.State.{State as Site};
-ghost use Rattle.record_model.specs.declared.words.Reply.{Reply};
-ghost use Rattle.record_model.specs.State.{State, Content, length_of};
-ghost use Rattle.log_records.specs.Log.{Entry};
+ghost use Rattle.record_model.specs.State.{State, length_of};
 ghost use Rattle.log_records.specs.Spelling.{IsShort};
 ghost use Rattle.slotted_page.specs.Layout.{slots_of, content_length};
 ghost use Rattle.buffer_pool.specs.Frames.{front_of};
-ghost use Rattle.checkpoint.specs.declared.master.Master.{Master};
-ghost use Rattle.image_meaning.specs.Moments.{LeavesFor};
 ghost use Rattle.page_store.specs.Representation.{IsStore};
-ghost use Rattle.ring_machine.specs.Commands.{reads};
-ghost use Rattle.redo_laws.specs.Holding.{blocks_to};
-ghost use Rattle.redo_laws.specs.MachineSteps.{StepsMachine, one_touch};
 ghost use Rattle.redo_undo.specs.Fitting.{FitsFront};
-ghost use Rattle.redo_undo.specs.Mirroring.{PerformsStore};
-ghost use Rattle.redo_undo.specs.Stores.{IsInFront, Represents};
-ghost use Rattle.redo_undo.specs.StoreCalls.{KeepsInvariant, Keeps};
-ghost use Rattle.footprints.specs.Longest.{of_session};
+ghost use Rattle.redo_undo.specs.Stores.{IsInFront};
 ghost use Rattle.engine.specs.Invariant.{Invariant, sizes_of};
 ghost use Rattle.engine.specs.PageTests.{AreTakenBack, full_for};
 ghost use Rattle.engine.specs.Representation.{Matches};
@@ -52,7 +43,7 @@ pub fn take_back(footprints: &mut Footprints, session: u32, count: u64)
     requires eight { length footprints.old ≡ 8 }
     ensures { AreTakenBack footprints.old footprints.new session count }
 {
-    for _ in 0..count {
+    for _turn in 0..count {
         footprints.take_back(session);
     }
 }
@@ -114,45 +105,23 @@ impl Engine {
         Some(Reply::PageFull { page, need })
     }
 
-    /// Brings a record's page to the front, and tests it. Answers why it has no room for what is to be written there,
-    /// if it has none. Where only what stands in the page leaves no room, it answers Foreign.
-    pub(crate) fn touch_for<S: Site>(
-        &mut self,
-        site: &mut S,
+    /// Tests the page of a record, which is in front: why it has no room for what is to be written there, if it has
+    /// none. Where only what stands in the page leaves no room, it answers Foreign, which comes of no honest site.
+    pub(crate) fn test_page(
+        &self,
         number: u32,
         after: &Option<Octets>,
     ) -> Result<Option<Reply>, Stop>
-        requires going { Invariant self.old (S.state site.old) }
-        requires exists { number < 32 * (sizes_of self.old.store).pages }
+        requires going { (site : Site) × Invariant self.now site }
+        requires number { number < 32 * (sizes_of self.now.store).pages }
+        requires front { IsInFront self.now.store number }
         requires short { IsShort after.now }
-
-        // Of an honest site that the database fits.
-        ensures tests { (s : State) → Matches self.old (S.state site.old) s
-            → IfOk result (λ refused. refused ≡ full_for s number after.now) }
-        ensures holds { (s : State) (fits : Matches self.old (S.state site.old) s)
-            → OnOk result (Represents self.new.store (S.state site.new) fits.newest fits.records s.table s.commits) }
-        ensures keeps { (s : State) → Matches self.old (S.state site.old) s
-            → Keeps result self.old.store self.new.store (S.state site.old) (S.state site.new)
-            (LeavesFor (sizes_of self.old.store) s.table s.commits (S.state site.old).told) 0 0 }
-        ensures performs { (s : State) → Matches self.old (S.state site.old) s
-            → PerformsStore result (reads number) self.old.store self.new.store (S.state site.old) (S.state site.new) }
-
-        // Of every site.
-        ensures works { KeepsInvariant result self.old.store self.new.store (S.state site.old) (S.state site.new) 0 }
-        ensures rest { self.new ≡ record self.old { store = self.new.store } }
-        ensures front { OnOk result (IsInFront self.new.store number) }
+        ensures answers { (s : State) (site : Site) → Matches self.now site s
+            → result ≡ Ok (full_for s number after.now) }
         ensures room { IfOk result (λ refused. IfNone refused
-            (FitsFront self.new.store.pages (number % 32) after.now)) }
-        ensures made { self.new.store.made ≡ self.old.store.made }
-        ensures blocks { OnOk result (blocks_to self.new.store.log ≡ blocks_to self.old.store.log) }
-        ensures log_reads { (S.state site.new).log_reads ≡ (S.state site.old).log_reads }
-        ensures asks { StepsMachine result (one_touch (number / 32)) self.old.store.pages self.new.store.pages
-            (S.state site.old) (S.state site.new) }
+            (FitsFront self.now.store.pages (number % 32) after.now)) }
+        ensures stops { IfErr result (λ stop. stop ≡ Stop.Foreign) }
     {
-        match self.store.touch(site, number) {
-            Ok(()) => {}
-            Err(stop) => return Err(stop),
-        }
         let fits = self.store.fits(number, after);
         if let Some(full) = self.page_refusal(number, after, fits) {
             return Ok(Some(full));

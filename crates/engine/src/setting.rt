@@ -54,7 +54,11 @@ impl Engine {
         ensures serves { KeepsUnread result self.old self.new (S.state site.old) (S.state site.new) }
     {
         let after = value_of(value);
-        let refused = match self.touch_for(site, number, &after) {
+        match self.store.touch(site, number) {
+            Ok(()) => {}
+            Err(stop) => return Err(stop),
+        }
+        let refused = match self.test_page(number, &after) {
             Ok(refused) => refused,
             Err(stop) => return Err(stop),
         };

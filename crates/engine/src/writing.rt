@@ -58,7 +58,11 @@ impl Engine {
         // Of every site.
         ensures serves { KeepsUnread result self.old self.new (S.state site.old) (S.state site.new) }
     {
-        let refused = match self.touch_for(site, number, after) {
+        match self.store.touch(site, number) {
+            Ok(()) => {}
+            Err(stop) => return Err(stop),
+        }
+        let refused = match self.test_page(number, after) {
             Ok(refused) => refused,
             Err(stop) => return Err(stop),
         };

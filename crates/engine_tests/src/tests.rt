@@ -39,8 +39,9 @@ enum Ask {
     Get(u32),
     Set(u32, u8),
     Checkpoint,
-    // A record is set to this octet 120 times.
-    SetLong(u32, u8),
+    // A record is set to this octet, so many times, or written by a session.
+    SetTimes(u32, u8, usize),
+    WriteTimes(u32, u32, u8, usize),
     Stat,
     // The first of 120 octets 0x5A on the flash is set to this one, while the database goes on.
     Put(u8),
@@ -63,6 +64,8 @@ enum Answer {
     Refused(Why),
     // So many records are used and owed, of 15 that there is room for.
     Full(u64, u64),
+    // The page needs so many octets.
+    PageFull(u32, u32),
     Stat(Stat),
 }
 
@@ -74,9 +77,10 @@ fn octet(octet: u8) -> Octets {
     }
 }
 
-// A value of 120 octets.
-fn long(octet: u8) -> Octets {
-    match Octets::from_slice(&[octet; 120]) {
+// A value of an octet, so many times, at most 201.
+fn times(octet: u8, count: usize) -> Octets {
+    let octets = [octet; 201];
+    match Octets::from_slice(&octets[..count.min(201)]) {
         Some(octets) => octets,
         None => unreachable!(),
     }
@@ -105,6 +109,9 @@ fn is_answer(reply: &Reply, answer: Answer) -> bool {
         (Reply::Full { used, owed, cap }, Answer::Full(wanted_used, wanted_owed)) => {
             *used == wanted_used && *owed == wanted_owed && *cap == 15
         }
+        (Reply::PageFull { page, need }, Answer::PageFull(wanted_page, wanted_need)) => {
+            *page == wanted_page && *need == wanted_need
+        }
         (Reply::Stat(counts), Answer::Stat(wanted)) => *counts == wanted,
         _ => false,
     }
@@ -127,7 +134,10 @@ fn call<S: Site>(engine: &mut Engine, site: &mut S, ask: Ask) -> Result<Reply, S
         Ask::BackTo(session, standing) => engine.back(site, session, Some(standing)),
         Ask::Get(number) => engine.get(site, number),
         Ask::Set(number, value) => engine.set(site, number, &octet(value)),
-        Ask::SetLong(number, value) => engine.set(site, number, &long(value)),
+        Ask::SetTimes(number, value, count) => engine.set(site, number, &times(value, count)),
+        Ask::WriteTimes(session, number, value, count) => {
+            engine.write(site, session, number, &times(value, count))
+        }
         Ask::Checkpoint => engine.checkpoint(site),
         Ask::Stat | Ask::Put(_) => Ok(engine.stat()),
     }
@@ -531,7 +541,7 @@ fn a_stopped_restart_is_done_again(rt: HostRuntime) -> Result<(), Fail> {
 
 // A page that isn't in the pool is read from the flash, each time: what was changed there is seen.
 const OUTSIDE: &[(Ask, Answer)] = &[
-    (Ask::SetLong(0, 0x5a), Answer::Committed(1)),
+    (Ask::SetTimes(0, 0x5a, 120), Answer::Committed(1)),
     (Ask::Set(32, 0x02), Answer::Committed(2)),
     (Ask::Put(0x5b), Answer::Done),
     (Ask::Get(0), Answer::FoundLong(0x5b, 0x5a)),
@@ -560,6 +570,84 @@ const ODD: Geometry = Geometry {
 fn devices_of_no_sizes_are_foreign(rt: HostRuntime) {
     assert!(rt; run(rt.alloc(), &ODD, &[]) == Err(Stop::Foreign));
 }
+
+// Records 0 to 18 of page 0 get 200 octets: 3,800 of the page's 3,952.
+const FILL: &[(Ask, Answer)] = &[
+    (Ask::SetTimes(0, 0x5a, 200), Answer::Committed(1)),
+    (Ask::SetTimes(1, 0x5a, 200), Answer::Committed(2)),
+    (Ask::SetTimes(2, 0x5a, 200), Answer::Committed(3)),
+    (Ask::SetTimes(3, 0x5a, 200), Answer::Committed(4)),
+    (Ask::SetTimes(4, 0x5a, 200), Answer::Committed(5)),
+    (Ask::SetTimes(5, 0x5a, 200), Answer::Committed(6)),
+    (Ask::SetTimes(6, 0x5a, 200), Answer::Committed(7)),
+    (Ask::SetTimes(7, 0x5a, 200), Answer::Committed(8)),
+    (Ask::SetTimes(8, 0x5a, 200), Answer::Committed(9)),
+    (Ask::SetTimes(9, 0x5a, 200), Answer::Committed(10)),
+    (Ask::SetTimes(10, 0x5a, 200), Answer::Committed(11)),
+    (Ask::SetTimes(11, 0x5a, 200), Answer::Committed(12)),
+    (Ask::SetTimes(12, 0x5a, 200), Answer::Committed(13)),
+    (Ask::SetTimes(13, 0x5a, 200), Answer::Committed(14)),
+    (Ask::SetTimes(14, 0x5a, 200), Answer::Committed(15)),
+    (Ask::SetTimes(15, 0x5a, 200), Answer::Committed(16)),
+    (Ask::SetTimes(16, 0x5a, 200), Answer::Committed(17)),
+    (Ask::SetTimes(17, 0x5a, 200), Answer::Committed(18)),
+    (Ask::SetTimes(18, 0x5a, 200), Answer::Committed(19)),
+];
+
+// A value is set where the page has room for it, up to its last octet.
+const LAST_OCTET: &[(Ask, Answer)] = &[
+    (Ask::SetTimes(19, 0x5a, 200), Answer::PageFull(0, 4000)),
+    (Ask::SetTimes(19, 0x5a, 152), Answer::Committed(20)),
+    (Ask::Set(20, 0xaa), Answer::PageFull(0, 3953)),
+    (Ask::SetTimes(32, 0x5a, 200), Answer::Committed(21)),
+    (Ask::Set(0, 0xaa), Answer::Committed(22)),
+    (Ask::Set(20, 0xaa), Answer::Committed(23)),
+    (Ask::Get(20), Answer::Found(0xaa)),
+    (Ask::SetTimes(21, 0x5a, 201), Answer::Refused(Why::TooLong)),
+];
+
+// What a session's shorter value took the place of may come back until it commits.
+const MAY_COME_BACK: &[(Ask, Answer)] = &[
+    (Ask::Begin(0), Answer::Done),
+    (Ask::Write(0, 0, 0xaa), Answer::Done),
+    (Ask::SetTimes(19, 0x5a, 200), Answer::PageFull(0, 4000)),
+    (Ask::WriteTimes(0, 19, 0x5a, 200), Answer::PageFull(0, 4000)),
+    (Ask::Commit(0), Answer::Committed(20)),
+    (Ask::SetTimes(19, 0x5a, 200), Answer::Committed(21)),
+];
+
+// What an abort takes back wants no room any more.
+const ABORTED: &[(Ask, Answer)] = &[
+    (Ask::Begin(0), Answer::Done),
+    (Ask::WriteTimes(0, 19, 0x5a, 152), Answer::Done),
+    (Ask::Begin(1), Answer::Done),
+    (Ask::Write(1, 20, 0xbb), Answer::PageFull(0, 3953)),
+    (Ask::Erase(1, 18), Answer::Done),
+    (Ask::Write(1, 20, 0xbb), Answer::PageFull(0, 3953)),
+    (Ask::Abort(0), Answer::Aborted),
+    (Ask::Write(1, 20, 0xbb), Answer::Done),
+    (Ask::Set(21, 0xcc), Answer::Committed(20)),
+    (Ask::Abort(1), Answer::Aborted),
+    (Ask::SetTimes(19, 0x5a, 151), Answer::Committed(21)),
+    (Ask::Set(20, 0xbb), Answer::PageFull(0, 3953)),
+];
+
+// A session's longer value stands behind a shorter one, and goes on standing where that is dropped.
+const GONE_BACK: &[(Ask, Answer)] = &[
+    (Ask::Begin(0), Answer::Done),
+    (Ask::WriteTimes(0, 19, 0x5a, 152), Answer::Done),
+    (Ask::Mark(0), Answer::Done),
+    (Ask::Write(0, 19, 0xaa), Answer::Done),
+    (Ask::Set(20, 0xbb), Answer::PageFull(0, 3953)),
+    (Ask::Back(0), Answer::Back(1)),
+    (Ask::Set(20, 0xbb), Answer::PageFull(0, 3953)),
+    (Ask::BackTo(0, 0), Answer::Back(1)),
+    (Ask::Set(20, 0xbb), Answer::Committed(20)),
+    (Ask::Read(0, 19), Answer::Nothing),
+    (Ask::WriteTimes(0, 19, 0x5a, 152), Answer::PageFull(0, 3953)),
+    (Ask::WriteTimes(0, 19, 0x5a, 151), Answer::Done),
+    (Ask::Commit(0), Answer::Committed(21)),
+];
 
 // The tests by their names, with the sizes of the devices.
 const TESTS: [(&str, Geometry, &[(Ask, Answer)]); 11] = [
@@ -593,6 +681,33 @@ fn replies_are_as_they_are_to_be(rt: HostRuntime) -> Result<(), Fail> {
     for (name, sizes, rows) in TESTS {
         let held = run(rt.alloc(), &sizes, rows)?;
         assert!(rt; held == rows.len(), "{name}: row {held}");
+    }
+    Ok(())
+}
+
+// Those of a page that is nearly full.
+const NEARLY_FULL: [(&str, &[(Ask, Answer)]); 4] = [
+    ("a_page_is_full_behind_its_last_octet", LAST_OCTET),
+    ("what_may_come_back_wants_room", MAY_COME_BACK),
+    ("an_abort_leaves_room", ABORTED),
+    ("going_back_leaves_room", GONE_BACK),
+];
+
+// Fills the page, and plays rows. Answers how many of these got their replies, where it was filled.
+fn run_filled(alloc: Global, rows: &[(Ask, Answer)]) -> Result<Option<usize>, Stop> {
+    let mut site = MemSite::new(alloc, &STANDARD)?;
+    let mut engine = start(alloc, &mut site, 1)?;
+    if play(&mut engine, &mut site, FILL)? < FILL.len() {
+        return Ok(None);
+    }
+    Ok(Some(play(&mut engine, &mut site, rows)?))
+}
+
+#[test]
+fn full_pages_are_told(rt: HostRuntime) -> Result<(), Fail> {
+    for (name, rows) in NEARLY_FULL {
+        let held = run_filled(rt.alloc(), rows)?;
+        assert!(rt; held == Some(rows.len()), "{name}: {held:?}");
     }
     Ok(())
 }

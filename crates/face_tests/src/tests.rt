@@ -345,6 +345,36 @@ const CHECKS: &[Step<'static>] = &[
     Step::Reads(Dev::Log, 0),
 ];
 
+// The log's blocks are told from one on. A small log has the last 15 of 100.
+const ARCHIVES: &[Step<'static>] = &[
+    Step::Run("set 5 0a0b\n", "open 0\ncommitted 1\n"),
+    Step::Crash(0),
+    Step::Call("archive 0", 0),
+    Step::Begins(
+        "block 0 002e010200000000000000020000000000000002000000000500030a0b0400000000000000020000000000000001",
+    ),
+    Step::Repeats(100, 914, "0"),
+    Step::Ends("0\nend 1\n"),
+    Step::Length(1_021),
+    Step::Crash(0),
+    Step::Call("archive 2", 12),
+    Step::Told("ahead 1\n"),
+    Step::New(SMALL),
+    Step::FeedMany(100, "set 0 aa\n"),
+    Step::Call("run 1", 0),
+    Step::Crash(0),
+    Step::Call("archive 0", 12),
+    Step::Told("gone 85\n"),
+    Step::Crash(0),
+    Step::Call("archive 85", 0),
+    Step::Begins("block 85 "),
+    Step::Ends("0\nend 100\n"),
+    Step::New(ODD),
+    Step::Call("archive 0", 9),
+    Step::Told("fault foreign\n"),
+    Step::Reads(Dev::Log, 0),
+];
+
 const LARGE_DEVICES: &[Step<'static>] = &[
     Step::New(LARGE),
     Step::Call("new 1024 64 400", 0),
@@ -570,7 +600,7 @@ const LARGEST_SEED: &[Step<'static>] = &[
 ];
 
 // The tests by their names.
-const TESTS: [(&str, &[Step<'static>]); 27] = [
+const TESTS: [(&str, &[Step<'static>]); 28] = [
     ("the_largest_pool_is_served", LARGEST_POOL),
     ("a_long_input_is_heard_to_its_end", LONG_INPUT),
     ("lines_are_answered", LINES),
@@ -587,6 +617,7 @@ const TESTS: [(&str, &[Step<'static>]); 27] = [
     ("a_worn_ring_of_masters_ends_a_run", WORN),
     ("a_new_database_is_tested", NEW),
     ("devices_are_checked", CHECKS),
+    ("archives_are_told", ARCHIVES),
     ("large_devices_are_tested", LARGE_DEVICES),
     ("a_trace_is_reported", TRACES),
     ("faults_have_their_status", FAULTS),

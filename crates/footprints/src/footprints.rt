@@ -1,4 +1,5 @@
-ghost use Rattle.std.specs.Prelude.{◌≡◌, ◌↔◌, ◌<◌, ◌==◌, ℕ, nat_eq, max, [], ◌∷◌, ◌++◌, length, IsTrue, IsSome, IfSome, None};
+ghost use Rattle.std.specs.Prelude.{◌≡◌, ◌↔◌, ◌<◌, ◌==◌, ℕ, nat_eq, max, [], ◌∷◌, ◌++◌, length};
+ghost use Rattle.std.specs.Prelude.{IsTrue, IsSome, IfSome, None};
 ghost use Rattle.std.specs.Prelude.{OnOk, OnErr, slice_set, replicate, if◌then◌else◌};
 ghost use Rattle.indexmap.specs.IndexMap.{get};
 ghost use Rattle.footprints.specs.Longest.{of_session, longest, lengths, footprint, need, IsGreatest, IsOnlyOf, Drops};

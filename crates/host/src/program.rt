@@ -50,21 +50,25 @@ where
     match read_words(rt.alloc(), words) {
         Ok(Request::Simulate(_)) => FileSite::for_trace(rt, rt.alloc()),
         Ok(Request::Trial(_)) | Err(Unread::Words) => FileSite::bare(rt, rt.alloc()),
-        Ok(Request::Check) => FileSite::for_check(rt, rt.alloc()),
+        Ok(Request::Check) | Ok(Request::Archive(_)) => FileSite::for_check(rt, rt.alloc()),
         Ok(_) => FileSite::existing(rt, rt.alloc()),
         Err(Unread::Memory) => Err(Stop::Memory),
     }
 }
 
-// Where the rule fails that was told to fail: the devices are judged again.
-fn find_failing<R>(alloc: Global, site: &mut FileSite<R>) -> Option<Place>
+// Whether devices were found that aren't sound: a check has told so, or a run has refused what stands there.
+fn may_be_unsound(status: u8, words: &[String]) -> bool {
+    status == 11 || status == 9 && sizes(words).is_none()
+}
+
+// The rule of sound devices that fails, and where: they are judged, of a check again.
+fn find_failing<R>(alloc: Global, site: &mut FileSite<R>) -> Option<(u8, Place)>
 where
     R: Files + Input + Print + Eprint + Clock + Drop,
     R::File: FileExt + LockFile,
 {
-    site.watch().rule()?;
     match check_image(alloc, site) {
-        Ok(Verdict::Unsound { place, .. }) => Some(place),
+        Ok(Verdict::Unsound { rule, place }) => Some((rule, place)),
         _ => None,
     }
 }
@@ -78,8 +82,12 @@ where
     let words = words(rt)?;
     let mut site = site(rt, words.as_slice())?;
     let status = face(rt.alloc(), words.as_slice(), &mut site);
-    let place = find_failing(rt.alloc(), &mut site);
-    say(rt, status, words.as_slice(), &see(&site), place);
+    let failing = if may_be_unsound(status, words.as_slice()) {
+        find_failing(rt.alloc(), &mut site)
+    } else {
+        None
+    };
+    say(rt, status, words.as_slice(), &see(&site), failing);
     Ok(status)
 }
 

@@ -228,7 +228,7 @@ type Row = (
     u64,
 );
 
-const CALLS: [Row; 15] = [
+const CALLS: [Row; 18] = [
     (&[b"face", b"run", b"1"], b"", 9, b"fault foreign\n", 3),
     (&[b"face", b"check"], b"", 11, b"unsound S1\n", 3),
     (
@@ -271,6 +271,9 @@ const CALLS: [Row; 15] = [
         b"sound records 1 commits 1\n",
         6,
     ),
+    (&[b"face", b"archive", b"1"], b"", 0, b"end 1\n", 6),
+    (&[b"face", b"archive", b"2"], b"", 12, b"ahead 1\n", 6),
+    (&[b"face", b"archive", b"01"], b"", 2, b"fault words\n", 0),
     (
         &[b"face", b"load", b"2", b"7", b"1"],
         b"",
@@ -326,7 +329,7 @@ fn a_stop_has_its_line_and_its_status(rt: HostRuntime) -> Result<(), Fail> {
 }
 
 // The words, without the program's own name, and what is wrong with them.
-const WRONG: [(&str, Option<Wrong>); 33] = [
+const WRONG: [(&str, Option<Wrong>); 37] = [
     ("new 1 8 16", None),
     ("new 65536 16384 1048576", None),
     ("run 1", None),
@@ -371,6 +374,13 @@ const WRONG: [(&str, Option<Wrong>); 33] = [
     ("simulate 8", Some(Wrong::Lacks(Number::Pool))),
     ("check", None),
     ("check x", Some(Wrong::TooMany(2))),
+    ("archive 18446744073709551615", None),
+    (
+        "archive 18446744073709551616",
+        Some(Wrong::Unfit(2, Number::From)),
+    ),
+    ("archive", Some(Wrong::Lacks(Number::From))),
+    ("archive 0 1", Some(Wrong::TooMany(3))),
     ("RUN 1", Some(Wrong::Unknown)),
 ];
 

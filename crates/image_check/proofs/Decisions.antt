@@ -6,14 +6,12 @@ use Rattle.site.specs.State.{State, Image}
 use Rattle.site.specs.Calls.{Preserves}
 use Rattle.site.specs.Work.{OnlyReads}
 use Rattle.log_records.specs.declared.log_record.LogRecord.{LogRecord}
-use Rattle.log_records.specs.Log.{log_from}
 use Rattle.log_records.specs.Sound.{commit_count}
 use Rattle.image_form.specs.declared.formed.Found.{Found}
 use Rattle.image_form.specs.Formed.{IsThere}
 use Rattle.image_check.specs.Deciding.{MeetsBefore}
 use Rattle.image_check.specs.Judging.{Sees, reading_of}
 use Rattle.image_form.specs.Verdict.{Reading, Reads, Rule, OctetsAreFormed, KeptBlocksAreLive, RecordsFollowBegins, LosersCanBeUndone, LosersHoldOthersOff, VersionsFit, FramesAreClean, SegmentsFollowGroups, UndoHasRoom, MasterNamesTheActive, CommitsAreNumbered, PagesHaveRoom, HoldBefore, FailsFirst, IsSoundWith, logical_image_of, values_of}
-use Rattle.image_meaning.proofs.ShortValues.{image_short, log_short, rooms_by_lengths}
 use Rattle.image_check.proofs.Readings.{a_reading, no_rule}
 use Rattle.image_form.proofs.FirstRule.{there_later}
 
@@ -133,10 +131,6 @@ verdict_by zero reads fails = let third = fails.0 in absurd (omega (arith, third
 verdict_by (suc zero) reads fails = let third = fails.0 in absurd (omega (arith, third))
 verdict_by (suc (suc zero)) reads fails = let third = fails.0 in absurd (omega (arith, third))
 verdict_by (suc (suc (suc i))) {r} reads fails = (r, reads, fails.1, fails.2)
-
--- the values of blocks and pages of the form are so short that each page has room for any 32 of them
-pub room_by_form : (r : Reading) (image : Image) → Reads r image → PagesHaveRoom (logical_image_of r image)
-room_by_form r image reads = rooms_by_lengths (logical_image_of r image) (image_short r.g image (log_from r.master.kept r.blocks) reads.formed.versions (log_short r.master.kept r.blocks reads.blocks.are_blocks))
 
 -- or none does
 pub sound_by : {found : Found} {blocks : List (List LogRecord)} {old a : State} (records commits : ℕ) → Past 13 found blocks old a → records ≡ values_of (logical_image_of (reading_of found blocks) a.image) →

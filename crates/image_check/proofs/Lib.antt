@@ -12,3 +12,5 @@ pub mod StrayOnes
 pub mod Surveyed
 pub mod WrittenOnes
 pub mod ValuesCounted
+pub mod PageRooms
+pub mod FilledOnes

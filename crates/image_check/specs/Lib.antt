@@ -1,6 +1,7 @@
 pub mod Chaining
 pub mod Counting
 pub mod Deciding
+pub mod Filling
 pub mod Holding
 pub mod Judgement
 pub mod Judging

@@ -1,10 +1,12 @@
 // All unfinished transactions, record by record.
 ghost use Rattle.std.specs.Prelude.{◌≡◌, ◌⊎◌, ◌==◌, ◌++◌, ◌∷◌, [], ℕ, nat_eq, true, Some, None, if◌then◌else◌, List};
+ghost use Rattle.std.specs.Prelude.{reverse};
 ghost use Rattle.std.specs.List.{list_any};
 ghost use Rattle.indexmap.specs.IndexMap.{get};
 ghost use Rattle.log_records.specs.Log.{Entry, txn_by};
 ghost use Rattle.log_records.specs.Unfinished.{losers};
 ghost use Rattle.image_check.specs.Chaining.{AreChains, Keeps, IsKept, StandsIn};
+ghost use Rattle.image_check.specs.Filling.{left_in};
 ghost use Rattle.image_check.specs.Judging.{OrMemory};
 
 use crate::chain::Chain;
@@ -61,6 +63,16 @@ impl Chains {
                 updates: Vec::new(self.alloc),
                 written: Contents::new(self.alloc),
             },
+        }
+    }
+
+    /// The Updates that a transaction has left open.
+    pub fn left_of(&self, txn: u64) -> &[LogRecord]
+        ensures { reverse result.now ≡ left_in (get nat_eq self.now.chains txn) }
+    {
+        match self.chains.get(&txn) {
+            Some(chain) => chain.updates.as_slice(),
+            None => &[],
         }
     }
 

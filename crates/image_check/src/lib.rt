@@ -5,8 +5,10 @@ mod chain;
 mod chains;
 mod commits;
 mod contents;
+mod filling;
 mod holding;
 mod laws;
+mod lengths;
 mod showing;
 mod strays;
 mod survey;
@@ -18,6 +20,7 @@ mod verdict;
 mod written;
 
 pub use commits::{Numbers, rule_commits};
+pub use filling::rule_page_room;
 pub use holding::rule_apart;
 pub use laws::{judged_stands, one_reading, sound_is_standing};
 pub use survey::{Survey, rule_transactions};

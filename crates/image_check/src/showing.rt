@@ -37,6 +37,7 @@ pub fn version_of<S: Site>(
 
     ensures version { FindsVersions found.now frames.now (S.state site.old)
         → IfOk result (λ version. version ≡ version_on found.now.log.geometry (S.state site.old).image page) }
+    ensures log { (S.state site.new).log_reads ≡ (S.state site.old).log_reads }
     ensures reads { OnlyReads result (S.state site.old) (S.state site.new) }
 {
     let mut octets = [0u8; PAGE_LEN];

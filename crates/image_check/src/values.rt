@@ -51,8 +51,8 @@ fn count_on(written: &Writings, page: u32, version: &Page) -> u64
     count
 }
 
-// The page of a record.
-fn page_of(rec: &LogRecord) -> Place {
+/// The page of a record.
+pub fn page_of(rec: &LogRecord) -> Place {
     match rec {
         LogRecord::Update { page, .. } => Place::Page(*page),
         LogRecord::Clr { page, .. } => Place::Page(*page),

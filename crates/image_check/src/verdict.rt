@@ -1,14 +1,14 @@
 // The verdict on devices.
-ghost use Rattle.std.specs.Prelude.{◌≡◌, List, IsTrue, IfOk};
-ghost use Rattle.site.specs.State.{State};
+ghost use Rattle.std.specs.Prelude.{◌≡◌, IsTrue, IfOk};
 ghost use Rattle.site.specs.Work.{OnlyReads};
-ghost use Rattle.log_records.specs.declared.log_record.LogRecord.{LogRecord};
-ghost use Rattle.image_check.specs.Deciding.{Decides, MeetsBefore, HoldOr, IsSurveyOf};
+ghost use Rattle.log_records.specs.Sound.{commit_count};
+ghost use Rattle.image_check.specs.Deciding.{Decides, HoldOr, IsSurveyOf};
 ghost use Rattle.image_check.specs.Judging.{MayBeJudged, reading_of};
 ghost use Rattle.image_check.specs.Judgement.{IsVerdictOn};
 ghost use Rattle.image_form.specs.Verdict.{logical_image_of, values_of};
 
 use crate::commits::rule_commits;
+use crate::filling::rule_page_room;
 use crate::holding::rule_apart;
 use crate::survey::{Survey, rule_transactions};
 use crate::undoable::rule_undoable;
@@ -66,34 +66,62 @@ fn failing_on_flash<S: Site>(site: &mut S, found: &Found) -> Result<Option<(u8, 
     Ok(None)
 }
 
-// The verdict where the rules before the ninth hold and so many numbers have a value. The twelfth holds by the form of
-// blocks and pages: any 32 values have room in a page.
-fn judge_counts(found: &Found, survey: &Survey, records: u64) -> Verdict
-    requires { (site : State) × MayBeJudged found.now site }
+// The verdict where the rules before the twelfth hold, so many numbers have a value, and so many commits were made.
+fn judge_room<S: Site>(
+    alloc: Global,
+    site: &mut S,
+    found: &Found,
+    survey: &Survey,
+    counts: (u64, u64),
+) -> Result<Verdict, Stop>
+    requires { MayBeJudged found.now (S.state site.old) }
 
-    ensures { (site : State) (blocks : List (List LogRecord)) → MeetsBefore 9 found.now blocks site
-        → IsSurveyOf found.now blocks survey.now
-        → records ≡ values_of (logical_image_of (reading_of found.now blocks) site.image)
-        → IsVerdictOn site.image result }
+    ensures { Decides 12 found.now result (S.state site.old) (S.state site.new) (λ blocks verdict.
+        IsSurveyOf found.now blocks survey.now
+        → counts.0 ≡ values_of (logical_image_of (reading_of found.now blocks) (S.state site.old).image)
+        → counts.1 ≡ commit_count (logical_image_of (reading_of found.now blocks) (S.state site.old).image)
+        → IsVerdictOn (S.state site.old).image verdict) }
+{
+    if let Some(place) = rule_page_room(alloc, site, found, &survey.left)? {
+        return Ok(Verdict::Unsound { rule: 12, place });
+    }
+    let (records, commits) = counts;
+    Ok(Verdict::Sound { records, commits })
+}
+
+// The verdict where the rules before the ninth hold and so many numbers have a value.
+fn judge_counts<S: Site>(
+    alloc: Global,
+    site: &mut S,
+    found: &Found,
+    survey: &Survey,
+    records: u64,
+) -> Result<Verdict, Stop>
+    requires { MayBeJudged found.now (S.state site.old) }
+
+    ensures { Decides 9 found.now result (S.state site.old) (S.state site.new) (λ blocks verdict.
+        IsSurveyOf found.now blocks survey.now
+        → records ≡ values_of (logical_image_of (reading_of found.now blocks) (S.state site.old).image)
+        → IsVerdictOn (S.state site.old).image verdict) }
 {
     if !rule_room(found, &survey.left) {
-        return Verdict::Unsound {
+        return Ok(Verdict::Unsound {
             rule: 9,
             place: Place::Blocks,
-        };
+        });
     }
     if !rule_named(&found.master, &survey.early) {
-        return Verdict::Unsound {
+        return Ok(Verdict::Unsound {
             rule: 10,
             place: Place::Master,
-        };
+        });
     }
     match rule_commits(found, &survey.numbers) {
-        Some(commits) => Verdict::Sound { records, commits },
-        None => Verdict::Unsound {
+        Some(commits) => judge_room(alloc, site, found, survey, (records, commits)),
+        None => Ok(Verdict::Unsound {
             rule: 11,
             place: Place::Blocks,
-        },
+        }),
     }
 }
 
@@ -117,7 +145,7 @@ fn judge_pages<S: Site>(
     if let Some((rule, place)) = failing_on_flash(site, found)? {
         return Ok(Verdict::Unsound { rule, place });
     }
-    Ok(judge_counts(found, survey, records))
+    judge_counts(alloc, site, found, survey, records)
 }
 
 // The verdict where the first two rules hold.

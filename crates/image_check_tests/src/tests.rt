@@ -5,8 +5,8 @@ ghost use Rattle.mem_site.specs.MemState.{state_of};
 
 use checkpoint::{Master, Pairs};
 use image_check::{
-    Verdict, check_image, rule_apart, rule_commits, rule_named, rule_room, rule_shown,
-    rule_transactions, rule_undoable,
+    Verdict, check_image, rule_apart, rule_commits, rule_named, rule_page_room, rule_room,
+    rule_shown, rule_transactions, rule_undoable,
 };
 use image_form::{
     Found, Place, rule_blocks, rule_clean, rule_following, rule_groups, rule_kept, rule_lengths,
@@ -137,6 +137,60 @@ const PAGE: &[u8] = &[
     0x0f, 0xfe, 0x00, 0x03, // slot 5
 ];
 
+// The front of a page that is full but for what slot 5 and slot 20 may have: 19 values of 200 octets take up the others
+// of the first 20 slots. All values are zeros. The last octet is that of the length of slot 20, plus one.
+const CROWDED: &[u8] = &[
+    0x00, 0x00, 0x00, 0x00, 0x00, 0x00, 0x00, 0x00, // LSN
+    0x0f, 0x70, // used
+    0x00, 0x00, 0x00, 0x00, 0x00, 0x00, // zeros
+    0x0f, 0x38, 0x00, 0xc9, // slot 0
+    0x0e, 0x70, 0x00, 0xc9, // slot 1
+    0x0d, 0xa8, 0x00, 0xc9, // slot 2
+    0x0c, 0xe0, 0x00, 0xc9, // slot 3
+    0x0c, 0x18, 0x00, 0xc9, // slot 4
+    0x00, 0x00, 0x00, 0x00, // slot 5
+    0x0b, 0x50, 0x00, 0xc9, // slot 6
+    0x0a, 0x88, 0x00, 0xc9, // slot 7
+    0x09, 0xc0, 0x00, 0xc9, // slot 8
+    0x08, 0xf8, 0x00, 0xc9, // slot 9
+    0x08, 0x30, 0x00, 0xc9, // slot 10
+    0x07, 0x68, 0x00, 0xc9, // slot 11
+    0x06, 0xa0, 0x00, 0xc9, // slot 12
+    0x05, 0xd8, 0x00, 0xc9, // slot 13
+    0x05, 0x10, 0x00, 0xc9, // slot 14
+    0x04, 0x48, 0x00, 0xc9, // slot 15
+    0x03, 0x80, 0x00, 0xc9, // slot 16
+    0x02, 0xb8, 0x00, 0xc9, // slot 17
+    0x01, 0xf0, 0x00, 0xc9, // slot 18
+    0x01, 0x28, 0x00, 0xc9, // slot 19
+    0x00, 0x90, 0x00, 0x97, // slot 20
+];
+
+// Where that octet stands, and the last one of the LSN.
+const LENGTH_AT: u64 = 99;
+
+const LSN_AT: u64 = 7;
+
+// What the unfinished transaction has written behind its Update, from octet 38 on: it has emptied slot 5 again, and is
+// finished.
+const EMPTIED: &[u8] = &[
+    0x02, // Update
+    0x00, 0x00, 0x00, 0x00, 0x00, 0x00, 0x00, 0x02, // txn
+    0x00, 0x00, 0x00, 0x00, 0x00, 0x00, 0x00, 0x03, // prev
+    0x00, 0x00, 0x00, 0x00, // page
+    0x05, // slot
+    0x03, 0x0a, 0x0b, // before
+    0x00, // after
+    0x04, // Commit
+    0x00, 0x00, 0x00, 0x00, 0x00, 0x00, 0x00, 0x02, // txn
+    0x00, 0x00, 0x00, 0x00, 0x00, 0x00, 0x00, 0x01, // commit number
+];
+
+const EMPTIED_USED: u8 = 0x48;
+
+// An Update that has emptied slot 5: what stood before, and none after.
+const EMPTIES: &[u8] = &[0x03, 0x0a, 0x0b, 0x00];
+
 // The gate of the first slot of groups: group 0 stands there, with a frame of page 0 that has no values and the LSN 0,
 // or it doesn't.
 const FRAMED: u8 = 0xa5;
@@ -255,6 +309,42 @@ macro_rules! page {
     };
 }
 
+// The crowded page, with another octet at a place of it, and a block of the log: the first commit, which sets slot 5 to
+// two octets; the same emptied again before its commit; and a transaction without a Commit that has emptied it.
+macro_rules! crowded {
+    ($at:expr, $octet:literal) => {
+        &[
+            (Dev::Log, BLOCK_AT, BLOCK),
+            (Dev::Disk, 0, CROWDED),
+            (Dev::Disk, $at, &[$octet]),
+        ]
+    };
+}
+
+macro_rules! crowded_between {
+    ($lsn:literal, $octet:literal) => {
+        &[
+            (Dev::Log, BLOCK_AT, UNFINISHED),
+            (Dev::Log, BLOCK_AT + 38, EMPTIED),
+            (Dev::Log, USED_AT, &[EMPTIED_USED]),
+            (Dev::Disk, 0, CROWDED),
+            (Dev::Disk, LSN_AT, &[$lsn]),
+            (Dev::Disk, LENGTH_AT, &[$octet]),
+        ]
+    };
+}
+
+macro_rules! crowded_by_undo {
+    ($octet:literal) => {
+        &[
+            (Dev::Log, BLOCK_AT, UNFINISHED),
+            (Dev::Log, BLOCK_AT + 34, EMPTIES),
+            (Dev::Disk, 0, CROWDED),
+            (Dev::Disk, LENGTH_AT, &[$octet]),
+        ]
+    };
+}
+
 // Writes octets.
 fn put<S: Site>(site: &mut S, octets: &[(Dev, u64, &[u8])]) -> Result<(), Failed> {
     for &(dev, at, piece) in octets {
@@ -279,6 +369,7 @@ enum LogRule {
     Room,
     Named,
     OneCommit,
+    PageRoom,
 }
 
 // The log and the rings that stand there, with this master, where the lengths are those of sizes, the rings are of the
@@ -322,6 +413,7 @@ fn holds_of_log(
         LogRule::Room => rule_room(&found, &survey.left),
         LogRule::Named => rule_named(&found.master, &survey.early),
         LogRule::OneCommit => rule_commits(&found, &survey.numbers) == Some(1),
+        LogRule::PageRoom => rule_page_room(alloc, site, &found, &survey.left)?.is_none(),
     };
     Ok(Some(holds))
 }
@@ -447,7 +539,7 @@ fn play(alloc: Global, rows: &[(Written, Finds)]) -> Result<usize, Fail> {
 }
 
 // The tests by their names: devices and what is found on them.
-const TESTS: [(&str, &[(Written, Finds)]); 16] = [
+const TESTS: [(&str, &[(Written, Finds)]); 19] = [
     (
         "a finished transaction",
         &[
@@ -623,6 +715,80 @@ const TESTS: [(&str, &[(Written, Finds)]); 16] = [
                 blank!(1),
                 Finds::Judged(Verdict::Unsound {
                     rule: 1,
+                    place: Place::Page(0),
+                }),
+            ),
+        ],
+    ),
+    // Slot 20 has 150 octets, or one more.
+    (
+        "a page that is full to its last octet",
+        &[
+            (
+                crowded!(LENGTH_AT, 0x97),
+                Finds::OnLog(LogRule::PageRoom, true),
+            ),
+            (
+                crowded!(LENGTH_AT, 0x98),
+                Finds::OnLog(LogRule::PageRoom, false),
+            ),
+            (
+                crowded!(LENGTH_AT, 0x97),
+                Finds::Judged(Verdict::Sound {
+                    records: 21,
+                    commits: 1,
+                }),
+            ),
+            (
+                crowded!(LENGTH_AT, 0x98),
+                Finds::Judged(Verdict::Unsound {
+                    rule: 12,
+                    place: Place::Page(0),
+                }),
+            ),
+        ],
+    ),
+    // What the version knows of isn't redone.
+    (
+        "a page that is too full only in between",
+        &[
+            (
+                crowded_between!(0x00, 0x97),
+                Finds::Judged(Verdict::Sound {
+                    records: 20,
+                    commits: 1,
+                }),
+            ),
+            (
+                crowded_between!(0x00, 0x98),
+                Finds::Judged(Verdict::Unsound {
+                    rule: 12,
+                    place: Place::Page(0),
+                }),
+            ),
+            (
+                crowded_between!(0x1d, 0x98),
+                Finds::Judged(Verdict::Sound {
+                    records: 20,
+                    commits: 1,
+                }),
+            ),
+        ],
+    ),
+    (
+        "a page that undo would fill",
+        &[
+            (
+                crowded_by_undo!(0x97),
+                Finds::Judged(Verdict::Sound {
+                    records: 21,
+                    commits: 0,
+                }),
+            ),
+            (
+                crowded_by_undo!(0x98),
+                Finds::Judged(Verdict::Unsound {
+                    rule: 12,
                     place: Place::Page(0),
                 }),
             ),

@@ -1,9 +1,12 @@
 -- The queue of the live groups' frames, and the versions that it leads to.
-use Rattle.std.proofs.Common.{◌≡◌, ℕ, zero, suc, ◌+◌, ◌-◌, ◌*◌, ◌%◌, ◌≤◌, ◌<◌, min, false, List, [], ◌∷◌, ◌++◌, length, get_or, map, take, drop, Option, Some, None, option_map, refl, sym, ap, subst, ◌∙◌, arith}
+use Rattle.std.proofs.Common.{◌≡◌, ◌≢◌, ℕ, zero, suc, ◌+◌, ◌-◌, ◌*◌, ◌%◌, ◌≤◌, ◌<◌, min, Bool, true, false, List, [], ◌∷◌, ◌++◌, length, get_or, map, take, drop, Option, Some, None, option_map, refl, sym, ap, subst, ◌∙◌, arith}
 use Rattle.std.proofs.lemmas.List.{length-map, length-append, map-append, get_or-map}
 use Rattle.std.proofs.lemmas.Option.{none-some}
 use Rattle.site.specs.declared.geometry.Geometry.{Geometry}
-use Rattle.site.specs.State.{Image}
+use Rattle.site.specs.declared.outside.Dev.{Dev}
+use Rattle.site.specs.declared.outside.Dev.TheVariants.{Disk, Flash, Log}
+use Rattle.site.specs.State.{State, Image, reads_of}
+use Rattle.sealed_ring.specs.declared.slots.Shape.{Shape}
 use Rattle.sealed_ring.specs.Ring.{IsLive, hi_of, content_at, units_from}
 use Rattle.sealed_ring.proofs.Heads.{unit_is}
 use Rattle.sealed_ring.proofs.Units.{live_count}
@@ -131,3 +134,18 @@ module _ (g : Geometry) (image : Image) (queue : Queue) (page : ℕ) (slots : 3 
       let last : last_frame page (frames_on g image) ≡ Some (get_or group.0 place.index no_frame) =
       last_is ∙ ap (option_map (λ (p : ℕ × ℕ). get_or (get_or (groups_on g image) p.0 []) p.1 no_frame)) at.found ∙ ap (λ (l : List Frame). Some (get_or l place.index no_frame)) own in
       pages_stand (group_on g image place.group) group.0 place.index no_frame group.1.group within ∙ sym (ap (λ (o : Option Frame). version_by o (disk_on image page)) last)
+
+-- A read of flash or of the disk leaves the log unread.
+
+abbrev is_log : Dev → Bool
+is_log Log = true
+is_log d = false
+
+pub log_unread : (dev : Dev) (old new : State) → dev ≢ Log → ((d : Dev) → d ≢ dev → reads_of d new ≡ reads_of d old) → new.log_reads ≡ old.log_reads
+log_unread dev old new other others = others Log (λ same. other (sym same))
+
+pub disk_is_not_log : Disk ≢ Log
+disk_is_not_log same = let never : false ≡ true = ap is_log same in absurd (grind arith)
+
+pub groups_off_log : (s : Shape) (g : Geometry) → s ≡ group_shape g → s.dev ≢ Log
+groups_off_log s g is same = let never : false ≡ true = sym (ap (λ (x : Shape). is_log x.dev) is) ∙ ap is_log same in absurd (grind arith)

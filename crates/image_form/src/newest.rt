@@ -33,6 +33,7 @@ fn heads_at<S: Site>(
         → IsGroup (group_on g (S.state site.old).image group) frames
         → IfOk result (λ found. found ≡ Some (heads_of frames)) }
     ensures formed { IfOk result (λ found. IfSome found (λ heads. AreGroupHeads heads)) }
+    ensures log { (S.state site.new).log_reads ≡ (S.state site.old).log_reads }
     ensures reads { OnlyReads result (S.state site.old) (S.state site.new) }
 {
     let mut octets = [0u8; HEADS_LEN];
@@ -61,6 +62,7 @@ pub fn find_frames<S: Site>(
     ensures formed { IsTrue (S.state site.old).honest → AreFound rings.now (S.state site.old)
         → AreGroups geometry.now (S.state site.old).image → IfOk result (λ found. IfNone found ⊥) }
     ensures live { IfOk result (λ found. IfSome found (λ frames. AreLive rings.now frames)) }
+    ensures log { (S.state site.new).log_reads ≡ (S.state site.old).log_reads }
     ensures reads { OnlyReads result (S.state site.old) (S.state site.new) }
 {
     let first = rings.groups.oldest();
@@ -102,6 +104,7 @@ pub fn read_version<S: Site>(
         → AreGroups geometry.now (S.state site.old).image
         → ShowsFrames geometry.now (S.state site.old).image frames.now
         → OnOk result (into.new ≡ version_on geometry.now (S.state site.old).image page) }
+    ensures log { (S.state site.new).log_reads ≡ (S.state site.old).log_reads }
     ensures reads { OnlyReads result (S.state site.old) (S.state site.new) }
 {
     let Some(place) = frames.newest(page) else {

@@ -1,2 +1,4 @@
 pub mod Numbered
 pub mod Lined
+mod StreamRows
+mod Following

@@ -1,14 +1,13 @@
 -- The parts of a line.
-use Rattle.std.proofs.Common.{◌≡◌, ℕ, ◌+◌, ◌-◌, ◌*◌, ◌≤◌, ◌<◌, ◌^◌, List, [], ◌∷◌, ◌++◌, length, take, drop, Option, Some, None, Result, Ok, refl, sym, ap, subst, ◌∙◌, arith}
+use Rattle.std.proofs.Common.{◌≡◌, ℕ, ◌+◌, ◌-◌, ◌*◌, ◌≤◌, List, ◌++◌, length, take, drop, Some, sym, ap, ◌∙◌, arith}
 use Rattle.std.specs.Prelude.{codes, decimal}
 use Rattle.std.specs.Result.{result_ok}
 use Rattle.std.proofs.Math.Seq.{drop-append_seam, take-append_seam}
 use Rattle.std.proofs.lemmas.List.{length-append, append_assoc, take_rest}
-use Rattle.std.proofs.lemmas.Option.{same_Some}
 use Rattle.hex.specs.Hex.{encode_lower, decode_sized, lower_digits}
 use Rattle.hex.proofs.HexLemmas.{length-encode_with, decode_sized-encode_lower}
 use Rattle.log_records.specs.declared.TheConstants.{BLOCK_LEN}
-use Rattle.log_archive.specs.Lines.{block_text, end_text, IsBlockLine, IsEndLine}
+use Rattle.log_archive.specs.Lines.{IsBlockLine, IsEndLine}
 use Rattle.log_archive.specs.Numbers.{number_in}
 use Rattle.log_archive.proofs.Numbered.{number_in-decimal}
 

@@ -1,2 +1,5 @@
 pub mod Lines
 pub mod Numbers
+pub mod Accepted
+pub mod Laws
+pub mod Rows

@@ -6,8 +6,10 @@
 //! | `end N` | N is the number of the block that would come next |
 #![tactic(auto)]
 
+mod laws;
 mod read;
 mod written;
 
+pub use laws::{archives_join, followers_are_accepted, streams_by_hand};
 pub use read::{read_block, read_end};
 pub use written::{STREAM_LINE_MAX, StreamLine, block_line, end_line};

@@ -64,13 +64,6 @@ module _ (log : List Entry) (x : Unfinished) (is : IsUnfinished log x) where
   pub update_is_last : (u : Entry) (rest : List Entry) → x.chain ≡ u ∷ rest → is_update u.rec ≡ true → left_open log x.txn ≡ u ∷ updates_in rest
   update_is_last u rest split update = sym is.left_is ∙ ap updates_in split ∙ reads_update u rest update
 
-  -- where nothing is read nothing is left
-  pub nothing_left : x.chain ≡ [] → left_open log x.txn ≡ []
-  nothing_left none = sym is.left_is ∙ ap updates_in none
-
-  pub none_remains : x.chain ≡ [] → x.remaining ≡ 0
-  none_remains none = is.remaining_is ∙ ap length (nothing_left none)
-
   -- A CLR is read, and undoing goes on where it says.
   pub clr_is_read : (c : Entry) (rest : List Entry) → x.chain ≡ c ∷ rest → is_clr c.rec ≡ true → IsUnfinished log (past_clr x c)
   clr_is_read c rest split clr = grind (arith, first_read, reads_clr)

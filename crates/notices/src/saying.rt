@@ -135,17 +135,6 @@ fn say_no_files<R: Eprint>(rt: &R, seen: &Seen) -> bool {
     false
 }
 
-// Says why a run or a load has no database to work on, and what to do.
-fn say_no_database<R: Eprint>(rt: &R, seen: &Seen) {
-    if say_no_files(rt, seen) {
-        return;
-    }
-    let _ = eprintln!(rt;
-        "face: what face.log, face.flash and face.disk hold isn't sound, isn't of one database, or is an older \
-        version's: face check tells which rule fails. Bring back all three files of one copy"
-    );
-}
-
 // What is so where this rule of sound devices fails.
 fn broken(rule: u8) -> &'static str {
     match rule {
@@ -198,7 +187,7 @@ fn say_place<R: Eprint>(rt: &R, rule: u8, place: Place, what: &str) {
 }
 
 // Says why the devices aren't sound and where, as far as it is known, and what to do.
-fn say_unsound<R: Eprint>(rt: &R, seen: &Seen, place: Option<Place>) {
+fn say_unsound<R: Eprint>(rt: &R, seen: &Seen, failing: Option<(u8, Place)>) {
     if say_no_files(rt, seen) {
         return;
     }
@@ -206,13 +195,28 @@ fn say_unsound<R: Eprint>(rt: &R, seen: &Seen, place: Option<Place>) {
         return;
     };
     let what = broken(rule);
-    match place {
-        Some(place) => say_place(rt, rule, place, what),
+    match failing {
+        Some((_rule, place)) => say_place(rt, rule, place, what),
         None => {
             let _ = eprintln!(rt; "face: rule {rule} fails: {what}");
         }
     }
     let _ = rt.eprintln("face: bring back all three files of one copy");
+}
+
+// Says why a run or a load has no database to work on, where the devices fail which rule, as far as it is known, and
+// what to do.
+fn say_no_database<R: Eprint>(rt: &R, seen: &Seen, failing: Option<(u8, Place)>) {
+    if say_no_files(rt, seen) {
+        return;
+    }
+    if let Some((rule, place)) = failing {
+        say_place(rt, rule, place, broken(rule));
+    }
+    let _ = eprintln!(rt;
+        "face: what face.log, face.flash and face.disk hold isn't sound, isn't of one database, or is an older \
+        version's: face check tells which rule fails. Bring back all three files of one copy"
+    );
 }
 
 // Says why no database of these sizes is made, and what to do.
@@ -245,8 +249,15 @@ fn say_refused<R: Eprint>(rt: &R, watch: Watch) {
     }
 }
 
-/// Says on standard error why the program ends with this status, where there is something to say.
-pub fn say<R: Eprint>(rt: &R, status: u8, words: &[String], seen: &Seen, place: Option<Place>) {
+/// Says on standard error why the program ends with this status, where there is something to say; of devices that
+/// aren't sound the rule that fails and where, as far as it was found.
+pub fn say<R: Eprint>(
+    rt: &R,
+    status: u8,
+    words: &[String],
+    seen: &Seen,
+    failing: Option<(u8, Place)>,
+) {
     say_refused(rt, seen.watch);
     match status {
         2 => say_words(rt, words),
@@ -257,7 +268,7 @@ pub fn say<R: Eprint>(rt: &R, status: u8, words: &[String], seen: &Seen, place: 
         }
         9 => match sizes(words) {
             Some(geometry) => say_not_made(rt, seen, geometry),
-            None => say_no_database(rt, seen),
+            None => say_no_database(rt, seen, failing),
         },
         10 => {
             let _ = eprintln!(rt;
@@ -265,7 +276,12 @@ pub fn say<R: Eprint>(rt: &R, status: u8, words: &[String], seen: &Seen, place: 
                 go to another folder"
             );
         }
-        11 => say_unsound(rt, seen, place),
+        11 => say_unsound(rt, seen, failing),
+        12 => {
+            let _ = rt.eprintln(
+                "face: the log has no block of that number: gone names the oldest that it has, ahead the one that comes next",
+            );
+        }
         16 => {
             let _ = eprintln!(rt;
                 "face: that line of the input is no touch: each is r PAGE or w PAGE, PAGE 0 to 65535, and there are at \

@@ -14,6 +14,8 @@ enum Step {
     // A session's last write is taken back; it ends.
     TakeBack(u32),
     End(u32),
+    // Whether no record has a footprint.
+    IsEmpty(bool),
     // The longest length on a record, where it has a footprint.
     Longest(u32, Option<usize>),
     // What a page needs, where each of its records has so many octets now, and a slot is to have so many.
@@ -43,6 +45,7 @@ fn holds(footprints: &mut Footprints, step: Step) -> Result<bool, AllocError>
             footprints.end(session % 8);
             Ok(true)
         }
+        Step::IsEmpty(empty) => Ok(footprints.is_empty() == empty),
         Step::Longest(number, longest) => Ok(footprints.longest(number) == longest),
         Step::Need(page, now, slot, length, need) => {
             Ok(footprints.need(page % 65536, &[now; 32], slot % 32, length) == need)
@@ -65,7 +68,9 @@ fn play(alloc: Global, steps: &[Step]) -> Result<usize, AllocError> {
 // write that is taken back leaves what counted before it.
 const WRITTEN_OVER: &[Step] = &[
     Step::Longest(7, None),
+    Step::IsEmpty(true),
     Step::Write(7, 10, 4),
+    Step::IsEmpty(false),
     Step::Longest(7, Some(10)),
     Step::Write(7, 4, 30),
     Step::Longest(7, Some(30)),
@@ -77,6 +82,7 @@ const WRITTEN_OVER: &[Step] = &[
     Step::Longest(7, Some(10)),
     Step::TakeBack(7),
     Step::Longest(7, None),
+    Step::IsEmpty(true),
     Step::TakeBack(7),
     Step::Longest(7, None),
 ];

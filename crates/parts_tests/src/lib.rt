@@ -16,6 +16,8 @@ mod lock_table_tests;
 #[cfg(test)]
 mod log_archive_tests;
 #[cfg(test)]
+mod log_judge_tests;
+#[cfg(test)]
 mod meta_segments_tests;
 #[cfg(test)]
 mod record_model_tests;

@@ -9,7 +9,7 @@ use Rattle.std.specs.List.{AllByRecursion, range_with_len}
 use Rattle.std.proofs.lemmas.Bool.{lt-ltb}
 use Rattle.site.specs.declared.outside.Dev.TheVariants.{Log}
 use Rattle.site.specs.declared.geometry.Geometry.{Geometry}
-use Rattle.site.specs.State.{State, IsQuiet}
+use Rattle.site.specs.State.{State, Image, IsQuiet}
 use Rattle.site.specs.Calls.{Preserves}
 use Rattle.site.specs.Moments.{LeavesOnly, ChangesOnly}
 use Rattle.site.proofs.Laws.{leaves_weaker}
@@ -24,12 +24,12 @@ use Rattle.log_store.specs.LogList.{LogList, sealed_if, changes_if, with_record}
 use Rattle.log_store.specs.Representation as log_store
 use Rattle.log_store.specs.Representation.{HasBlocks, LeavesLog, has_tail, end_of}
 use Rattle.buffer_pool.specs.declared.frame.Frame.{Frame}
-use Rattle.write_ahead.specs.Forcing.{IsLogged, end_forced}
+use Rattle.write_ahead.specs.Forcing.{IsLogged}
 use Rattle.page_store.specs.declared.store.PageStore.{PageStore}
 use Rattle.page_store.specs.Representation.{IsStore, current, content_by}
 use Rattle.buffer_pool.specs.Frames.{frame_of}
 use Rattle.page_store.specs.Ahead.{AreSealed, LeavesSealed, IsAhead, sealed_end}
-use Rattle.page_store.specs.Leaves.{AreReady, HasQueue, LeavesRings}
+use Rattle.page_store.specs.Leaves.{AreReady, LeavesPages, LeavesRings}
 use Rattle.checkpoint.specs.declared.master.Master.{Master}
 use Rattle.image_meaning.specs.Meaning.{next_block_under, logical_image_under, master_of, versions_on, version_in, kept_by}
 use Rattle.image_meaning.specs.Moments.{LeavesTableUnder}
@@ -111,6 +111,39 @@ module _ (pages : PageStore) (site new : State) (changes : ChangesOnly Log site 
         };
       }
 
+-- the rings stay sound behind a tail that is sealed
+pub rings_now : (newest : Option Master) (g g' : Geometry) (sealing : Bool) (list : LogList) (old new : Image) → g' ≡ g → AreRingsSoundUnder newest g old → Reaches g' (changes_if sealing list) old new → AreRingsSoundUnder newest g new
+rings_now newest g g' sealing list old new same rings reaches =
+    rings_kept newest g (changes_if sealing list) old new rings (sealing_keeps g old sealing list) (subst (λ (k : Geometry). Reaches k (changes_if sealing list) old new) same reaches)
+
+-- What a crash leaves while a tail may be sealed.
+module _ (log : LogStore) (pages : PageStore) (site new : State) (newest : Option Master) (sealing : Bool) (list : LogList) (ready : AreReady pages log list site) (rings : AreRingsSoundUnder newest pages.flash.geometry site.image)
+    (are_sealed : AreSealed pages.flash.geometry site.image) (sizes : log.geometry ≡ pages.flash.geometry) (quiet : IsQuiet site) (changes : ChangesOnly Log site new) (leaves : LeavesOnly site new (LeavesLog log.geometry sealing list site.told))
+    (front : LeavesFront log.geometry (changes_if sealing list) site new) where
+  at_log : LeavesOnly site new (LeavesLog pages.flash.geometry sealing list site.told)
+  at_log = subst (λ (k : Geometry). LeavesOnly site new (LeavesLog k sealing list site.told)) sizes leaves
+
+  at_front : LeavesFront pages.flash.geometry (changes_if sealing list) site new
+  at_front = subst (λ (k : Geometry). LeavesFront k (changes_if sealing list) site new) sizes front
+
+  rings_stay : LeavesOnly site new (LeavesRings newest pages.flash.geometry)
+  rings_stay =
+      leaves_weaker site new (IsReached pages.flash.geometry (IsFrontOf (changes_if sealing list)) site) (LeavesRings newest pages.flash.geometry)
+      (λ s is. rings_kept newest pages.flash.geometry is.changes site.image s.image rings (all_front pages.flash.geometry site.image is.changes is.made.0 (subst (KeepsRingsAll pages.flash.geometry site.image) is.made.1 (sealing_keeps pages.flash.geometry site.image sealing list))) is.reaches)
+      at_front
+
+  sealed_stay : LeavesOnly site new (LeavesSealed pages.flash.geometry)
+  sealed_stay = sealed_beside pages.flash.geometry sealing list site new quiet (subst (λ (k : Geometry). HasBlocks k list.first list.blocks site.image) sizes ready.records.blocks) are_sealed changes at_log
+
+  -- the pages, the LSNs of their versions, and the rings
+  pub pages_stay : LeavesOnly site new (LeavesPages pages.flash.geometry (current pages site.image) sealing list site) × LeavesOnly site new (LeavesSealed pages.flash.geometry) × LeavesOnly site new (LeavesRings newest pages.flash.geometry)
+  pages_stay = (
+    (leaves_beside ring_kept) pages.flash.geometry sealing list (current pages site.image) site new quiet
+        (record { first = pages.flash.directory.first; groups = ready.pages.groups; has = ready.pages.holds.has; saved = ready.pages.holds.saved }) ready.pages.clean changes at_log at_front,
+    sealed_stay,
+    rings_stay,
+  )
+
 module _ (log : LogStore) (pages : PageStore) (site : State) (newest : Option Master) (records : List Entry) (table : List Content) (commits : ℕ) (h : Represents log pages site newest records table commits) (sizes : log.geometry ≡ pages.flash.geometry) where
   abbrev g : Geometry
   g = pages.flash.geometry
@@ -119,40 +152,11 @@ module _ (log : LogStore) (pages : PageStore) (site : State) (newest : Option Ma
   list = record { first = kept_by newest; blocks = h.log_holds.blocks; tail = h.log_holds.tail }
 
   -- At each moment.
-  module _ (new : State) (sealing : Bool) (quiet : IsQuiet site) (changes : ChangesOnly Log site new) (leaves : LeavesOnly site new (LeavesLog log.geometry sealing list site.told)) (front : LeavesFront log.geometry (changes_if sealing list) site new) where
-    at_log : LeavesOnly site new (LeavesLog g sealing list site.told)
-    at_log = subst (λ (k : Geometry). LeavesOnly site new (LeavesLog k sealing list site.told)) sizes leaves
-
-    at_front : LeavesFront g (changes_if sealing list) site new
-    at_front = subst (λ (k : Geometry). LeavesFront k (changes_if sealing list) site new) sizes front
-
-    queue_is : HasQueue g site.image
-    queue_is = record { first = pages.flash.directory.first; groups = h.log_holds.ready.pages.groups; has = h.log_holds.ready.pages.holds.has; saved = h.log_holds.ready.pages.holds.saved }
-
-    pub rings_stay : LeavesOnly site new (LeavesRings newest g)
-    rings_stay =
-        leaves_weaker site new (IsReached g (IsFrontOf (changes_if sealing list)) site) (LeavesRings newest g)
-        (λ s is. rings_kept newest g is.changes site.image s.image h.log_holds.rings (all_front g site.image is.changes is.made.0 (subst (KeepsRingsAll g site.image) is.made.1 (sealing_keeps g site.image sealing list))) is.reaches)
-        at_front
-
-    pub sealed_stay : LeavesOnly site new (LeavesSealed g)
-    sealed_stay =
-        sealed_beside g sealing list site new quiet (subst (λ (k : Geometry). HasBlocks k (kept_by newest) h.log_holds.blocks site.image) sizes h.log_holds.ready.records.blocks) h.log_holds.ahead.versions changes at_log
-
-    pub append_leaves : IsStore pages → (sealing ≡ true → has_tail log ≡ true) → LeavesOnly site new (LeavesTableUnder newest g table commits site.told)
-    append_leaves own some =
-        leaves_table log pages site newest records table commits h own sealing some new
-        ((leaves_beside ring_kept) g sealing list (current pages site.image) site new quiet queue_is h.log_holds.ready.pages.clean changes at_log at_front) sealed_stay rings_stay
-
-  -- At its end.
-  module _ (new : State) (sealing : Bool) where
-    pub rings_now : Reaches log.geometry (changes_if sealing list) site.image new.image → AreRingsSoundUnder newest g new.image
-    rings_now reaches =
-        rings_kept newest g (changes_if sealing list) site.image new.image h.log_holds.rings (sealing_keeps g site.image sealing list)
-        (subst (λ (k : Geometry). Reaches k (changes_if sealing list) site.image new.image) sizes reaches)
-
-    pub sealed_now : (log' : LogStore) → ChangesOnly Log site new → log'.geometry ≡ log.geometry → log_store.Finds log' new → log.ring.hi ≤ log'.ring.hi → AreSealed g new.image
-    sealed_now log' changes same finds more = more_sealed pages site new changes log log' sizes same h.log_holds.ready.blocks finds more h.log_holds.ahead.versions
+  pub append_leaves : (new : State) (sealing : Bool) → IsQuiet site → ChangesOnly Log site new → LeavesOnly site new (LeavesLog log.geometry sealing list site.told) → LeavesFront log.geometry (changes_if sealing list) site new → IsStore pages → (sealing ≡ true → has_tail log ≡ true) →
+      LeavesOnly site new (LeavesTableUnder newest g table commits site.told)
+  append_leaves new sealing quiet changes leaves front own some =
+      let stay = pages_stay log pages site new newest sealing list h.log_holds.ready h.log_holds.rings h.log_holds.ahead.versions sizes quiet changes leaves front in
+      leaves_table log pages site newest records table commits h own sealing some new stay.0 stay.1 stay.2
 
   -- Behind it.
   module _ (new : State) (changes : ChangesOnly Log site new) where
@@ -197,9 +201,7 @@ module _ (log : LogStore) (pages : PageStore) (site : State) (newest : Option Ma
       ready_now = record { pages = fits_beside pages site new is.changes is.preserves h.log_holds.ready.pages; blocks = is.finds; records = before.holds }
 
       ahead_still : IsAhead log' pages new.image
-      ahead_still =
-          let more = least_blocks log log' lsn sealing is.numbers in
-          record { pool = logged_more (end_forced log) (end_forced log') (omega (arith, more)) pages.pool.frames h.log_holds.ahead.pool; versions = are_sealed }
+      ahead_still = grind (arith, least_blocks, logged_more)
 
       -- the record comes last in the tail
       pub ends_with : KeepsPages g pages site.image new.image → end_of log ≤ lsn →

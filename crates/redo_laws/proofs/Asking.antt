@@ -1,4 +1,5 @@
 -- Calls that ask the cache for work, one after the other.
+use Rattle.std.proofs.lemmas.Grind.{common_steps}
 use Rattle.std.proofs.Common.{◌≡◌, ◌+◌, ◌*◌, ◌≤◌, Bool, true, false, List, [], ◌++◌, arith, refl, sym, ap, subst, ◌∙◌, ℕ}
 use Rattle.std.specs.Prelude.{Result, Ok, Err, IsErrOf, if◌then◌else◌, IsTrue, OnOk}
 use Rattle.site.specs.declared.outside.Dev.TheVariants.{Flash, Disk, Log}
@@ -44,10 +45,7 @@ change_next : (r : Rules) (page : ℕ) (cache : Cache) → 1 ≤ r.groups → ne
 change_next r page cache some = touched_next r page true cache some ∙ sym (touched_next r page false cache some)
 
 pub change_reads : (r : Rules) (page : ℕ) (cache : Cache) (before now : State) → 1 ≤ r.groups → ReadsFor r (one_touch page) cache before now → ReadsFor r (one_change page) cache before now
-change_reads r page cache before now some reads = record {
-  flash = omega (arith, reads.flash, change_next r page cache some);
-  disk = reads.disk;
-}
+change_reads r page cache before now some reads = grind (arith, change_next)
 
 pub change_stages : {T : Type 0} (result : Result T Stop) (page : ℕ) (old new : PageStore) (before now : State) → 1 ≤ (rules old).groups → StagesFor result (one_touch page) old new before now → StagesFor result (one_change page) old new before now
 change_stages result page old new before now some stages = stages_as refl (sym (change_next (rules old) page (cache_of old) some)) stages
@@ -89,8 +87,7 @@ pub asks_then : {A B : Type 0} (a : A) (result : Result B Stop) (first later : L
 asks_then a result first later old mid new before between now one two =
     let start : cache_of mid ≡ after_works (rules old) first (cache_of old) = one.machine in
     let all : after_works (rules old) (first ++ later) (cache_of old) ≡ after_works (rules old) later (after_works (rules old) first (cache_of old)) = ops_compose (rules old) first later (cache_of old) in
-    let there : after_works (rules mid) later (cache_of mid) ≡ after_works (rules old) (first ++ later) (cache_of old) =
-    ap (λ r. after_works r later (cache_of mid)) one.rules_are ∙ ap (after_works (rules old) later) start ∙ sym all in
+    let there : after_works (rules mid) later (cache_of mid) ≡ after_works (rules old) (first ++ later) (cache_of old) = grind (arith, common_steps) in
     record {
       machine = ok_as result _ _ (λ is. is ∙ there) two.machine;
       reads = reads_add_up (rules old) first later (cache_of old) before between now one.reads
@@ -132,9 +129,4 @@ asks_err stop works old new before now asks = record { machine = tt; reads = ask
 
 -- a call that fails behind it for another reason
 pub asks_fails : {A B : Type 0} (a : A) (stop : Stop) (works : List CacheOp) (old new : PageStore) (before now : State) → StepsMachine {T = A} (Ok a) works old new before now → StepsMachine {T = B} (Err stop) works old new before now
-asks_fails a stop works old new before now asks = record {
-  machine = tt;
-  reads = asks.reads;
-  rules_are = asks.rules_are;
-  stages = stages_err asks.stages;
-}
+asks_fails a stop works old new before now asks = grind (arith, stages_err)

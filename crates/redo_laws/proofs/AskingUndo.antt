@@ -1,4 +1,5 @@
 -- What undo asks of the cache: calls on the log alone, and one Update after the other.
+use Rattle.std.proofs.lemmas.Grind.{common_steps}
 use Rattle.std.proofs.Common.{◌≡◌, ◌≢◌, ◌⊎◌, inl, inr, ◌+◌, ◌*◌, ◌<◌, ◌≤◌, true, List, [], ◌∷◌, ◌++◌, append_assoc, append-nil, Option, Some, arith, refl, sym, ap, ◌∙◌, ℕ}
 use Rattle.std.specs.Prelude.{Result, Ok, Err, OnOk, option_map, ⊤}
 use Rattle.std.specs.List.{cons_option}
@@ -11,7 +12,6 @@ use Rattle.site.specs.State.{State, reads_of}
 use Rattle.site.specs.Calls.{SameReads}
 use Rattle.record_model.specs.Touches.{CacheOp, touch, page_of, write_touch}
 use Rattle.log_records.specs.Log.{Entry, number_of}
-use Rattle.log_records.specs.Restart.{undo_touch}
 use Rattle.second_chance.specs.Machine.{Rules, Cache, touched, staged_by_works}
 use Rattle.page_store.specs.declared.store.PageStore.{PageStore}
 use Rattle.page_store.specs.Caching.{cache_of, rules, with_change}
@@ -71,12 +71,7 @@ asks_later result works old new before between now same still asks = record {
 -- its page is touched, which stops
 pub change_stopped : {A B : Type 0} (stop : Stop) (page : ℕ) (old new : PageStore) (before now : State) → 1 ≤ (rules old).groups →
     StepsMachine {T = A} (Err stop) (one_touch page) old new before now → StepsMachine {T = B} (Err stop) (one_change page) old new before now
-change_stopped stop page old new before now some asks = record {
-  machine = tt;
-  reads = change_reads (rules old) page (cache_of old) before now some asks.reads;
-  rules_are = asks.rules_are;
-  stages = change_stages (Err stop) page old new before now some (stages_err asks.stages);
-}
+change_stopped stop page old new before now some asks = grind (arith, change_reads, change_stages, stages_err)
 
 -- and changed then
 pub change_made : {A B : Type 0} (a : A) (result : Result B Stop) (page : ℕ) (old mid new : PageStore) (before between now : State) → 1 ≤ (rules old).groups →
@@ -87,10 +82,7 @@ change_made a result page old mid new before between now some asks changed same 
     let none = none_read between now read in
     record {
       machine = ok_as result _ _ (λ is. is ∙ there) changed;
-      reads = change_reads (rules old) page (cache_of old) before now some (record {
-        flash = (let reads = asks.reads.flash in omega (arith, reads, none.flash));
-        disk = (let reads = asks.reads.disk in omega (arith, reads, none.disk));
-      });
+      reads = grind (arith, common_steps, change_reads);
       rules_are = same ∙ asks.rules_are;
       stages = change_stages result page old new before now some
           (stages_as (append-nil (staged_by_works (rules old) (one_touch page) (cache_of old))) (ap next_group asks.machine) (stages_then (λ has. omega (arith, ap next_group asks.machine)) asks.stages still));
@@ -108,6 +100,4 @@ work_is u page slot less is =
 
 -- all that are left: those that were undone, the next one, and the others
 pub works_are : (done rest : List Entry) (u : Entry) → works_of (done ++ u ∷ rest) ≡ (works_of done ++ works_of (u ∷ [])) ++ works_of rest
-works_are done rest u =
-    let all : (done ++ u ∷ []) ++ rest ≡ done ++ u ∷ rest = simp append_assoc in
-    sym (ap works_of all) ∙ filter_map-append undo_touch (done ++ u ∷ []) rest ∙ ap (λ (w : List CacheOp). w ++ works_of rest) (filter_map-append undo_touch done (u ∷ []))
+works_are done rest u = grind (arith, append_assoc, filter_map-append)

@@ -1,20 +1,20 @@
 -- Calls one behind the other, and a site of which only was read.
+use Rattle.std.proofs.lemmas.Grind.{common_steps}
 use Rattle.page_store.specs.Leaves.{AreReady}
 use Rattle.log_records.specs.Sound.{Means}
 use Rattle.log_records.specs.declared.log_record.LogRecord.{LogRecord}
 use Rattle.page_store.proofs.Beside.{fits_beside}
 use Rattle.image_meaning.proofs.UnchangedImages.{next_block_is}
 use Rattle.log_laws.proofs.Tails.{carries_nothing}
-use Rattle.std.proofs.Common.{◌≡◌, ℕ, ◌<◌, ◌≤◌, Bool, false, nat_lt, arith, append-nil, [], List, refl, sym, ap, subst, ◌∙◌}
-use Rattle.std.specs.Prelude.{if◌then◌else◌, Option}
-use Rattle.site.specs.declared.outside.Dev.TheVariants.{Log, Flash, Disk}
+use Rattle.std.proofs.Common.{◌≡◌, ℕ, ◌<◌, ◌≤◌, nat_lt, arith, append-nil, [], List, refl, sym, subst, ◌∙◌}
+use Rattle.std.specs.Prelude.{Option}
+use Rattle.site.specs.declared.outside.Dev.TheVariants.{Log}
 use Rattle.site.specs.declared.geometry.Geometry.{Geometry}
 use Rattle.site.specs.State.{State, Image, IsQuiet}
 use Rattle.site.specs.Calls.{Preserves, IsUnchanged}
 use Rattle.site.proofs.Laws.{in_sequence, holds_now, no_call, unchanged_calm, stays_honest, quiet_leaves}
-use Rattle.site.specs.Moments.{Leaves, LeavesOnly, SameBut, ChangesOnly}
-use Rattle.sealed_ring.specs.Ring.{IsRing, FitsIn, hi_of}
-use Rattle.image_changes.specs.Rings.{log_shape, KeepsUnits, master_shape}
+use Rattle.site.specs.Moments.{Leaves, LeavesOnly, ChangesOnly}
+use Rattle.image_changes.specs.Rings.{KeepsUnits, master_shape}
 use Rattle.record_model.specs.State.{Content}
 use Rattle.log_records.specs.Log.{Entry, log_from}
 use Rattle.log_store.specs.declared.store.LogStore.{LogStore}
@@ -50,10 +50,7 @@ and_then newest g g' old mid new table commits same first second =
 
 -- reading changes no device
 pub only_read : (old new : State) → IsUnchanged old new → ChangesOnly Log old new
-only_read old new same = record {
-  only = unchanged_calm old old new (SameBut Log old) (no_call old (SameBut Log old) (record { told = refl; telling = refl; content = λ d other. refl; loose = λ d other. refl })) same;
-  left = same.left;
-}
+only_read old new same = grind (arith, common_steps, unchanged_calm, no_call)
 
 -- log and pages hold together still
 pub holds_still : (log : LogStore) (pages : PageStore) (old new : State) (newest : Option Master) (records : List Entry) (table : List Content) (commits : ℕ) → Preserves old new → IsUnchanged old new → Represents log pages old newest records table commits → Represents log pages new newest records table commits
@@ -66,11 +63,7 @@ holds_still log pages old new newest records table commits goes same h =
         tail = h.log_holds.tail;
         ready = record {
           pages = fits_beside pages old new (only_read old new same) goes ready.pages;
-          blocks = record {
-            honest = stays_honest old new goes ready.blocks.honest;
-            form = subst (λ (i : Image). IsRing (log_shape log.geometry) i.log) (sym same.image) ready.blocks.form;
-            hi = subst (λ (i : Image). log.ring.hi ≡ hi_of (log_shape log.geometry) i.log) (sym same.image) ready.blocks.hi;
-          };
+          blocks = grind (arith, common_steps, stays_honest);
           records = subst (λ (i : Image). log_store.Represents log i (record { first = kept_by newest; blocks = h.log_holds.blocks; tail = h.log_holds.tail })) (sym same.image) ready.records;
         };
         rings = subst (AreRingsSoundUnder newest pages.flash.geometry) (sym same.image) h.log_holds.rings;
@@ -84,42 +77,11 @@ holds_still log pages old new newest records table commits goes same h =
 
 -- they may still go on
 pub going_still : (log : LogStore) (pages : PageStore) (old new : State) → Preserves old new → Invariant log pages old → Invariant log pages new
-going_still log pages old new goes may = record {
-  log_going = record {
-    limits = may.log_going.limits;
-    lengths = record { log = goes.sizes Log ∙ may.log_going.lengths.log; flash = goes.sizes Flash ∙ may.log_going.lengths.flash; disk = goes.sizes Disk ∙ may.log_going.lengths.disk };
-    usable = record { fits = subst (FitsIn log.ring.shape) (sym (goes.sizes log.ring.shape.dev)) may.log_going.usable.fits; bounded = may.log_going.usable.bounded };
-    shape = may.log_going.shape;
-    kept = may.log_going.kept;
-    live = may.log_going.live;
-    low = may.log_going.low;
-    high = may.log_going.high;
-  };
-  pages_going = record {
-    flash = flash_later pages.flash old new goes may.pages_going.flash;
-    own = may.pages_going.own;
-  };
-  sizes = may.sizes;
-  room = may.room;
-}
+going_still log pages old new goes may = grind (arith, flash_later)
 
 -- what stands there is sound
 pub sound_there : (log : LogStore) (pages : PageStore) (site : State) (newest : Option Master) (records : List Entry) (table : List Content) (commits : ℕ) → log.geometry ≡ pages.flash.geometry → (h : Represents log pages site newest records table commits) → IsSoundUnder newest pages.flash.geometry site.image h.log_holds.blocks
-sound_there log pages site newest records table commits sizes h =
-    let rings = h.log_holds.rings in
-    record {
-      octets = record {
-        limits = rings.limits;
-        lengths = rings.lengths;
-        masters = rings.masters;
-        segments = rings.segments;
-        groups = rings.groups;
-        versions = h.log_holds.ready.pages.sound;
-        clean = h.log_holds.ready.pages.clean;
-      };
-      held = subst (λ (k : Geometry). HasBlocks k (kept_by newest) h.log_holds.blocks site.image) sizes h.log_holds.ready.records.blocks;
-      records = h.log_holds.runs_on.carries.sound;
-    }
+sound_there log pages site newest records table commits sizes h = grind (arith)
 
 -- and stands for the table
 pub stands_there : (log : LogStore) (pages : PageStore) (site : State) (newest : Option Master) (records : List Entry) (table : List Content) (commits : ℕ) → log.geometry ≡ pages.flash.geometry → Represents log pages site newest records table commits → StandsUnder newest pages.flash.geometry site.image table commits
@@ -138,25 +100,7 @@ leaves_still log pages old new newest records table commits sizes same h quiet =
 
 -- where the tail is empty all records are sealed ones
 pub opened_holds : (log : LogStore) (pages : PageStore) (site : State) (newest : Option Master) (blocks : List (List LogRecord)) (table : List Content) (commits : ℕ) → log.geometry ≡ pages.flash.geometry → log.kept ≡ kept_by newest → AreReady pages log (record { first = kept_by newest; blocks = blocks; tail = [] }) site → IsSoundUnder newest pages.flash.geometry site.image blocks → Means (logical_image_under newest pages.flash.geometry site.image blocks) table commits → ShowRecords pages.flash.geometry pages site.image (log_from (kept_by newest) blocks) → IsAhead log pages site.image → ((page : ℕ) → page < pages.flash.geometry.pages → lsn_of (current pages site.image page) < end_of log) → Represents log pages site newest (log_from (kept_by newest) blocks) table commits
-opened_holds log pages site newest blocks table commits sizes kept ready sound means shows are_ahead below =
-    let p = logical_image_under newest pages.flash.geometry site.image blocks in
-    let empty : log.used ≡ 2 = ready.records.tail.end in
-    let none : has_tail log ≡ false = ap (nat_lt 2) empty in
-    let no_tail : (if has_tail log then 1 else 0) ≡ 0 = ap {B = ℕ} (λ (b : Bool). if b then 1 else 0) none in
-    record {
-      log_holds = record {
-        kept = kept;
-        blocks = blocks;
-        tail = [];
-        ready = ready;
-        rings = record { limits = sound.octets.limits; lengths = sound.octets.lengths; masters = sound.octets.masters; segments = sound.octets.segments; groups = sound.octets.groups };
-        runs_on = record { carries = carries_nothing p sound.records; means = means; no_commit = refl; records_are = append-nil (log_from (kept_by newest) blocks) };
-        ahead = are_ahead;
-        room = (let at = next_block_is newest blocks in omega (arith, ready.blocks.hi, ready.records.blocks.next, sound.records.room_for_undo, no_tail, kept, at));
-      };
-      shows = shows;
-      below = below;
-    }
+opened_holds log pages site newest blocks table commits sizes kept ready sound means shows are_ahead below = grind (arith, nat_lt, carries_nothing, append-nil, next_block_is)
 
 -- the master ring is kept by one call behind others
 pub units_then : (old mid new : Image) → KeepsUnits master_shape old mid → KeepsUnits master_shape mid new → KeepsUnits master_shape old new

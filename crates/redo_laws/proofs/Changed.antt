@@ -1,7 +1,8 @@
 -- What a page shows behind one more record.
+use Rattle.std.proofs.lemmas.Grind.{common_steps}
 use Rattle.page_store.proofs.Fitting.{front_exists}
 use Rattle.log_laws.proofs.Shown.{shown_push}
-use Rattle.std.proofs.Common.{◌≡◌, ◌≢◌, ◌⊎◌, inl, inr, ℕ, ◌+◌, ◌*◌, ◌/◌, ◌≤◌, ◌<◌, ◌==◌, cond, false, List, [], ◌∷◌, ◌++◌, length, Option, None, Some, refl, sym, ap, subst, ◌∙◌, arith}
+use Rattle.std.proofs.Common.{◌≡◌, ◌≢◌, ◌⊎◌, inl, inr, ℕ, ◌+◌, ◌*◌, ◌/◌, ◌≤◌, ◌<◌, false, List, [], ◌∷◌, ◌++◌, length, Option, None, Some, refl, sym, ap, subst, ◌∙◌, arith}
 use Rattle.std.proofs.lemmas.Bool.{cases_eq, ne_eqb, eq-eqb}
 use Rattle.std.proofs.lemmas.Option.{none-some, same_Some}
 use Rattle.site.specs.declared.geometry.Geometry.{Geometry}
@@ -12,15 +13,13 @@ use Rattle.slotted_page.specs.Layout.{lsn_of, slots_of}
 use Rattle.log_store.specs.declared.store.LogStore.{LogStore}
 use Rattle.log_store.specs.Representation.{end_of}
 use Rattle.page_store.specs.declared.store.PageStore.{PageStore}
-use Rattle.page_store.specs.Representation.{current, content_by, Matches, IsStore}
+use Rattle.page_store.specs.Representation.{current, Matches, IsStore}
 use Rattle.page_store.specs.Ahead.{IsAhead}
-use Rattle.flash_cache.specs.Representation.{version_on}
-use Rattle.buffer_pool.specs.declared.frame.Frame.{Frame}
-use Rattle.buffer_pool.specs.Frames.{frame_of, front_of}
+use Rattle.buffer_pool.specs.Frames.{front_of}
 use Rattle.checkpoint.specs.declared.master.Master.{Master}
 use Rattle.image_meaning.specs.Meaning.{versions_on, version_in}
 use Rattle.redo_laws.specs.Holding.{RepresentsLog, RepresentsIn, KeepsPages, Represents}
-use Rattle.log_records.specs.Log.{Entry, Version, number_of, after_of, is_on, is_number, shown}
+use Rattle.log_records.specs.Log.{Entry, Version, number_of, is_on, is_number, shown}
 use Rattle.image_meaning.specs.Redone.{Redoes, AreKnown, ShowsAll}
 use Rattle.flash_cache.proofs.Given.{all_append}
 
@@ -38,31 +37,11 @@ module _ (records : List Entry) (e : Entry) (versions : List Version) (page : �
 
   -- a record that isn't on it
   pub off_page : (v : Version) → ((number : ℕ) → number_of e.rec ≡ Some number → number / 32 ≡ page → ⊥) → ShowsAll records versions page v → ShowsAll (records ++ e ∷ []) versions page v
-  off_page v off shows = record {
-    known = all_append (λ (x : Entry). (number : ℕ) → number_of x.rec ≡ Some number → number / 32 ≡ page → x.lsn ≤ v.lsn) records (e ∷ []) shows.known ((λ number is at. absurd (off number is at)), tt);
-    slots = λ slot less.
-        shows.slots slot less
-        ∙ sym (shown_push records e versions (32 * page + slot) ∙ ap (λ b. cond b (after_of e.rec) (shown records versions (32 * page + slot))) (off_number off slot less));
-  }
+  off_page v off shows = grind (arith, all_append, shown_push, off_number)
 
   -- and one that is, once it is redone
   pub on_page : (number : ℕ) (v w : Version) → number_of e.rec ≡ Some number → v.lsn < e.lsn → Redoes page e number v w → ShowsAll records versions page v → ShowsAll (records ++ e ∷ []) versions page w
-  on_page number v w is later redoes shows = record {
-    known = let lsn = redoes.lsn in
-        all_append (λ (x : Entry). (n : ℕ) → number_of x.rec ≡ Some n → n / 32 ≡ page → x.lsn ≤ w.lsn) records (e ∷ []) (known_more records page v.lsn w.lsn (omega (arith, lsn, later)) shows.known)
-        ((λ n own at. omega (arith, lsn)), tt);
-    slots = λ slot less.
-        redoes.slots slot less ∙ by slot (shows.slots slot less) (cases_eq number (32 * page + slot))
-        ∙ sym (shown_push records e versions (32 * page + slot) ∙ ap (λ o. cond (is_number (32 * page + slot) o) (after_of e.rec) (shown records versions (32 * page + slot))) is);
-  }
-    where
-      by : (slot : ℕ) → content_at v.slots slot ≡ shown records versions (32 * page + slot) → (number ≡ 32 * page + slot) ⊎ (number ≢ 32 * page + slot) →
-          cond (32 * page + slot == number) (after_of e.rec) (content_at v.slots slot) ≡ cond (number == 32 * page + slot) (after_of e.rec) (shown records versions (32 * page + slot))
-      by slot before (inl same) =
-          ap (λ b. cond b (after_of e.rec) (content_at v.slots slot)) (eq-eqb (32 * page + slot) number (sym same)) ∙ sym (ap (λ b. cond b (after_of e.rec) (shown records versions (32 * page + slot))) (eq-eqb number (32 * page + slot) same))
-      by slot before (inr other) =
-          ap (λ b. cond b (after_of e.rec) (content_at v.slots slot)) (ne_eqb (32 * page + slot) number (λ same. other (sym same))) ∙ before
-          ∙ sym (ap (λ b. cond b (after_of e.rec) (shown records versions (32 * page + slot))) (ne_eqb number (32 * page + slot) other))
+  on_page number v w is later redoes shows = grind (arith, all_append, known_more, shown_push, eq-eqb, ne_eqb)
 
 -- The same pages, over images in which each page has the version and the content that it had.
 module _ (g : Geometry) (log log' : LogStore) (pages : PageStore) (site new : State) (newest : Option Master) (records : List Entry) (table : List Content) (commits : ℕ) (h : RepresentsIn g log pages site newest records table commits) (keeps : KeepsPages g pages site.image new.image) where
@@ -116,23 +95,10 @@ module _ (g : Geometry) (log log' : LogStore) (pages : PageStore) (site new : St
 
 -- other pages beside the same log
 pub other_pages : (g : Geometry) (log : LogStore) (pages pages' : PageStore) (site : State) (newest : Option Master) (records : List Entry) (table : List Content) (commits : ℕ) → Matches pages' site → IsAhead log pages' site.image → RepresentsLog g log pages site newest records table commits → RepresentsLog g log pages' site newest records table commits
-other_pages g log pages pages' site newest records table commits fits are_ahead h = record {
-  kept = h.kept;
-  blocks = h.blocks;
-  tail = h.tail;
-  ready = record { pages = fits; blocks = h.ready.blocks; records = h.ready.records };
-  rings = h.rings;
-  runs_on = h.runs_on;
-  ahead = are_ahead;
-  room = h.room;
-}
+other_pages g log pages pages' site newest records table commits fits are_ahead h = grind (arith)
 
 pub front_is_current : (pages : PageStore) (image : Image) → 0 < length pages.pool.frames → current pages image (front_of pages.pool.frames).page ≡ (front_of pages.pool.frames).content
-front_is_current pages image some = ap (λ o. content_by o (version_on pages.flash.geometry image (front_of pages.pool.frames).page)) (found pages.pool.frames some)
-  where
-    found : (frames : List Frame) → 0 < length frames → frame_of frames (front_of frames).page ≡ Some (front_of frames)
-    found [] some = absurd (omega (arith, some))
-    found (frame ∷ frames) some = ap (λ b. cond b (Some frame) (frame_of frames frame.page)) (eq-eqb frame.page frame.page refl)
+front_is_current pages image some = grind (arith, common_steps, eq-eqb)
 
 -- a slot of the page in front has what the last record there has written
 pub front_shows : (log : LogStore) (pages : PageStore) (site : State) (newest : Option Master) (records : List Entry) (table : List Content) (commits slot : ℕ) → IsStore pages → 0 < length pages.pool.frames → slot < 32 → Represents log pages site newest records table commits → content_at (slots_of (front_of pages.pool.frames).content) slot ≡ shown records (versions_on pages.flash.geometry site.image) (32 * (front_of pages.pool.frames).page + slot)

@@ -1,13 +1,12 @@
 -- A Commit is appended and sealed.
-use Rattle.image_changes.proofs.Sequence.{ring_kept}
-use Rattle.image_meaning.proofs.Beside.{rings_kept}
+use Rattle.std.proofs.lemmas.Grind.{common_steps}
 use Rattle.image_meaning.proofs.UnchangedImages.{next_block_is}
 use Rattle.log_laws.proofs.Appends.{commit_follows}
 use Rattle.log_laws.proofs.Owing.{owed_closing}
 use Rattle.log_laws.proofs.Seals.{sealed_count}
 use Rattle.log_laws.proofs.Tails.{carries_more, carries_nothing, commits_more, sealed_tail, tail_with_commit, whole_more, whole_sealed}
-use Rattle.page_store.proofs.Beside.{fits_beside, leaves_beside, sealed_beside}
-use Rattle.std.proofs.Common.{◌≡◌, ℕ, ◌+◌, ◌≤◌, ◌<◌, true, false, List, [], ◌∷◌, ◌++◌, length, inl, inr, refl, sym, ap, subst, ◌∙◌, arith, Option}
+use Rattle.page_store.proofs.Beside.{fits_beside}
+use Rattle.std.proofs.Common.{◌≡◌, ℕ, ◌+◌, ◌≤◌, ◌<◌, true, false, List, [], ◌∷◌, ◌++◌, inl, inr, refl, sym, ap, subst, ◌∙◌, arith, Option}
 use Rattle.std.proofs.lemmas.Option.{none-some}
 use Rattle.site.specs.declared.outside.Dev.TheVariants.{Log}
 use Rattle.site.specs.declared.geometry.Geometry.{Geometry}
@@ -19,13 +18,13 @@ use Rattle.record_model.specs.State.{Content, table_with}
 use Rattle.log_records.specs.declared.log_record.LogRecord.{LogRecord}
 use Rattle.log_records.specs.declared.log_record.LogRecord.TheVariants.{Commit}
 use Rattle.log_records.specs.Spelling.{AreBlock, block_len}
-use Rattle.log_records.specs.Log.{Entry, Version, log_from}
+use Rattle.log_records.specs.Log.{Entry, Version}
 use Rattle.log_records.specs.Unfinished.{owed, owed_by}
 use Rattle.log_records.specs.Sound.{LogicalImage, HasRoom, commit_numbers, commit_count}
 use Rattle.log_laws.specs.Follow.{Follows, sealed, next_entries, writes_in}
 use Rattle.log_laws.specs.Tail.{Carries, whole, next_lsn}
 use Rattle.image_changes.specs.Changes.{Reaches}
-use Rattle.image_changes.specs.Reached.{IsReached, IsFrontOf, LeavesFront}
+use Rattle.image_changes.specs.Reached.{LeavesFront}
 use Rattle.slotted_page.specs.Layout as page
 use Rattle.slotted_page.specs.Layout.{lsn_of}
 use Rattle.log_store.specs.declared.store.LogStore.{LogStore}
@@ -36,19 +35,18 @@ use Rattle.write_ahead.specs.Forcing.{end_forced}
 use Rattle.page_store.specs.declared.store.PageStore.{PageStore}
 use Rattle.page_store.specs.Representation.{IsStore, current}
 use Rattle.page_store.specs.Ahead.{AreSealed, LeavesSealed}
-use Rattle.page_store.specs.Leaves.{HasQueue, LeavesPages, LeavesRings}
+use Rattle.page_store.specs.Leaves.{LeavesPages, LeavesRings}
 use Rattle.checkpoint.specs.declared.master.Master.{Master}
 use Rattle.image_meaning.specs.Meaning.{next_block_under, logical_image_under, master_of, versions_on, version_in, kept_by}
 use Rattle.image_meaning.specs.Redone.{ShowsAll}
 use Rattle.image_meaning.specs.Moments.{LeavesTableUnder, LeavesEitherUnder}
-use Rattle.image_meaning.specs.Beside.{AreRingsSoundUnder, KeepsRingsAll}
-use Rattle.page_store.proofs.Rings.{all_front, sealing_keeps}
+use Rattle.image_meaning.specs.Beside.{AreRingsSoundUnder}
 use Rattle.redo_laws.specs.Running.{RunsOn}
 use Rattle.redo_laws.specs.Holding.{Represents}
 use Rattle.redo_laws.specs.Committing.{MayCommit, EndsWith}
 use Rattle.redo_laws.proofs.Standing.{more_blocks, stands_now, current_sound, last_of_all}
 use Rattle.redo_laws.proofs.Touched.{tail_blocks}
-use Rattle.redo_laws.proofs.Appended.{logged_more, versions_same, current_same, more_sealed}
+use Rattle.redo_laws.proofs.Appended.{logged_more, versions_same, current_same, more_sealed, pages_stay, rings_now}
 use Rattle.redo_laws.proofs.Changed.{off_page}
 
 -- A tail whose last record is a Commit is sealed.
@@ -61,9 +59,7 @@ module _ (p : LogicalImage) (front : List LogRecord) (txn number lsn : ℕ) (rec
   last' = record { lsn = next_lsn p front; rec = Commit txn number }
 
   carries_commit : Carries p (front ++ Commit txn number ∷ [])
-  carries_commit =
-      carries_more p front (Commit txn number) runs.carries
-      (subst (λ (l : List Entry). Follows p.master p.pages l last') (sym runs.records_are) (subst (λ (n : ℕ). Follows p.master p.pages records (record { lsn = n; rec = Commit txn number })) next follows))
+  carries_commit = grind (arith, carries_more)
 
   pub whole_commit : whole p (front ++ Commit txn number ∷ []) ≡ records ++ last ∷ []
   whole_commit = whole_more p front (Commit txn number) ∙ ap (λ (l : List Entry). l ++ last' ∷ []) runs.records_are ∙ ap (λ (n : ℕ). records ++ record { lsn = n; rec = Commit txn number } ∷ []) (sym next)
@@ -82,10 +78,7 @@ module _ (p : LogicalImage) (front : List LogRecord) (txn number lsn : ℕ) (rec
       let sound = sealed_tail p tail carries_commit block room (inr (numbers_are ∙ ap (λ (n : ℕ). n ∷ []) expected)) in
       record {
         carries = carries_nothing (sealed p tail) sound;
-        means = record {
-          table_is = (λ i. table_with (runs.means.table_is i) (writes_in txn (sym runs.records_are i))) ∙ sym (tail_with_commit p front txn number carries_commit runs.no_commit);
-          count_is = let count = sealed_count p tail carries_commit.sound block in let one : length (commit_numbers (next_entries p tail)) ≡ 1 = ap length numbers_are in omega (arith, count_is, count, one);
-        };
+        means = grind (arith, common_steps, tail_with_commit, carries_commit, sealed_count, numbers_are);
         no_commit = refl;
         records_are = whole_sealed p tail ∙ whole_commit;
       }
@@ -137,25 +130,6 @@ module _ (log : LogStore) (pages : PageStore) (site : State) (newest : Option Ma
 
   -- What a crash leaves while it is sealed.
   module _ (new : State) (quiet : IsQuiet site) (changes : ChangesOnly Log site new) (leaves : LeavesOnly site new (LeavesLog log.geometry (has_tail log) list site.told)) (front : LeavesFront log.geometry (changes_if (has_tail log) list) site new) where
-    at_log : LeavesOnly site new (LeavesLog g (has_tail log) list site.told)
-    at_log = subst (λ (k : Geometry). LeavesOnly site new (LeavesLog k (has_tail log) list site.told)) sizes leaves
-
-    at_front : LeavesFront g (changes_if (has_tail log) list) site new
-    at_front = subst (λ (k : Geometry). LeavesFront k (changes_if (has_tail log) list) site new) sizes front
-
-    queue_is : HasQueue g site.image
-    queue_is = record { first = pages.flash.directory.first; groups = m.ready.pages.groups; has = m.ready.pages.holds.has; saved = m.ready.pages.holds.saved }
-
-    pub rings_forced : LeavesOnly site new (LeavesRings newest g)
-    rings_forced =
-        leaves_weaker site new (IsReached g (IsFrontOf (changes_if (has_tail log) list)) site) (LeavesRings newest g)
-        (λ s is. rings_kept newest g is.changes site.image s.image m.rings (all_front g site.image is.changes is.made.0 (subst (KeepsRingsAll g site.image) is.made.1 (sealing_keeps g site.image (has_tail log) list))) is.reaches)
-        at_front
-
-    pub sealed_forced : LeavesOnly site new (LeavesSealed g)
-    sealed_forced =
-        sealed_beside g (has_tail log) list site new quiet (subst (λ (k : Geometry). HasBlocks k (kept_by newest) m.blocks site.image) sizes m.ready.records.blocks) m.ahead.versions changes at_log
-
     sound_given : IsStore pages → (number' : ℕ) → number' < g.pages → page.IsSound (current pages site.image number')
     sound_given store number' exists = current_sound pages site.image number' store (m.ready.pages.sound number' exists)
 
@@ -175,21 +149,13 @@ module _ (log : LogStore) (pages : PageStore) (site : State) (newest : Option Ma
     leaves_either store =
         each_weaker site new (λ q. Leaves (LeavesPages g (current pages site.image) (has_tail log) list site) q × (Leaves (LeavesSealed g) q × Leaves (LeavesRings newest g) q)) (Leaves (LeavesEitherUnder newest g table table' commits site.told))
         (λ q all s left. at_snapshot store s (all.0 s left) (all.1.0 s left) (all.1.1 s left))
-        (each_both site new _ _ ((leaves_beside ring_kept) g (has_tail log) list (current pages site.image) site new quiet queue_is m.ready.pages.clean changes at_log at_front) (each_both site new _ _ sealed_forced rings_forced))
+        (let stay = pages_stay log pages site new newest (has_tail log) list m.ready m.rings m.ahead.versions sizes quiet changes leaves front in each_both site new _ _ stay.0 (each_both site new _ _ stay.1 stay.2))
 
   -- What stands once it is sealed.
-  pub rings_then : (new : State) → Reaches log.geometry (changes_if (has_tail log) list) site.image new.image → AreRingsSoundUnder newest g new.image
-  rings_then new reaches =
-      rings_kept newest g (changes_if (has_tail log) list) site.image new.image m.rings (sealing_keeps g site.image (has_tail log) list)
-      (subst (λ (k : Geometry). Reaches k (changes_if (has_tail log) list) site.image new.image) sizes reaches)
-
-  pub sealed_then : (log' : LogStore) (new : State) → ChangesOnly Log site new → log'.geometry ≡ log.geometry → log_store.Finds log' new → log.ring.hi ≤ log'.ring.hi → AreSealed g new.image
-  sealed_then log' new changes same finds more = more_sealed pages site new changes log log' sizes same m.ready.blocks finds more m.ahead.versions
-
-  pub commit_holds : (log' : LogStore) (new : State) → ChangesOnly Log site new → Preserves site new → AreRingsSoundUnder newest g new.image → AreSealed g new.image → log_store.Finds log' new →
+  pub commit_holds : (log' : LogStore) (new : State) → ChangesOnly Log site new → Preserves site new → Reaches log.geometry (changes_if (has_tail log) list) site.image new.image → log'.geometry ≡ log.geometry → log_store.Finds log' new →
       log_store.Represents log' new.image (sealed_if true list) → log'.ring.hi ≡ log.ring.hi + 1 → log'.kept ≡ log.kept → log'.used ≡ 2 → log.used ≤ block_len → has_tail log' ≡ false →
       Represents log' pages new newest (records ++ record { lsn = lsn; rec = Commit txn number } ∷ []) (table_with table (writes_in txn records)) (commits + 1)
-  commit_holds log' new changes goes rings are_sealed finds holds next same_kept empty high none =
+  commit_holds log' new changes goes reaches geometry finds holds next same_kept empty high none =
       let same = versions_same pages site new changes in
       let stays = current_same pages site new changes in
       let one = ap tail_blocks some in
@@ -201,10 +167,9 @@ module _ (log : LogStore) (pages : PageStore) (site : State) (newest : Option Ma
           blocks = more;
           tail = [];
           ready = record { pages = fits_beside pages site new changes goes m.ready.pages; blocks = finds; records = holds };
-          rings = rings;
-          runs_on = subst (λ (versions : List Version). RunsOn (record { master = (master_of newest); log = log_from (kept_by newest) more; hi = next_block_under newest more; blocks = g.blocks; pages = versions }) [] (records ++ e ∷ []) table' (commits + 1)) (sym same)
-              (runs_after (last_of_all AreBlock m.blocks tail holds.blocks.are_blocks));
-          ahead = record { pool = logged_more (end_forced log) (end_forced log') forced pages.pool.frames m.ahead.pool; versions = are_sealed };
+          rings = rings_now newest g log.geometry (has_tail log) list site.image new.image sizes m.rings reaches;
+          runs_on = grind (arith, common_steps, runs_after, last_of_all);
+          ahead = record { pool = logged_more (end_forced log) (end_forced log') forced pages.pool.frames m.ahead.pool; versions = more_sealed pages site new changes log log' sizes geometry m.ready.blocks finds (omega (arith, next)) m.ahead.versions };
           room = omega (arith, m.room, one, no_tail, next, owed_less, same_kept);
         };
         shows = record {

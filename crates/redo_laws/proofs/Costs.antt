@@ -1,13 +1,13 @@
 -- What work costs the cache: the groups that it appends, and the pages that it reads.
 use Rattle.site.specs.State.{State}
-use Rattle.std.proofs.Common.{◌≡◌, ◌==◌, ℕ, ◌+◌, ◌≤◌, Bool, true, false, ◌&&◌, List, [], ◌∷◌, ◌++◌, reverse, arith, refl, sym, append_assoc, ap, ◌∙◌}
+use Rattle.std.proofs.Common.{◌≡◌, ℕ, ◌+◌, ◌≤◌, Bool, List, [], ◌∷◌, ◌++◌, arith, refl, append_assoc, ◌∙◌}
 use Rattle.std.specs.Prelude.{if◌then◌else◌}
 use Rattle.second_chance.proofs.GroupCounts.{front_next}
 use Rattle.record_model.specs.Touches.{CacheOp, touch, flush}
 use Rattle.std_lemmas.proofs.Bools.{or_true}
 use Rattle.page_store.specs.Laws.{TouchThenChange}
-use Rattle.second_chance.specs.Machine.{Rules, Cache, is_changed, without, evict_coldest, lacks_room, with_room, touched, apply_op, after_works, Staged, staged_by, staged_by_works}
-use Rattle.page_store.specs.Caching.{is_pushed, pushes, rules}
+use Rattle.second_chance.specs.Machine.{Rules, Cache, with_room, touched, apply_op, after_works, staged_by_works}
+use Rattle.page_store.specs.Caching.{pushes, rules}
 use Rattle.redo_laws.specs.MachineSteps.{next_group, finds_in, misses_in, NumbersRise, ReadsFor}
 use Rattle.page_store.proofs.Numbers.{first_next, flushed_next}
 
@@ -19,10 +19,8 @@ ops_compose rules [] later cache = refl
 ops_compose rules (work ∷ works) later cache = ops_compose rules works later (apply_op rules work cache)
 
 pub staged_add_up : (rules : Rules) (first later : List CacheOp) (cache : Cache) → staged_by_works rules (first ++ later) cache ≡ staged_by_works rules first cache ++ staged_by_works rules later (after_works rules first cache)
-staged_add_up rules [] later cache = refl
-staged_add_up rules (work ∷ works) later cache =
-    ap (λ (l : List Staged). staged_by rules work cache ++ l) (staged_add_up rules works later (apply_op rules work cache))
-    ∙ sym (append_assoc (staged_by rules work cache) (staged_by_works rules works (apply_op rules work cache)) (staged_by_works rules later (after_works rules works (apply_op rules work cache))))
+staged_add_up rules [] later cache = grind (arith)
+staged_add_up rules (work ∷ works) later cache = grind (arith, append_assoc, (staged_add_up rules works later (apply_op rules work cache)))
 
 finds_add_up : (rules : Rules) (first later : List CacheOp) (cache : Cache) → finds_in rules (first ++ later) cache ≡ finds_in rules first cache + finds_in rules later (after_works rules first cache)
 finds_add_up rules [] later cache = omega arith
@@ -35,27 +33,16 @@ misses_add_up rules (work ∷ works) later cache = omega (arith, misses_add_up r
 -- Law: work adds up, and so do the pages that it reads; the numbers of the groups that it appends never fall. So what
 -- was read for some work was read for it with more behind it.
 pub reads_add_up : (rules : Rules) (first later : List CacheOp) (cache : Cache) (old mid new : State) → ReadsFor rules first cache old mid → ReadsFor rules later (after_works rules first cache) mid new → ReadsFor rules (first ++ later) cache old new
-reads_add_up rules first later cache old mid new one two =
-    let all : next_group (after_works rules (first ++ later) cache) ≡ next_group (after_works rules later (after_works rules first cache)) = ap next_group (ops_compose rules first later cache) in
-    record {
-      flash = omega (arith, one.flash, two.flash, all, finds_add_up rules first later cache);
-      disk = omega (arith, one.disk, two.disk, misses_add_up rules first later cache);
-    }
+reads_add_up rules first later cache old mid new one two = grind (arith, ops_compose, finds_add_up, misses_add_up)
 
 -- a touch that is to change the page is one without, and then the change
 pub touch_then_change : TouchThenChange
-touch_then_change rules page cache =
-    let c = with_room rules page cache in
-    ap (λ (b : Bool). record { pool = record { page = page; changed = b } ∷ without (λ other. other == page) c.pool; queue = (touched rules page true cache).queue }) (or_true (is_changed c.pool page))
+touch_then_change rules page cache = grind (arith, or_true)
 
 -- The numbers of groups.
 
 room_next : (rules : Rules) (page : ℕ) (cache : Cache) → 1 ≤ rules.groups → next_group (with_room rules page cache) ≡ next_group cache + (if pushes rules page cache then 1 else 0)
-room_next rules page cache some = by (lacks_room rules page cache)
-  where
-    by : (b : Bool) → next_group (if b then evict_coldest rules cache else cache) ≡ next_group cache + (if b && is_pushed cache then 1 else 0)
-    by true = first_next rules (reverse cache.pool) cache some
-    by false = omega arith
+room_next rules page cache some = grind (arith, first_next)
 
 -- a touch appends a group where it pushes
 pub touched_next : (rules : Rules) (page : ℕ) (change : Bool) (cache : Cache) → 1 ≤ rules.groups → next_group (touched rules page change cache) ≡ next_group cache + (if pushes rules page cache then 1 else 0)
@@ -70,13 +57,8 @@ numbers_rise rules [] cache some = omega arith
 numbers_rise rules (work ∷ works) cache some = omega (arith, work_next rules work cache some, numbers_rise rules works (apply_op rules work cache) some)
 
 pub more_next : (rules : Rules) (first later : List CacheOp) (cache : Cache) → 1 ≤ rules.groups → next_group (after_works rules first cache) ≤ next_group (after_works rules (first ++ later) cache)
-more_next rules first later cache some =
-    let all : next_group (after_works rules (first ++ later) cache) ≡ next_group (after_works rules later (after_works rules first cache)) = ap next_group (ops_compose rules first later cache) in
-    omega (arith, all, numbers_rise rules later (after_works rules first cache) some)
+more_next rules first later cache some = grind (arith, ops_compose, numbers_rise)
 
 -- what was read for the first of some work was read for all of it
 pub reads_for_more : (rules : Rules) (first later : List CacheOp) (cache : Cache) (old new : State) → 1 ≤ rules.groups → ReadsFor rules first cache old new → ReadsFor rules (first ++ later) cache old new
-reads_for_more rules first later cache old new some reads = record {
-  flash = omega (arith, reads.flash, more_next rules first later cache some, finds_add_up rules first later cache);
-  disk = omega (arith, reads.disk, misses_add_up rules first later cache);
-}
+reads_for_more rules first later cache old new some reads = grind (arith, more_next, finds_add_up, misses_add_up)

@@ -1,54 +1,34 @@
 -- How calls end, each known by its record.
-use Rattle.std.proofs.Common.{◌≡◌, inl, sym, subst, ◌∙◌, Bool, List}
+use Rattle.std.proofs.Common.{arith}
+use Rattle.std.proofs.Common.{◌≡◌, inl, Bool, List}
 use Rattle.std.specs.Prelude.{Result, Ok, Err}
-use Rattle.site.specs.declared.outside.Dev.TheVariants.{Log, Flash}
 use Rattle.site.specs.declared.outside.Stop.{Stop}
-use Rattle.site.specs.declared.outside.Stop.TheVariants.{Worn, Memory, Foreign}
+use Rattle.site.specs.declared.outside.Stop.TheVariants.{Memory}
 use Rattle.site.specs.declared.geometry.Geometry.{Geometry}
 use Rattle.site.specs.State.{State, Snapshot, IsQuiet}
 use Rattle.site.specs.Moments.{Leaves, LeavesOnly}
 use Rattle.site.proofs.Laws.{in_sequence, leaves_weaker}
 use Rattle.image_changes.specs.Changes.{Change}
-use Rattle.flash_cache.specs.Representation.{IsWorn}
 use Rattle.log_store.specs.declared.store.LogStore.{LogStore}
 use Rattle.log_store.specs.LogList.{LogList}
 use Rattle.page_store.specs.declared.store.PageStore.{PageStore}
 use Rattle.page_store.specs.Calls as page_store
-use Rattle.redo_laws.specs.Holding.{IsLogWorn}
 use Rattle.redo_laws.specs.Calls.{Ends}
 use Rattle.redo_laws.proofs.Asking.{stop_is}
 use Rattle.site.proofs.Working.{err_again, no_error}
 
 pub ends_ok : {T : Type 0} {x : T} {g : Geometry} {before now : State} {P : Snapshot → Type 0} → (IsQuiet before → LeavesOnly before now P) → Ends {T = T} (Ok x) g before now P
-ends_ok {T = T} {x = x} moments = record {
-  any_moment = moments;
-  quiet = λ quiet. tt;
-  worn_log = λ is. absurd (no_error {T = T} {x = x} {e = Worn Log} is);
-  worn = λ is. absurd (no_error {T = T} {x = x} {e = Worn Flash} is);
-  readable = no_error {T = T} {x = x} {e = Foreign};
-}
+ends_ok {T = T} {x = x} moments = grind (arith, no_error)
 
 pub ends_answered : {A B : Type 0} {a : A} {b : B} {g : Geometry} {before now : State} {P : Snapshot → Type 0} → Ends {T = A} (Ok a) g before now P → Ends {T = B} (Ok b) g before now P
 ends_answered first = ends_ok first.any_moment
 
 pub ends_failed : {A B : Type 0} {stop : Stop} {g : Geometry} {before now : State} {P : Snapshot → Type 0} → Ends {T = A} (Err stop) g before now P → Ends {T = B} (Err stop) g before now P
-ends_failed {stop = stop} first = record {
-  any_moment = first.any_moment;
-  quiet = first.quiet;
-  worn_log = λ is. first.worn_log (err_again stop (Worn Log) is);
-  worn = λ is. first.worn (err_again stop (Worn Flash) is);
-  readable = λ is. first.readable (err_again stop Foreign is);
-}
+ends_failed {stop = stop} first = grind (arith, err_again)
 
 -- memory gives out behind one that was Ok
 pub ends_no_memory : {A B : Type 0} {a : A} {stop : Stop} {g : Geometry} {before now : State} {P : Snapshot → Type 0} → stop ≡ Memory → (IsQuiet before → IsQuiet now) → Ends {T = A} (Ok a) g before now P → Ends {T = B} (Err stop) g before now P
-ends_no_memory {B = B} {stop = stop} memory calm first = record {
-  any_moment = first.any_moment;
-  quiet = λ quiet other. calm quiet;
-  worn_log = λ is. (let never : Memory ≡ Worn Log = sym memory ∙ stop_is {U = B} stop (Worn Log) is in absurd cc);
-  worn = λ is. (let never : Memory ≡ Worn Flash = sym memory ∙ stop_is {U = B} stop (Worn Flash) is in absurd cc);
-  readable = λ is. (let never : Memory ≡ Foreign = sym memory ∙ stop_is {U = B} stop Foreign is in cc);
-}
+ends_no_memory {B = B} {stop = stop} memory calm first = grind (arith, stop_is)
 
 -- what a crash leaves, said otherwise
 pub ends_leaving : {T : Type 0} {r : Result T Stop} {g : Geometry} {before now : State} {P R : Snapshot → Type 0} → (LeavesOnly before now P → LeavesOnly before now R) → Ends r g before now P → Ends r g before now R
@@ -65,10 +45,4 @@ ends_by_pages keeps moments = record { any_moment = moments; quiet = keeps.quiet
 
 -- behind a call that leaves a quiet site quiet
 pub ends_behind : {T : Type 0} {r : Result T Stop} {g g' : Geometry} {before between now : State} {P R : Snapshot → Type 0} → (IsQuiet before → IsQuiet between) → g' ≡ g → (IsQuiet before → LeavesOnly between now P → LeavesOnly before now R) → Ends r g' between now P → Ends r g before now R
-ends_behind {now = now} calm same more second = record {
-  any_moment = λ quiet. more quiet (second.any_moment (calm quiet));
-  quiet = λ quiet. second.quiet (calm quiet);
-  worn_log = λ is. subst (λ (x : Geometry). IsLogWorn x now.image) same (second.worn_log is);
-  worn = λ is. subst (λ (x : Geometry). IsWorn x now.image) same (second.worn is);
-  readable = second.readable;
-}
+ends_behind {now = now} calm same more second = grind (arith)

@@ -31,7 +31,7 @@ use Rattle.image_meaning.specs.Redone.{ShowsAll}
 use Rattle.redo_laws.specs.Holding.{Represents, blocks_to}
 use Rattle.redo_laws.proofs.Standing.{last_of_all}
 use Rattle.redo_laws.proofs.Touched.{tail_blocks, runs_sealed}
-use Rattle.redo_laws.proofs.Appended.{logged_more, versions_same, current_same, moved, rings_now, sealed_now}
+use Rattle.redo_laws.proofs.Appended.{logged_more, versions_same, current_same, moved, more_sealed, rings_now}
 
 -- what sealing a tail has done on an honest site
 pub record IsForced (log log' : LogStore) (list : LogList) (site new : State) : Type 0 where
@@ -54,10 +54,7 @@ hi_after false hi hi' some is = absurd (true≢false (sym some))
 
 -- the blocks stay as many
 pub same_blocks : (log log' : LogStore) → has_tail log ≡ true → log'.ring.hi ≡ (if has_tail log then log.ring.hi + 1 else log.ring.hi) → log'.used ≡ 2 → blocks_to log' ≡ blocks_to log
-same_blocks log log' some next empty =
-    let one : (if has_tail log then 1 else 0) ≡ 1 = ap tail_blocks some in
-    let none : (if has_tail log' then 1 else 0) ≡ 0 = ap tail_blocks (none_now log' empty) in
-    omega (arith, hi_after (has_tail log) log.ring.hi log'.ring.hi some next, one, none)
+same_blocks log log' some next empty = grind (arith, tail_blocks, none_now, hi_after)
 
 module _ (log : LogStore) (pages : PageStore) (site : State) (newest : Option Master) (records : List Entry) (table : List Content) (commits : ℕ) (h : Represents log pages site newest records table commits)
     (sizes : log.geometry ≡ pages.flash.geometry) (log' : LogStore) (new : State) (some : has_tail log ≡ true) (high : log.used ≤ block_len)
@@ -84,12 +81,12 @@ module _ (log : LogStore) (pages : PageStore) (site : State) (newest : Option Ma
           blocks = more;
           tail = [];
           ready = record { pages = fits_beside pages site new is.changes is.preserves h.log_holds.ready.pages; blocks = is.finds; records = held };
-          rings = rings_now log pages site newest records table commits h sizes new (has_tail log) is.reaches;
+          rings = rings_now newest pages.flash.geometry log.geometry (has_tail log) _ site.image new.image sizes h.log_holds.rings is.reaches;
           runs_on = moved log pages site newest records table commits h sizes new is.changes more [] records
               (runs_sealed log pages site newest records table commits h some (last_of_all AreBlock h.log_holds.blocks h.log_holds.tail held.blocks.are_blocks));
           ahead = record {
             pool = logged_more (end_forced log) (end_forced log') (let all = blocks_are in omega (arith, all)) pages.pool.frames h.log_holds.ahead.pool;
-            versions = sealed_now log pages site newest records table commits h sizes new (has_tail log) log' is.changes is.geometry is.finds (let next = hi_is in omega (arith, next));
+            versions = more_sealed pages site new is.changes log log' sizes is.geometry h.log_holds.ready.blocks is.finds (let next = hi_is in omega (arith, next)) h.log_holds.ahead.versions;
           };
           room = let room = h.log_holds.room in let all = blocks_are in let kept = is.kept in omega (arith, room, all, kept);
         };

@@ -1,6 +1,7 @@
 -- The numbers of the rings in what a call has left.
+use Rattle.std.proofs.lemmas.Grind.{common_steps}
 use Rattle.image_changes.proofs.Sequence.{ring_kept}
-use Rattle.std.proofs.Common.{◌≡◌, inl, inr, ◌+◌, ◌*◌, ◌≤◌, Bool, true, false, List, [], ◌∷◌, ◌++◌, length, refl, ap, subst, arith, ℕ}
+use Rattle.std.proofs.Common.{◌≡◌, ◌+◌, ◌*◌, ◌≤◌, Bool, true, false, List, [], ◌∷◌, ◌++◌, length, refl, ap, arith, ℕ}
 use Rattle.std.specs.Prelude.{Result, Ok, Err, OnOk, Some, ◌≢◌, if◌then◌else◌}
 use Rattle.std.specs.List.{AllByRecursion}
 use Rattle.std.proofs.lemmas.List.{length-append}
@@ -44,10 +45,7 @@ blocks_same g old new keeps = ap (λ (u : Units). u.hi) keeps.units
 -- the blocks that are left are those that were sealed, or the tail that was there is one more
 pub blocks_left : (g : Geometry) (log : LogStore) (list : LogList) (sealing : Bool) (told : List ℕ) (s : Snapshot) → log.ring.hi ≡ list.first + length list.blocks → (sealing ≡ true → has_tail log ≡ true)
     → LeavesLog g sealing list told s → hi_of (log_shape g) s.image.log ≤ blocks_to log
-blocks_left g log list sealing told s hi some leaves = elim leaves.blocks [
-  | inl has ↦ let next = has.next in omega (arith, next, hi)
-  | inr more ↦ let next = more.1.next in let one = ap tail_blocks (some more.0) in let len = length-append list.blocks (list.tail ∷ []) in omega (arith, next, hi, one, len)
-]
+blocks_left g log list sealing told s hi some leaves = grind (arith, tail_blocks, length-append)
 
 -- so no number is skipped where the masters stay
 numbers_left : (g : Geometry) (log : LogStore) (list : LogList) (sealing : Bool) (told : List ℕ) (old : Image) (n : ℕ) (s : Snapshot) → log.ring.hi ≡ list.first + length list.blocks → (sealing ≡ true → has_tail log ≡ true)
@@ -63,11 +61,8 @@ paid_if false list hi hi' next = let none : paid (changes_if false list) ≡ 0 =
 -- a call on the log makes so many calls of the site
 pub log_calls : {T : Type 0} (r : Result T Stop) (g : Geometry) (hi hi' : ℕ) (list : LogList) (sealing : Bool) (site new : State) → ChangesOnly Log site new → OnOk r (Reaches g (changes_if sealing list) site.image new.image)
     → OnOk r (hi' ≡ (if sealing then hi + 1 else hi)) → OnOk r (length new.past + 5 * hi ≡ length site.past + 5 * hi') → OnOk r (CallsForUnits g site new)
-log_calls (Ok x) g hi hi' list sealing site new changes reaches next calls =
-    let cost = cost_reached g (changes_if sealing list) site.image new.image reaches in
-    let paid = paid_if sealing list hi hi' next in
-    calls_quiet g site new changes.only.grown changes.only.now.told (omega (arith, cost, paid, calls))
-log_calls (Err e) g hi hi' list sealing site new changes reaches next calls = tt
+log_calls (Ok x) g hi hi' list sealing site new changes reaches next calls = grind (arith, cost_reached, paid, paid_if, calls_quiet)
+log_calls (Err e) g hi hi' list sealing site new changes reaches next calls = grind (arith)
 
 -- so does one that appends a master unit
 pub save_calls : (g : Geometry) (unit : List ℕ) (site new : State) → ChangesOnly Log site new → Reaches g (AppendsMaster unit ∷ []) site.image new.image → length new.past ≡ length site.past + 5 → CallsForUnits g site new
@@ -100,8 +95,7 @@ log_skips r g log log' list sealing site new n hi some leaves front count calls 
   where
     masters_kept : (s : Snapshot) → IsReached g (IsFrontOf (changes_if sealing list)) site s → KeepsUnits master_shape site.image s.image
     masters_kept s is =
-        let others : AllByRecursion (λ change. ring_of change ≢ Some Masters) is.changes =
-        all_left (λ change. ring_of change ≢ Some Masters) is.changes is.made.0 (subst (AllByRecursion (λ change. ring_of change ≢ Some Masters)) is.made.1 (seals_only sealing list)) in
+        let others : AllByRecursion (λ change. ring_of change ≢ Some Masters) is.changes = grind (arith, common_steps, all_left, seals_only) in
         ring_kept g Masters is.changes site.image s.image others is.reaches
 
 -- a tail that is sealed was counted before

@@ -1,4 +1,6 @@
 -- A log that goes on whole_stays_orderly orderly.
+use Rattle.std.proofs.Common.{arith}
+use Rattle.std.proofs.lemmas.Grind.{common_steps}
 use Rattle.std.proofs.Common.{◌≡◌, ℕ, List, [], ◌∷◌, ◌++◌, Option, sym, ap, subst, ◌∙◌}
 use Rattle.site.specs.declared.geometry.Geometry.{Geometry}
 use Rattle.site.specs.State.{State}
@@ -27,8 +29,7 @@ pub ends_orderly : (g : Geometry) (log : LogStore) (pages : PageStore) (site : S
 ends_orderly g log pages site newest records table commits rec lsn versions m same follows orderly =
     let p = logical_image_under newest g site.image m.blocks in
     let e : Entry = record { lsn = next_lsn p m.front; rec = rec } in
-    let at : Follows (master_of newest) (versions_on g site.image) records e =
-    subst (λ (v : List Version). Follows (master_of newest) v records e) (sym same) (subst (λ (n : ℕ). Follows (master_of newest) versions records (record { lsn = n; rec = rec })) m.next follows) in
+    let at : Follows (master_of newest) (versions_on g site.image) records e = grind (arith, common_steps) in
     let carries : Carries p (m.front ++ rec ∷ []) =
     carries_more p m.front rec m.runs_on.carries (subst (λ (l : List Entry). Follows p.master p.pages l e) (sym m.runs_on.records_are) at) in
     let are : whole p (m.front ++ rec ∷ []) ≡ records ++ record { lsn = lsn; rec = rec } ∷ [] =

@@ -1,15 +1,15 @@
 -- Active transactions in the records that a checkpoint keeps.
+use Rattle.std.proofs.Common.{arith}
 use Rattle.redo_laws.specs.Checkpointing.{AreUnfinished, KeepUnfinished}
 use Rattle.image_meaning.specs.Meaning.{master_of}
 use Rattle.checkpoint.specs.declared.master.Master.{Master}
 use Rattle.record_model.specs.State.{Write}
-use Rattle.std.proofs.Common.{◌≡◌, ℕ, ◌==◌, ◌||◌, ◌&&◌, not, Bool, true, false, true≢false, List, [], ◌∷◌, map, refl, sym, ap, subst, ◌∙◌}
-use Rattle.std.specs.Prelude.{filter_map, reverse, Option, Some}
+use Rattle.std.proofs.Common.{◌≡◌, ℕ, ◌==◌, ◌||◌, ◌&&◌, not, Bool, true, false, true≢false, List, [], ◌∷◌, map, refl, sym, ap}
+use Rattle.std.specs.Prelude.{Option, Some}
 use Rattle.std.specs.List.{list_any}
-use Rattle.log_records.specs.Log.{is_of, is_closed, Entry, is_loser}
-use Rattle.log_records.specs.Unfinished.{is_begin, open_updates}
-use Rattle.log_records.specs.Sound.{Active, IsLoserChain, from_block, last_lsn}
-use Rattle.log_laws.specs.Follow.{write_of, IsActive}
+use Rattle.log_records.specs.Log.{Entry, is_loser}
+use Rattle.log_records.specs.Sound.{Active}
+use Rattle.log_laws.specs.Follow.{IsActive}
 use Rattle.checkpoint.specs.declared.pairs.Pair.{Pair}
 
 named_any : (pairs : List Pair) (t : ℕ) → list_any (λ (a : Active). a.begin == t) (map (λ pair. record { begin = pair.begin; last = pair.last }) pairs) ≡ list_any (λ pair. pair.begin == t) pairs
@@ -23,14 +23,4 @@ not_closed_of false closed is = absurd (true≢false (sym is))
 
 -- An active transaction stays one in the records that a checkpoint keeps, under the master that names it.
 pub active_outlives : (newest : Option Master) (m : Master) (records kept : List Entry) (t last : ℕ) (writes : List Write) → KeepUnfinished records kept → AreUnfinished records m.active → is_loser records t ≡ true → IsActive (master_of newest) records t last writes → IsActive (master_of (Some m)) kept t last writes
-active_outlives newest m records kept t last writes keeps are loser active =
-    let same = keeps.entries t loser in
-    record {
-      lives = record {
-        known = ap (λ b. b || list_any (λ e. is_begin e.rec && (e.lsn == t)) (from_block m.redo kept)) (named_any m.active t ∙ are.all t loser);
-        not_closed = not_closed_of (list_any (is_of t) kept) (is_closed kept t) (keeps.losers t ∙ loser);
-      };
-      chain = subst (IsLoserChain t) (sym same) active.chain;
-      last_is = active.last_is ∙ ap last_lsn (sym same);
-      writes_are = active.writes_are ∙ ap (λ (l : List Entry). filter_map (λ e. write_of e.rec) (reverse (open_updates [] l))) (sym same);
-    }
+active_outlives newest m records kept t last writes keeps are loser active = grind (arith, named_any, not_closed_of)

@@ -1,10 +1,11 @@
 -- The log as a list goes on, and the pages have other versions.
+use Rattle.std.proofs.lemmas.Grind.{common_steps}
 use Rattle.image_meaning.proofs.Behind.{carries_still, shown_stays}
 use Rattle.image_meaning.proofs.OtherVersions.{versions_mean}
 use Rattle.image_meaning.proofs.Versions.{length-versions}
 use Rattle.log_laws.proofs.Seals.{sealed_count}
 use Rattle.log_laws.proofs.Tails.{carries_more, carries_nothing, commits_stay, sealed_tail, tail_without_commit, whole_more, whole_sealed}
-use Rattle.std.proofs.Common.{◌≡◌, ℕ, ◌+◌, ◌*◌, ◌<◌, List, [], ◌∷◌, ◌++◌, length, None, inl, refl, sym, ap, subst, ◌∙◌, arith, Option}
+use Rattle.std.proofs.Common.{◌≡◌, ℕ, ◌+◌, ◌*◌, ◌<◌, List, [], ◌∷◌, ◌++◌, None, inl, refl, sym, ap, subst, ◌∙◌, arith, Option}
 use Rattle.site.specs.declared.geometry.Geometry.{Geometry}
 use Rattle.site.specs.State.{Image}
 use Rattle.record_model.specs.State.{Content}
@@ -25,10 +26,7 @@ pub resealed : (p : LogicalImage) (tail : List LogRecord) (records : List Entry)
 resealed p tail records table commits runs block room =
     record {
       carries = carries_nothing (sealed p tail) (sealed_tail p tail runs.carries block room (inl runs.no_commit));
-      means = record {
-        table_is = runs.means.table_is ∙ sym (tail_without_commit p tail runs.carries runs.no_commit);
-        count_is = let is = runs.means.count_is in let count = sealed_count p tail runs.carries.sound block in let no : length (commit_numbers (next_entries p tail)) ≡ 0 = ap length runs.no_commit in omega (arith, is, count, no);
-      };
+      means = grind (arith, common_steps, tail_without_commit, sealed_count);
       no_commit = refl;
       records_are = whole_sealed p tail ∙ runs.records_are;
     }
@@ -39,8 +37,7 @@ pub one_more : (p : LogicalImage) (tail : List LogRecord) (rec : LogRecord) (lsn
     RunsOn p (tail ++ rec ∷ []) (records ++ record { lsn = lsn; rec = rec } ∷ []) table commits
 one_more p tail rec lsn records table commits runs is follows none =
     let e : Entry = record { lsn = next_lsn p tail; rec = rec } in
-    let at : Follows p.master p.pages (whole p tail) e =
-    subst (λ (l : List Entry). Follows p.master p.pages l e) (sym runs.records_are) (subst (λ (n : ℕ). Follows p.master p.pages records (record { lsn = n; rec = rec })) is follows) in
+    let at : Follows p.master p.pages (whole p tail) e = grind (arith, common_steps) in
     let more : whole p (tail ++ rec ∷ []) ≡ whole p tail ++ e ∷ [] = whole_more p tail rec in
     record {
       carries = carries_more p tail rec runs.carries at;

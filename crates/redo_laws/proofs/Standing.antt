@@ -5,7 +5,7 @@ use Rattle.image_meaning.proofs.Replacing.{replace_all}
 use Rattle.image_meaning.proofs.Seals.{blocks_sealed}
 use Rattle.image_meaning.proofs.UnchangedImages.{next_block_is}
 use Rattle.image_meaning.proofs.Versions.{length-versions, version_is}
-use Rattle.std.proofs.Common.{◌≡◌, ◌⊎◌, inl, inr, ℕ, zero, suc, ◌+◌, ◌*◌, ◌<◌, ◌==◌, ◌||◌, cond, Bool, true, false, List, [], ◌∷◌, ◌++◌, Option, None, Some, IsTrue, refl, sym, ap, subst, ◌∙◌, arith}
+use Rattle.std.proofs.Common.{◌≡◌, ◌⊎◌, inl, inr, ℕ, zero, suc, ◌+◌, ◌*◌, ◌<◌, ◌==◌, ◌||◌, List, [], ◌∷◌, ◌++◌, Option, None, Some, IsTrue, refl, sym, ap, subst, ◌∙◌, arith}
 use Rattle.std.specs.Prelude.{nat_lt}
 use Rattle.std.specs.List.{AllByRecursion}
 use Rattle.std.proofs.lemmas.Bool.{lt-ltb, ne_eqb}
@@ -48,12 +48,8 @@ logged_version p end content is logged = logged_number (lsn_of content) (512 * p
 
 -- A page's content is sound.
 frame_sound : (count : ℕ) (frames : List Frame) (number : ℕ) (frame : Frame) → AllByRecursion (IsPage count) frames → frame_of frames number ≡ Some frame → page.IsSound frame.content
-frame_sound count [] number frame all found = absurd (none-some frame found)
-frame_sound count (first ∷ frames) number frame all found = by (first.page == number) found (frame_sound count frames number frame all.1)
-  where
-    by : (b : Bool) → cond b (Some first) (frame_of frames number) ≡ Some frame → (frame_of frames number ≡ Some frame → page.IsSound frame.content) → page.IsSound frame.content
-    by true found rest = let is : first ≡ frame = cc in subst (λ (f : Frame). page.IsSound f.content) is all.0.sound
-    by false found rest = rest found
+frame_sound count [] number frame all found = grind (arith, none-some)
+frame_sound count (first ∷ frames) number frame all found = grind (arith, (frame_sound count frames number frame all.1))
 
 pub current_sound : (pages : PageStore) (image : Image) (number : ℕ) → IsStore pages → page.IsSound (version_on pages.flash.geometry image number) → page.IsSound (current pages image number)
 current_sound pages image number own sound = by (frame_of pages.pool.frames number) refl
@@ -102,24 +98,4 @@ module _ (g : Geometry) (old now : Image) (given : ℕ → List ℕ) (blocks : L
   shows_now number exists = shows_still g old now blocks tail newest records table commits number (version_in (given number)) replaced runs exists (shows number exists)
 
   pub stands_now : AreRingsSoundUnder newest g now → IsCleanOn g now → ((number : ℕ) → number < g.pages → page.IsSound (version_on g old number)) → ((number : ℕ) → number < g.pages → page.IsSound (given number)) → StandsUnder newest g now table commits
-  stands_now rings clean sound_old sound_given = record {
-    blocks = blocks;
-    sound = record {
-      octets = record {
-        limits = rings.limits;
-        lengths = rings.lengths;
-        masters = rings.masters;
-        segments = rings.segments;
-        groups = rings.groups;
-        versions = λ number exists. sound_by number exists (versions number exists);
-        clean = clean;
-      };
-      held = held;
-      records = runs_now.carries.sound;
-    };
-    means = runs_now.means;
-  }
-    where
-      sound_by : (number : ℕ) → number < g.pages → (version_on g now number ≡ version_on g old number) ⊎ (version_on g now number ≡ given number) → page.IsSound (version_on g now number)
-      sound_by number exists (inl same) = subst page.IsSound (sym same) (sound_old number exists)
-      sound_by number exists (inr same) = subst page.IsSound (sym same) (sound_given number exists)
+  stands_now rings clean sound_old sound_given = grind (arith, runs_now)

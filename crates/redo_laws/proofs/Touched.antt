@@ -1,6 +1,6 @@
 -- Log and pages that hold together, while pages come and go.
 use Rattle.image_meaning.proofs.UnchangedImages.{next_block_is}
-use Rattle.std.proofs.Common.{◌≡◌, ◌⊎◌, inl, inr, ℕ, ◌≤◌, ◌<◌, Bool, true, false, List, [], ◌∷◌, ◌++◌, refl, sym, ap, subst, ◌∙◌, arith}
+use Rattle.std.proofs.Common.{◌≡◌, ◌⊎◌, inl, inr, ℕ, ◌≤◌, ◌<◌, Bool, true, false, List, [], ◌∷◌, ◌++◌, refl, sym, subst, ◌∙◌, arith}
 use Rattle.std.proofs.lemmas.Bool.{and_parts}
 use Rattle.std.specs.Prelude.{if◌then◌else◌, Option}
 use Rattle.std.proofs.lemmas.List.{length-append}
@@ -12,10 +12,8 @@ use Rattle.record_model.specs.State.{Content}
 use Rattle.log_records.specs.declared.log_record.LogRecord.{LogRecord}
 use Rattle.log_records.specs.Spelling.{AreBlock, block_len}
 use Rattle.log_records.specs.Log.{Entry}
-use Rattle.log_records.specs.Unfinished.{owed}
 use Rattle.log_records.specs.Sound.{LogicalImage, HasRoom}
 use Rattle.log_laws.specs.Follow.{sealed}
-use Rattle.log_laws.specs.Tail.{whole}
 use Rattle.slotted_page.specs.Layout as page
 use Rattle.log_store.specs.declared.store.LogStore.{LogStore}
 use Rattle.log_store.specs.LogList.{LogList, sealed_if}
@@ -33,7 +31,7 @@ use Rattle.image_meaning.specs.Redone.{ShowsAll}
 use Rattle.image_meaning.specs.Moments.{LeavesTableUnder}
 use Rattle.image_meaning.specs.Beside.{AreRingsSoundUnder}
 use Rattle.redo_laws.specs.Running.{RunsOn}
-use Rattle.redo_laws.specs.Holding.{ShowRecords, RepresentsIn, Represents}
+use Rattle.redo_laws.specs.Holding.{RepresentsIn, Represents}
 use Rattle.redo_laws.proofs.Runs.{resealed}
 use Rattle.redo_laws.proofs.Standing.{more_blocks, runs_now, shows_now, stands_now, current_sound, last_of_all}
 
@@ -63,9 +61,7 @@ module _ (log : LogStore) (pages : PageStore) (site : State) (newest : Option Ma
 
   -- a tail that has records may be sealed
   tail_room : has_tail log ≡ true → HasRoom (sealed (logical_image_under newest g site.image blocks) tail)
-  tail_room some =
-      let all : owed (whole (logical_image_under newest g site.image blocks) tail) ≡ owed records = ap owed h.log_holds.runs_on.records_are in
-      omega (arith, h.log_holds.room, ap tail_blocks some, hi_is, all, h.log_holds.kept, next_block_is newest blocks)
+  tail_room some = grind (arith, hi_is, next_block_is)
 
   pub runs_sealed : has_tail log ≡ true → AreBlock tail → RunsOn (logical_image_under newest g site.image (blocks ++ tail ∷ [])) [] records table commits
   runs_sealed some block =
@@ -101,58 +97,34 @@ module _ (log : LogStore) (pages : PageStore) (site : State) (newest : Option Ma
   -- and what stands behind a touch
   module _ (log' : LogStore) (pages' : PageStore) (new : State) (geometry : log'.geometry ≡ g) (same_kept : log'.kept ≡ log.kept) (kept : KeepsCurrent pages site.image pages' new.image) (are_ahead : IsAhead log' pages' new.image)
       (end : end_forced log' ≡ end_forced log) (are_sealed : AreSealed g new.image) (rings : AreRingsSoundUnder newest g new.image) (high : log.used ≤ block_len) where
-    below_by : end_of log ≤ end_of log' → (number : ℕ) → number < g.pages → lsn_of (current pages' new.image number) < end_of log'
-    below_by more number exists =
-        subst (λ (c : List ℕ). lsn_of c < end_of log') (sym (kept.each number exists)) (omega (arith, h.below number exists, more))
-
-    shows_by : (blocks' : List (List LogRecord)) (tail' : List LogRecord) → RunsOn (logical_image_under newest g site.image blocks') tail' records table commits → HasBlocks g (kept_by newest) blocks' new.image →
-        ((number : ℕ) → number < g.pages → (version_on g new.image number ≡ version_on g site.image number) ⊎ (version_on g new.image number ≡ given number)) → ShowRecords g pages' new.image records
-    shows_by blocks' tail' runs has versions = record {
-      each = λ number exists.
-          subst (λ (c : List ℕ). ShowsAll records (versions_on g new.image) number (version_in c)) (sym (kept.each number exists))
-          (shows_now g site.image new.image given blocks' tail' newest records table commits runs h.shows.each has are_sealed versions number exists);
-    }
+    touched_with : (blocks' : List (List LogRecord)) (tail' : List LogRecord) → RunsOn (logical_image_under newest g site.image blocks') tail' records table commits → AreReady pages' log' (record { first = kept_by newest; blocks = blocks'; tail = tail' }) new →
+        ((number : ℕ) → number < g.pages → (version_on g new.image number ≡ version_on g site.image number) ⊎ (version_on g new.image number ≡ given number)) → end_of log ≤ end_of log' → RepresentsIn g log' pages' new newest records table commits
+    touched_with blocks' tail' runs ready versions more =
+        let has : HasBlocks g (kept_by newest) blocks' new.image = subst (λ (k : Geometry). HasBlocks k (kept_by newest) blocks' new.image) geometry ready.records.blocks in
+        record {
+          log_holds = record {
+            kept = same_kept ∙ h.log_holds.kept;
+            blocks = blocks';
+            tail = tail';
+            ready = ready;
+            rings = rings;
+            runs_on = runs_now g site.image new.image given blocks' tail' newest records table commits runs h.shows.each has are_sealed versions;
+            ahead = are_ahead;
+            room = omega (arith, h.log_holds.room, end, same_kept);
+          };
+          shows = record {
+            each = λ number exists.
+                subst (λ (c : List ℕ). ShowsAll records (versions_on g new.image) number (version_in c)) (sym (kept.each number exists))
+                (shows_now g site.image new.image given blocks' tail' newest records table commits runs h.shows.each has are_sealed versions number exists);
+          };
+          below = λ number exists. subst (λ (c : List ℕ). lsn_of c < end_of log') (sym (kept.each number exists)) (omega (arith, h.below number exists, more));
+        }
 
     pub touched_holds : (sealing : Bool) → (sealing ≡ true → has_tail log ≡ true) → AreReady pages' log' (sealed_if sealing list) new → LeavesPages g (current pages site.image) sealing list site (snapshot_of new) →
         RepresentsIn g log' pages' new newest records table commits
     touched_holds false some ready leaves =
-        let has : HasBlocks g (kept_by newest) blocks new.image = subst (λ (k : Geometry). HasBlocks k (kept_by newest) blocks new.image) geometry ready.records.blocks in
-        record {
-          log_holds = record {
-            kept = same_kept ∙ h.log_holds.kept;
-            blocks = blocks;
-            tail = tail;
-            ready = ready;
-            rings = rings;
-            runs_on = runs_now g site.image new.image given blocks tail newest records table commits h.log_holds.runs_on h.shows.each has are_sealed leaves.versions;
-            ahead = are_ahead;
-            room = omega (arith, h.log_holds.room, end, same_kept);
-          };
-          shows = shows_by blocks tail h.log_holds.runs_on has leaves.versions;
-          below = below_by (
-              let hi = ready.blocks.hi in let next = ready.records.blocks.next in let used = ready.records.tail.end in let was = h.log_holds.ready.records.tail.end in
-              omega (arith, hi, next, used, was, hi_is, next_block_is newest blocks)
-              );
-        }
+        touched_with blocks tail h.log_holds.runs_on ready leaves.versions
+        (omega (arith, ready.blocks.hi, ready.records.blocks.next, ready.records.tail.end, h.log_holds.ready.records.tail.end, hi_is, next_block_is newest blocks))
     touched_holds true some ready leaves =
-        let has : HasBlocks g (kept_by newest) (blocks ++ tail ∷ []) new.image = subst (λ (k : Geometry). HasBlocks k (kept_by newest) (blocks ++ tail ∷ []) new.image) geometry ready.records.blocks in
-        let runs = runs_sealed (some refl) (last_of_all AreBlock blocks tail has.are_blocks) in
-        record {
-          log_holds = record {
-            kept = same_kept ∙ h.log_holds.kept;
-            blocks = blocks ++ tail ∷ [];
-            tail = [];
-            ready = ready;
-            rings = rings;
-            runs_on = runs_now g site.image new.image given (blocks ++ tail ∷ []) [] newest records table commits runs h.shows.each has are_sealed leaves.versions;
-            ahead = are_ahead;
-            room = omega (arith, h.log_holds.room, end, same_kept);
-          };
-          shows = shows_by (blocks ++ tail ∷ []) [] runs has leaves.versions;
-          below = below_by (
-              let hi = ready.blocks.hi in let next = ready.records.blocks.next in let used = ready.records.tail.end in
-              omega (arith, hi, next, used, hi_is, high, length-append blocks (tail ∷ []), next_block_is newest blocks)
-              );
-        }
-
--- results
+        touched_with (blocks ++ tail ∷ []) [] (runs_sealed (some refl) (last_of_all AreBlock blocks tail ready.records.blocks.are_blocks)) ready leaves.versions
+        (omega (arith, ready.blocks.hi, ready.records.blocks.next, ready.records.tail.end, hi_is, high, length-append blocks (tail ∷ []), next_block_is newest blocks))

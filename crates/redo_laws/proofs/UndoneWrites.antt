@@ -1,17 +1,17 @@
 -- What undoing an active transaction asks of the page cache: the pages of its writes that stand.
+use Rattle.std.proofs.Common.{arith}
 use Rattle.redo_laws.specs.MachineSteps.{undo_one_works}
 use Rattle.redo_laws.specs.UndoWorks.{works_of}
 use Rattle.image_meaning.specs.Meaning.{master_of}
 use Rattle.checkpoint.specs.declared.master.Master.{Master}
-use Rattle.std.proofs.Common.{◌≡◌, ◌-◌, ◌≤◌, List, [], ◌∷◌, ◌++◌, length, take, drop, refl, sym, ap, ◌∙◌}
-use Rattle.std.specs.Prelude.{map, filter_map, reverse, option_map, ℕ, Option, Some, None}
-use Rattle.std.specs.List.{cons_option}
+use Rattle.std.proofs.Common.{◌≡◌, ◌-◌, ◌≤◌, List, [], ◌∷◌, length, take, drop, sym, ap, ◌∙◌}
+use Rattle.std.specs.Prelude.{map, reverse, ℕ, Option}
 use Rattle.std.proofs.lemmas.List.{reverse-append, map-append}
 use Rattle.record_model.specs.State.{Write}
 use Rattle.record_model.specs.Touches.{CacheOp, write_touch}
-use Rattle.log_records.specs.Log.{Entry, number_of, after_of}
+use Rattle.log_records.specs.Log.{Entry}
 use Rattle.log_records.specs.Unfinished.{left_open}
-use Rattle.log_laws.specs.Follow.{write_of, IsActive}
+use Rattle.log_laws.specs.Follow.{IsActive}
 use Rattle.log_laws.proofs.Standing.{writes_of, writes_more, standing_taken}
 
 abbrev touches_of : List Write → List CacheOp
@@ -19,16 +19,8 @@ touches_of writes = map (λ write. write_touch write.0) writes
 
 -- Updates, the last one first, are undone on the pages of their writes
 updates_undone : (us : List Entry) → works_of us ≡ touches_of (reverse (writes_of us))
-updates_undone [] = refl
-updates_undone (u ∷ us) =
-    ap (λ (l : List CacheOp). cons_option (option_map write_touch (number_of u.rec)) l) (updates_undone us) ∙ by (number_of u.rec) refl
-    ∙ sym (ap (λ (l : List Write). touches_of (reverse l)) (writes_more u us)
-    ∙ ap touches_of (reverse-append (writes_of us) (filter_map (λ (e : Entry). write_of e.rec) (u ∷ [])))
-    ∙ map-append (λ (w : Write). write_touch w.0) (reverse (filter_map (λ (e : Entry). write_of e.rec) (u ∷ []))) (reverse (writes_of us)))
-  where
-    by : (o : Option ℕ) → number_of u.rec ≡ o → cons_option (option_map write_touch o) (touches_of (reverse (writes_of us))) ≡ touches_of (reverse (cons_option (option_map (λ n. (n, after_of u.rec)) o) [])) ++ touches_of (reverse (writes_of us))
-    by None is = refl
-    by (Some n) is = refl
+updates_undone [] = grind (arith)
+updates_undone (u ∷ us) = grind (arith, writes_more, reverse-append, writes_of, map-append, (updates_undone us))
 
 -- undoing an active transaction touches the pages of its writes that stand, the last one first
 pub active_is_undone_by : (newest : Option Master) (records : List Entry) (txn last : ℕ) (writes : List Write) → IsActive (master_of newest) records txn last writes → undo_one_works records txn ≡ map (λ write. write_touch write.0) (reverse writes)
@@ -37,6 +29,4 @@ active_is_undone_by newest records txn last writes active = updates_undone (left
 -- and undoing its last ones the pages of these
 pub last_are_undone_by : (newest : Option Master) (records : List Entry) (txn last count : ℕ) (writes : List Write) → IsActive (master_of newest) records txn last writes → count ≤ length writes →
     works_of (take count (left_open records txn)) ≡ map (λ write. write_touch write.0) (reverse (drop (length writes - count) writes))
-last_are_undone_by newest records txn last count writes active few =
-    updates_undone (take count (left_open records txn))
-    ∙ ap (λ (w : List Write). touches_of (reverse w)) (standing_taken records txn count writes active.writes_are few)
+last_are_undone_by newest records txn last count writes active few = grind (arith, updates_undone, standing_taken)

@@ -1,6 +1,5 @@
 -- A log that is worn stands at its end, and where a log ends.
-use Rattle.std.proofs.Common.{◌≡◌, inl, ◌^◌, ℕ, Bool, sym, ap, subst, ◌∙◌, arith}
-use Rattle.std.specs.Prelude.{if◌then◌else◌, nat_lt}
+use Rattle.std.proofs.Common.{◌≡◌, inl, ◌^◌, ℕ, sym, ap, subst, ◌∙◌, arith}
 use Rattle.site.specs.State.{State, content_of}
 use Rattle.sealed_ring.specs.declared.ring.Ring.{Ring}
 use Rattle.sealed_ring.specs.declared.slots.Shape.{Shape}
@@ -23,6 +22,4 @@ masters_at_end masters old new shape fits same worn =
 
 -- a sealed log ends with its blocks
 pub sealed_hi : (log : LogStore) (blocks : ℕ) → log.used ≡ 2 → blocks_to log ≡ blocks → log.ring.hi ≡ blocks
-sealed_hi log blocks empty is =
-    let none : ◌≡◌ {A = ℕ} (if has_tail log then 1 else 0) 0 = ap {B = ℕ} (λ (b : Bool). if b then 1 else 0) (ap (nat_lt 2) empty) in
-    omega (arith, is, none)
+sealed_hi log blocks empty is = grind (arith)

@@ -1,4 +1,5 @@
 -- Calls one after the other, each known by its record.
+use Rattle.std.proofs.lemmas.Grind.{common_steps}
 use Rattle.redo_laws.proofs.AskingUndo.{not_worn_flash}
 use Rattle.std.proofs.Common.{◌≡◌, ◌≢◌, ◌⊎◌, inl, inr, ◌+◌, ◌≤◌, List, refl, sym, subst, ◌∙◌, arith, Option, ℕ}
 use Rattle.std.specs.Prelude.{Result, Ok, Err, OnOk, IfOk, IfErr, IsErrOf, IsTrue, ◌<◌}
@@ -25,7 +26,7 @@ use Rattle.page_store.specs.Stopping.{MayStop}
 use Rattle.checkpoint.specs.declared.master.Master.{Master}
 use Rattle.image_meaning.specs.Moments.{LeavesTableUnder, LeavesFor}
 use Rattle.redo_undo.proofs.Saved.{then_for}
-use Rattle.redo_laws.specs.Holding.{Invariant, Represents, IsLogWorn}
+use Rattle.redo_laws.specs.Holding.{Invariant, Represents}
 use Rattle.redo_laws.specs.Calls.{KeepsInvariant, LogsNothing, KeepsInvariantBeside, ReadsOne, Keeps, KeepsBeside}
 use Rattle.redo_undo.specs.Redoing.{Opening, IsRedoing, LeavesOpened}
 use Rattle.redo_undo.proofs.Redoings.{nothing_happens, then_read}
@@ -81,13 +82,7 @@ reads_worn d (inr is) = cc
 -- On every site.
 
 pub calls_read : {T : Type 0} {r : Result T Stop} {before now : State} → ReadsOne r before now → Calls r before now
-calls_read {r = r} {before = before} {now = now} read = record {
-  preserves = read.preserves;
-  left = λ honest. (read.same honest).left;
-  stays_quiet = λ honest quiet. ok_always r _ ((read.same honest).loose ∙ quiet);
-  device = device_of r before now (err_as r _ _ read_or read.stops) read.device;
-  faults = read.faults;
-}
+calls_read {r = r} {before = before} {now = now} read = grind (arith, ok_always, device_of, err_as, read_or)
 
 -- Log and pages, on every site.
 
@@ -96,18 +91,7 @@ works_nothing going = record { calls = calls_nothing; going = going; rises = ome
 
 pub works_then : {A B : Type 0} {a : A} {r : Result B Stop} {old mid new : LogStore} {pages between pages' : PageStore} {before middle now : State} →
     KeepsInvariant {T = A} (Ok a) old mid pages between before middle → KeepsInvariant r mid new between pages' middle now → KeepsInvariant r old new pages pages' before now
-works_then {r = r} {before = before} {middle = middle} first second =
-    record {
-      calls = calls_then first.calls second.calls;
-      going = second.going;
-      next = λ honest. next_then first.log_geometry first.geometry (first.next honest) (second.next (stays_honest before middle first.calls.preserves honest));
-      rises = ok_as r _ _ (λ more. omega (arith, more, first.rises)) second.rises;
-      kept = second.kept ∙ first.kept;
-      log_geometry = second.log_geometry ∙ first.log_geometry;
-      geometry = second.geometry ∙ first.geometry;
-      size = second.size ∙ first.size;
-      stops = second.stops;
-    }
+works_then {r = r} {before = before} {middle = middle} first second = grind (arith, calls_then, next_then, stays_honest, ok_as)
 
 pub works_failed : {A B : Type 0} {stop : Stop} {old new : LogStore} {pages pages' : PageStore} {before now : State} → KeepsInvariant {T = A} (Err stop) old new pages pages' before now → KeepsInvariant {T = B} (Err stop) old new pages pages' before now
 works_failed first = record { calls = calls_failed first.calls; going = tt; next = λ honest. next_failed (first.next honest); rises = tt; kept = first.kept; log_geometry = first.log_geometry; geometry = first.geometry; size = first.size; stops = first.stops }
@@ -129,18 +113,7 @@ pub works_foreign : {A B : Type 0} {a : A} {old new : LogStore} {pages pages' : 
 works_foreign first = works_refused (λ d same. cc) (λ d same. cc) tt first
 
 pub works_read : {T : Type 0} {r : Result T Stop} {log : LogStore} {pages : PageStore} {before now : State} → Invariant log pages before → ReadsOne r before now → KeepsInvariant r log log pages pages before now
-works_read {r = r} {log = log} {pages = pages} {before = before} {now = now} going read = record {
-  calls = calls_read read;
-  going = ok_always r _ (going_still log pages before now read.preserves going);
-  rises = ok_always r _ (omega arith);
-  kept = refl;
-  log_geometry = refl;
-  geometry = refl;
-  size = refl;
-  stops = err_as r _ _ reads_stop read.stops;
-  next = λ honest. next_read r (read.same honest) refl refl (λ is. reads_worn Log (of_error r (λ stop. (stop ≡ Device Log) ⊎ (stop ≡ Foreign)) (Worn Log) read.stops is))
-      (λ is. reads_worn Flash (of_error r (λ stop. (stop ≡ Device Log) ⊎ (stop ≡ Foreign)) (Worn Flash) read.stops is));
-}
+works_read {r = r} {log = log} {pages = pages} {before = before} {now = now} going read = grind (arith, calls_read, ok_always, going_still, err_as, reads_stop, next_read, reads_worn, of_error)
 
 -- a call of the log alone
 pub works_beside : {T : Type 0} {r : Result T Stop} {old new : LogStore} {pages : PageStore} {before now : State} → Invariant old pages before → OnOk r (end_of old ≤ end_of new) → IfErr r (λ stop. MayStop stop) → (IsErrOf r (Worn Flash) → ⊥) →
@@ -151,11 +124,7 @@ works_beside {pages = pages} going rises stops never beside =
 -- that appends a record
 pub works_appended : {r : Result ℕ Stop} {old new : LogStore} {pages : PageStore} {before now : State} → Invariant old pages before → IfOk r (λ lsn. (end_of old ≤ lsn) × (lsn < end_of new)) →
     IfErr r (λ stop. (stop ≡ Device Log) ⊎ (stop ≡ Worn Log)) → KeepsInvariantBeside r old new before now → KeepsInvariant r old new pages pages before now
-works_appended {r = r} {old = old} {new = new} going rises stops beside = works_beside going (risen r rises) (err_as r _ _ log_stops stops) (λ is. of_error r (λ stop. stop ≢ Worn Flash) (Worn Flash) (err_as r _ _ not_worn_flash stops) is refl) beside
-  where
-    risen : (r : Result ℕ Stop) → IfOk r (λ lsn. (end_of old ≤ lsn) × (lsn < end_of new)) → OnOk r (end_of old ≤ end_of new)
-    risen (Ok lsn) rises = omega (arith, rises.0, rises.1)
-    risen (Err stop) rises = tt
+works_appended {r = r} {old = old} {new = new} going rises stops beside = grind (arith, works_beside, err_as, log_stops, of_error, not_worn_flash)
 
 -- The same where no record is logged.
 
@@ -187,16 +156,7 @@ works_lacks (inl lacks) going = works_refused {A = Unit {0}} {a = tt} (λ d same
 works_lacks (inr foreign) going = works_refused {A = Unit {0}} {a = tt} (λ d same. cc) (λ d same. cc) (subst MayStop (sym foreign) tt) (works_nothing going)
 
 pub beside_lacks : {T : Type 0} {stop : Stop} {log : LogStore} {site : State} → stop ≡ Memory → log_store.Invariant log site → KeepsInvariantBeside {T = T} (Err stop) log log site site
-beside_lacks {stop = stop} {log = log} {site = site} lacks going = record {
-  calls = calls_refused {A = Unit {0}} {a = tt} (λ d same. cc) calls_nothing;
-  going = λ pages may. tt;
-  log_going = going;
-  kept = refl;
-  geometry = refl;
-  reads = λ d. refl;
-  changes = λ honest. log_unchanged site;
-  next = λ honest. blocks.next_elsewhere _ log site site refl (λ says. cc);
-}
+beside_lacks {stop = stop} {log = log} {site = site} lacks going = grind (arith, common_steps, calls_refused, calls_nothing, log_unchanged)
 
 pub beside_then : {A B : Type 0} {a : A} {r : Result B Stop} {old mid new : LogStore} {before between now : State} → KeepsInvariantBeside {T = A} (Ok a) old mid before between → KeepsInvariantBeside r mid new between now → KeepsInvariantBeside r old new before now
 beside_then {before = before} {between = between} {now = now} first second = record {
@@ -234,18 +194,10 @@ keeps_few {r = r} {g = g} {old = old} {new = new} {before = before} {now = now} 
 }
 
 pub keeps_failed : {A B : Type 0} {stop : Stop} {g : Geometry} {old new : LogStore} {before now : State} {P : Snapshot → Type 0} {n m : ℕ} → Keeps {T = A} (Err stop) g old new before now P n m → Keeps {T = B} (Err stop) g old new before now P n m
-keeps_failed {stop = stop} {g = g} {old = old} {new = new} {before = before} {now = now} {n = n} {m = m} first = record {
-  ends = ends_failed first.ends;
-  numbers = λ quiet. skips_again stop g old new before now n m (first.numbers quiet);
-  masters = λ none. tt;
-}
+keeps_failed {stop = stop} {g = g} {old = old} {new = new} {before = before} {now = now} {n = n} {m = m} first = grind (arith, ends_failed, skips_again)
 
 pub keeps_answered : {A B : Type 0} {a : A} {b : B} {g : Geometry} {old new : LogStore} {before now : State} {P : Snapshot → Type 0} {n m : ℕ} → Keeps {T = A} (Ok a) g old new before now P n m → Keeps {T = B} (Ok b) g old new before now P n m
-keeps_answered {A = A} {B = B} {a = a} {b = b} {g = g} {old = old} {new = new} {before = before} {now = now} {n = n} {m = m} first = record {
-  ends = ends_answered first.ends;
-  numbers = λ quiet. skips_answered {A = A} {B = B} a b g old new before now n m (first.numbers quiet);
-  masters = first.masters;
-}
+keeps_answered {A = A} {B = B} {a = a} {b = b} {g = g} {old = old} {new = new} {before = before} {now = now} {n = n} {m = m} first = grind (arith, ends_answered, skips_answered)
 
 -- where nothing is written
 pub keeps_still : {T : Type 0} {r : Result T Stop} {g : Geometry} {log : LogStore} {before now : State} {P : Snapshot → Type 0} → (IsQuiet before → LeavesOnly before now P) → log.ring.hi ≡ hi_of (log_shape g) before.image.log → IsUnchanged before now →
@@ -315,17 +267,7 @@ appends_foreign r stops is = of_error r (λ stop. stop ≢ Foreign) Foreign (err
 
 pub keeps_appended : {T : Type 0} {r : Result T Stop} {old new : LogStore} {pages : PageStore} {before now : State} {P : Snapshot → Type 0} {n : ℕ} → Invariant old pages before → IfErr r (λ stop. (stop ≡ Device Log) ⊎ (stop ≡ Worn Log)) →
     KeepsBeside r old new pages before now P n → Keeps r pages.flash.geometry old new before now P n 0
-keeps_appended {r = r} {old = old} {new = new} {pages = pages} {before = before} {now = now} {n = n} going stops beside = record {
-  ends = record {
-    any_moment = beside.any_moment going;
-    quiet = beside.quiet;
-    worn_log = λ is. subst (λ (x : Geometry). IsLogWorn x now.image) going.sizes (beside.worn_log is);
-    worn = λ is. absurd (of_error r (λ stop. stop ≢ Worn Flash) (Worn Flash) (err_as r _ _ not_worn_flash stops) is refl);
-    readable = appends_foreign r stops;
-  };
-  numbers = λ quiet. skips_on r old.geometry pages.flash.geometry old new before now n 0 going.sizes (beside.numbers going quiet);
-  masters = λ none. beside.masters;
-}
+keeps_appended {r = r} {old = old} {new = new} {pages = pages} {before = before} {now = now} {n = n} going stops beside = grind (arith, of_error, err_as, not_worn_flash, appends_foreign, skips_on)
 
 -- a call that stops before a checkpoint is made, under whatever newest master
 pub keeps_unsaved : {A B : Type 0} {stop : Stop} {g : Geometry} {old new : LogStore} {before now : State} {P R : Snapshot → Type 0} {n : ℕ} → (LeavesOnly before now P → LeavesOnly before now R) →

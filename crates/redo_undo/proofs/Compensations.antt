@@ -127,25 +127,11 @@ module _ (log : LogStore) (pages : PageStore) (site : State) (newest : Option Ma
 
 -- A record that is no Update may follow whatever the pages show.
 pub follows_moved : (newest : Option Master) (versions versions' : List Version) (records : List Entry) (e : Entry) → is_update e.rec ≡ false → length versions' ≡ length versions → Follows (master_of newest) versions records e → Follows (master_of newest) versions' records e
-follows_moved newest versions versions' records e other same f = record {
-  in_table = λ number is. let within = f.in_table number is in omega (arith, within, same);
-  of_open = f.of_open;
-  can_be_undone = f.can_be_undone;
-  held_off = f.held_off;
-  from_shown = λ number is on. absurd (true≢false (sym is ∙ other));
-  ends_undone = f.ends_undone;
-  room_in_page = λ number is on. absurd (true≢false (sym is ∙ other));
-}
+follows_moved newest versions versions' records e other same f = grind (arith)
 
 pub may_moved : (log log' : LogStore) (pages pages' : PageStore) (old new : Image) (newest : Option Master) (records : List Entry) (e : Entry) → is_update e.rec ≡ false → pages'.flash.geometry ≡ pages.flash.geometry → blocks_to log' ≡ blocks_to log → log'.kept ≡ log.kept →
     MayGrow log pages old newest records e → MayGrow log' pages' new newest records e
-may_moved log log' pages pages' old new newest records e other geometry blocks kept may =
-    let all = ap (λ (g : Geometry). g.pages) geometry in
-    record {
-      follows = follows_moved newest (versions_on pages.flash.geometry old) (versions_on pages'.flash.geometry new) records e other (length-versions pages'.flash.geometry new ∙ all ∙ sym (length-versions pages.flash.geometry old)) may.follows;
-      no_commit = may.no_commit;
-      room = omega (arith, may.room, ap (λ (g : Geometry). g.blocks) geometry, blocks, kept);
-    }
+may_moved log log' pages pages' old new newest records e other geometry blocks kept may = grind (arith, follows_moved, length-versions)
 
 -- A CLR of an unfinished transaction may be logged: with it there is less to undo.
 module _ (log : LogStore) (pages : PageStore) (site : State) (newest : Option Master) (records : List Entry) (table : List Content) (commits : ℕ) (h : Represents log pages site newest records table commits) (x : Unfinished) (unfinished : IsUnfinished records x) where

@@ -56,13 +56,8 @@ below_end from [] to known less order = tt
 below_end from (x ∷ xs) to known less order = (let a = order_ends (x.lsn + 1) to xs order.1 in omega (arith, a, less), below_end (x.lsn + 1) xs to known less order.1)
 
 last_up_to : (n known : ℕ) (test : Entry → Bool) (xs : List Entry) → n ≤ known → AreUpTo known xs → last_number n (map (λ e. e.lsn) (filter test xs)) ≤ known
-last_up_to n known test [] less all = less
-last_up_to n known test (x ∷ xs) less all = by (test x) refl (last_up_to n known test xs less all.1) (last_up_to x.lsn known test xs all.0 all.1)
-  where
-    by : (b : Bool) → test x ≡ b → last_number n (map (λ e. e.lsn) (filter test xs)) ≤ known → last_number x.lsn (map (λ e. e.lsn) (filter test xs)) ≤ known →
-        last_number n (map (λ e. e.lsn) (if b then x ∷ filter test xs else filter test xs)) ≤ known
-    by true is other own = own
-    by false is other own = other
+last_up_to n known test [] less all = grind (arith)
+last_up_to n known test (x ∷ xs) less all = grind (arith, (last_up_to n known test xs less all.1), (last_up_to x.lsn known test xs all.0 all.1))
 
 -- What a list says of a transaction is what the records say.
 
@@ -75,12 +70,8 @@ head_of [] lsn top = absurd top
 head_of (u ∷ rest) lsn top = (u, rest, refl, top)
 
 none_any : (test : Entry → Bool) (xs : List Entry) → list_any test xs ≡ false → filter test xs ≡ []
-none_any test [] none = refl
-none_any test (x ∷ xs) none = by (test x) none (none_any test xs)
-  where
-    by : (b : Bool) → (b || list_any test xs) ≡ false → (list_any test xs ≡ false → filter test xs ≡ []) → (if b then x ∷ filter test xs else filter test xs) ≡ []
-    by true is rest = absurd (true≢false is)
-    by false is rest = rest is
+none_any test [] none = grind (arith)
+none_any test (x ∷ xs) none = grind (arith, (none_any test xs))
 
 module _ (active : ActiveIsUnfinished) (log : LogStore) (pages : PageStore) (site : State) (newest : Option Master) (records : List Entry) (table : List Content) (commits : ℕ) (found : Analysis) (h : Represents log pages site newest records table commits) (is : IsTable [] records (listed found.table)) where
   pub undoable : IsUndoable records
@@ -139,9 +130,7 @@ module _ (active : ActiveIsUnfinished) (log : LogStore) (pages : PageStore) (sit
 
   -- its last record stands where the others do
   pub last_known : (known : ℕ) (loser : Loser) → AreUpTo known records → IsOf (listed found.table) loser → loser.last ≤ known
-  last_known known loser up_to of =
-      let last : loser.last ≡ of.x.last = ap (λ (l : Loser). l.last) of.same in
-      omega (arith, last, (unfinished_of loser.txn of.x of.there).1.last_is, last_up_to 0 known (is_of loser.txn) records (omega arith) up_to)
+  last_known known loser up_to of = grind (arith, unfinished_of, last_up_to)
 
   found_some : (t : ℕ) → is_loser records t ≡ true → found_in (listed found.table) t ≡ Some (open_at [] records t)
   found_some t loser =
@@ -149,17 +138,11 @@ module _ (active : ActiveIsUnfinished) (log : LogStore) (pages : PageStore) (sit
 
   -- where of each active transaction an Update remains, one remains of each unfinished one
   pub each_remains : Remain (listed found.table) → (t : ℕ) → is_loser records t ≡ true → 0 < length (left_open records t)
-  each_remains all t loser =
-      let some = all_found (λ x. 0 < length x.updates) (listed found.table) t (open_at [] records t) all (found_some t loser) in
-      omega (arith, some, length-map (left_open records t) (λ u. u.lsn))
+  each_remains all t loser = grind (arith, all_found, found_some, length-map)
 
   -- where none is active none is unfinished
   pub none_unfinished : listed found.table ≡ [] → (t : ℕ) → is_loser records t ≡ false
-  none_unfinished none t = by (is_loser records t) refl
-    where
-      by : (b : Bool) → is_loser records t ≡ b → b ≡ false
-      by false loser = refl
-      by true loser = absurd (none-some (open_at [] records t) (sym (ap (λ (l : List Open). found_in l t) none) ∙ found_some t loser))
+  none_unfinished none t = grind (arith, none-some, found_some)
 
   -- each record is of a transaction that has begun, or is closed
   pub own_known : (t : ℕ) → (is_known [] records t || is_closed records t) ≡ false → entries_of t records ≡ []

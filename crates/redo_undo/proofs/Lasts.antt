@@ -1,7 +1,7 @@
 -- Where an unfinished transaction has begun.
 use Rattle.log_laws.proofs.Tails.{whole_in_order}
 use Rattle.log_laws.proofs.Parts.{in_order_filter}
-use Rattle.std.proofs.Common.{◌≡◌, ℕ, ◌≤◌, Bool, true, false, List, [], ◌∷◌, ◌++◌, length, refl, sym, ap, subst, ◌∙◌, arith, ◌*◌, ◌+◌}
+use Rattle.std.proofs.Common.{◌≡◌, ℕ, ◌≤◌, Bool, true, false, List, [], ◌∷◌, ◌++◌, length, refl, sym, ap, subst, ◌∙◌, arith, ◌*◌}
 use Rattle.std.specs.Prelude.{if◌then◌else◌, filter, Option}
 use Rattle.site.specs.State.{State}
 use Rattle.record_model.specs.State.{Content}

@@ -9,6 +9,7 @@ pub mod UndoneWork
 pub mod Saved
 pub mod Opens
 pub mod Found
+pub mod Judging
 pub mod Lasts
 pub mod Redoings
 pub mod NextRecords

@@ -1,5 +1,6 @@
 -- What single calls on log and pages make of the machine that mirrors them.
-use Rattle.std.proofs.Common.{◌≡◌, ◌≢◌, ◌⊎◌, inl, inr, ◌==◌, ℕ, ◌+◌, ◌*◌, ◌^◌, ◌<◌, ◌≤◌, Bool, true, false, cond, ◌||◌, ◌&&◌, nat_lt, nat_le, List, [], ◌∷◌, ◌++◌, map, filter, Some, refl, sym, ap, subst, ◌∙◌, arith, lt-ltb, le-leb, eqb-true, eq-eqb, ltb-false, true≢false}
+use Rattle.std.proofs.lemmas.Grind.{common_steps}
+use Rattle.std.proofs.Common.{◌≡◌, ◌≢◌, ◌⊎◌, inl, inr, ℕ, ◌+◌, ◌*◌, ◌^◌, ◌<◌, ◌≤◌, Bool, true, false, nat_lt, nat_le, List, [], ◌∷◌, ◌++◌, map, filter, Some, refl, sym, ap, subst, ◌∙◌, arith, lt-ltb, le-leb, eqb-true, eq-eqb, ltb-false}
 use Rattle.std.specs.Prelude.{Result, Ok, Err, OnOk, IfOk, IfErr, IsErrOf, if◌then◌else◌}
 use Rattle.std.specs.List.{list_any}
 use Rattle.std.proofs.lemmas.Bool.{and_from}
@@ -14,8 +15,8 @@ use Rattle.buffer_pool.specs.declared.frame.Frame.{Frame}
 use Rattle.log_records.specs.Spelling.{block_len, used_by}
 use Rattle.record_model.specs.Touches.{touch, flush}
 use Rattle.second_chance.specs.Machine.{Rules, PoolPage, Cache, touched, flushed}
-use Rattle.ring_machine.specs.Tail.{Tail, is_full_for, sealed_if, waits}
-use Rattle.ring_machine.specs.Machine.{Machine, cached, logged, changed, force, apply_op, past_end, front_changed, pushed_by}
+use Rattle.ring_machine.specs.Tail.{Tail, sealed_if, waits}
+use Rattle.ring_machine.specs.Machine.{Machine, cached, logged, changed, apply_op, past_end, front_changed, pushed_by}
 use Rattle.ring_machine.specs.Performing.{Performs}
 use Rattle.ring_machine.proofs.Works.{first_of_one}
 use Rattle.ring_machine.proofs.Ends.{never_past, log_past, flash_past, sealed_next, sealed_used}
@@ -40,10 +41,8 @@ use Rattle.redo_undo.proofs.PushedPages.{sealed_off, pushed_waits, none_waits}
 -- a page waits for it then where its LSN isn't sealed then
 pub waits_then : (sealing : Bool) (t : Tail) (log log' : LogStore) (content content' : List ℕ) (page : ℕ) → waits t page ≡ is_unsealed (end_now log) content → content' ≡ content → lsn_of content < 512 * (log.ring.hi + 1) →
     log'.ring.hi ≡ (if sealing then log.ring.hi + 1 else log.ring.hi) → waits (sealed_if sealing t) page ≡ is_unsealed (end_now log') content'
-waits_then true t log log' content content' page is same less hi =
-    sym (ap (is_unsealed (512 * log'.ring.hi)) same ∙ sealed_off (512 * log'.ring.hi) content (λ some. omega (arith, less, hi)))
-waits_then false t log log' content content' page is same less hi =
-    is ∙ ap (λ (n : ℕ). is_unsealed (512 * n) content) (sym hi) ∙ ap (is_unsealed (512 * log'.ring.hi)) (sym same)
+waits_then true t log log' content content' page is same less hi = grind (arith, sealed_off)
+waits_then false t log log' content content' page is same less hi = grind (arith)
 
 -- what the tail has then
 pub used_where : (sealing : Bool) (list : LogList) → used_by (log_list.sealed_if sealing list).tail ≡ (if sealing then 2 else used_by list.tail)
@@ -64,24 +63,13 @@ pub record HasNumbersLeft (log : LogStore) (pages : PageStore) : Type 0 where
   pub groups : next_group (cache_of pages) ≤ 2 ^ 40
 
 pub numbers_left : {log : LogStore} {pages : PageStore} {at now : State} → log_store.Invariant log at → page_store.Invariant pages now → HasNumbersLeft log pages
-numbers_left log pages = record {
-  blocks = log.usable.bounded;
-  groups = (let most = pages.flash.rings.groups_usable.bounded in let next = pages.flash.next in omega (arith, most, next));
-}
+numbers_left log pages = grind (arith)
 
 -- The machine once the tail is sealed, where that is wanted, and the pages have what they had.
 pub mirrors_then : (sealing : Bool) (log log' : LogStore) (pages pages' : PageStore) (old now : Image) (m : Machine) (c : Cache) → Mirrors log pages old m → c ≡ cache_of pages' → IsBelow log pages old → pages'.flash.geometry ≡ pages.flash.geometry →
     ((page : ℕ) → page < pages.flash.geometry.pages → current pages' now page ≡ current pages old page) → log'.ring.hi ≡ (if sealing then log.ring.hi + 1 else log.ring.hi) → log'.used ≡ (if sealing then 2 else log.used) →
     Mirrors log' pages' now (record m { cache = c; tail = sealed_if sealing m.tail })
-mirrors_then sealing log log' pages pages' old now m c is same below sizes kept hi used = record {
-  cache = same;
-  next = sealed_next sealing m.tail ∙ ap (λ (n : ℕ). if sealing then n + 1 else n) is.next ∙ sym hi;
-  used = sealed_used sealing m.tail ∙ ap (λ (n : ℕ). if sealing then 2 else n) is.used ∙ sym used;
-  waiting = λ page exists.
-      let there : page < pages.flash.geometry.pages = subst (λ (n : ℕ). page < n) (ap (λ g. g.pages) sizes) exists in
-      waits_then sealing m.tail log log' (current pages old page) (current pages' now page) page (is.waiting page there) (kept page there) (below_next log pages old below page there) hi;
-  masters = is.masters;
-}
+mirrors_then sealing log log' pages pages' old now m c is same below sizes kept hi used = grind (arith, sealed_next, sealed_used, waits_then, below_next)
 
 -- A touch.
 
@@ -113,38 +101,9 @@ module _ (log log' : LogStore) (pages pages' : PageStore) (before now : State) (
   after_touch m = record m { cache = touched (rules pages) page false (cache_of pages); tail = sealed_if sealing m.tail }
 
   stopped : {T : Type 0} (result : Result T Stop) → TouchStops result log pages sealing (pushes (rules pages) page (cache_of pages)) → (m : Machine) → Mirrors log pages before.image m → (dev : Dev) → IsErrOf result (Worn dev) → past_end (after_touch m) ≡ Some dev
-  stopped result stops m is Log says =
-      let worn = stops.worn_log says in
-      let one : (if sealing then log.ring.hi + 1 else log.ring.hi) ≡ log.ring.hi + 1 = ap (λ (b : Bool). if b then log.ring.hi + 1 else log.ring.hi) worn.0 in
-      log_past (after_touch m) (omega (arith, next_is m is, one, worn.1))
-  stopped result stops m is Flash says =
-      let worn = stops.worn_flash says in
-      let one : ◌≡◌ {A = ℕ} (if pushes (rules pages) page (cache_of pages) then 1 else 0) 1 = ap (λ (b : Bool). if b then 1 else 0) worn.0 in
-      flash_past (after_touch m) (omega (arith, next_is m is, room sealing refl)) is.masters (omega (arith, group_is, one, counts, worn.1))
-    where
-      other : IsErrOf result (Worn Log) ⊎ IsErrOf result Memory → ⊥
-      other (inl log) = of_error result (λ stop. stop ≢ Worn Log) (Worn Log) (of_flash result says) log refl
-        where
-          of_flash : {U : Type 0} (r : Result U Stop) → IsErrOf r (Worn Flash) → IfErr r (λ stop. stop ≢ Worn Log)
-          of_flash (Ok x) says = tt
-          of_flash (Err stop) says = λ same. cc
-      other (inr memory) = of_error result (λ stop. stop ≢ Memory) Memory (of_flash result says) memory refl
-        where
-          of_flash : {U : Type 0} (r : Result U Stop) → IsErrOf r (Worn Flash) → IfErr r (λ stop. stop ≢ Memory)
-          of_flash (Ok x) says = tt
-          of_flash (Err stop) says = λ same. cc
-
-      room : (b : Bool) → sealing ≡ b → (if sealing then log.ring.hi + 1 else log.ring.hi) ≤ 2 ^ 40
-      room true is_sealing =
-          let one : (if sealing then log.ring.hi + 1 else log.ring.hi) ≡ log.ring.hi + 1 = ap (λ (b : Bool). if b then log.ring.hi + 1 else log.ring.hi) is_sealing in
-          let less : log.ring.hi ≢ 2 ^ 40 = λ full. other (stops.at_log_end is_sealing full) in
-          let most = left.blocks in
-          omega (arith, one, less, most)
-      room false not_sealing =
-          let none : (if sealing then log.ring.hi + 1 else log.ring.hi) ≡ log.ring.hi = ap (λ (b : Bool). if b then log.ring.hi + 1 else log.ring.hi) not_sealing in
-          let most = left.blocks in
-          omega (arith, none, most)
-  stopped result stops m is Disk says = absurd (of_error result (λ stop. MayStop stop) (Worn Disk) stops.stops says)
+  stopped result stops m is Log says = grind (arith, common_steps, log_past, next_is)
+  stopped result stops m is Flash says = grind (arith, common_steps, flash_past, next_is, group_is, of_error)
+  stopped result stops m is Disk says = grind (arith, common_steps, of_error)
 
   pub touch_performs : {T : Type 0} (result : Result T Stop) → TouchStops result log pages sealing (pushes (rules pages) page (cache_of pages)) → OnOk result (log'.ring.hi ≡ (if sealing then log.ring.hi + 1 else log.ring.hi)) → OnOk result (log'.used ≡ (if sealing then 2 else log.used)) →
       OnOk result (cache_of pages' ≡ touched (rules pages) page false (cache_of pages)) → OnOk result ((number : ℕ) → number < pages.flash.geometry.pages → current pages' now.image number ≡ current pages before.image number) → pages'.flash.geometry ≡ pages.flash.geometry → HasNumbersLeft log' pages' →
@@ -172,98 +131,21 @@ not_others : {T : Type 0} (result : Result T Stop) (dev : Dev) → dev ≢ Log �
 not_others result dev other stops says = elim (of_error result (λ stop. (stop ≡ Device Log) ⊎ (stop ≡ Worn Log)) (Worn dev) stops says) [ inl device ↦ cc | inr worn ↦ other cc ]
 
 pub log_stopped : {T : Type 0} (result : Result T Stop) (log : LogStore) (sealing : Bool) → LogStops result log sealing → (m : Machine) → m.tail.next ≡ (if sealing then log.ring.hi + 1 else log.ring.hi) → (dev : Dev) → IsErrOf result (Worn dev) → past_end m ≡ Some dev
-log_stopped result log sealing stops m next Log says =
-    let worn = stops.worn_log says in
-    let one : (if sealing then log.ring.hi + 1 else log.ring.hi) ≡ log.ring.hi + 1 = ap (λ (b : Bool). if b then log.ring.hi + 1 else log.ring.hi) worn.0 in
-    log_past m (omega (arith, next, one, worn.1))
-log_stopped result log sealing stops m next Flash says = absurd (not_others result Flash (λ same. cc) stops.stops says)
-log_stopped result log sealing stops m next Disk says = absurd (not_others result Disk (λ same. cc) stops.stops says)
+log_stopped result log sealing stops m next Log says = grind (arith, log_past)
+log_stopped result log sealing stops m next Flash says = grind (arith, not_others)
+log_stopped result log sealing stops m next Disk says = grind (arith, not_others)
 
 module _ (log log' : LogStore) (pages : PageStore) (before now : State) (below : IsBelow log pages before.image) where
   -- it is forced
   pub force_performs : {T : Type 0} (result : Result T Stop) → LogStops result log (has_tail log) → OnOk result (log'.ring.hi ≡ (if has_tail log then log.ring.hi + 1 else log.ring.hi)) → OnOk result (log'.used ≡ 2) → 2 ≤ log.used →
       ((number : ℕ) → current pages now.image number ≡ current pages before.image number) → HasNumbersLeft log' pages → Performs result (rules pages) force_work (Mirrors log pages before.image) (Mirrors log' pages now.image)
-  force_performs result stops next used low kept numbers = by result stops next used
-    where
-      step : (m : Machine) → Mirrors log pages before.image m → apply_op (rules pages) force m ≡ record m { tail = sealed_if (has_tail log) m.tail }
-      step m is = ap (λ (n : ℕ). record m { tail = sealed_if (nat_lt 2 n) m.tail }) is.used
-
-      next_is : (m : Machine) → Mirrors log pages before.image m → (sealed_if (has_tail log) m.tail).next ≡ (if has_tail log then log.ring.hi + 1 else log.ring.hi)
-      next_is m is = sealed_next (has_tail log) m.tail ∙ ap (λ (n : ℕ). if has_tail log then n + 1 else n) is.next
-
-      -- a tail without records has two octets
-      empty : (b : Bool) → has_tail log ≡ b → 2 ≡ (if b then 2 else log.used)
-      empty true there = refl
-      empty false none = let few : log.used ≤ 2 = leb_of none in omega (arith, few, low)
-        where
-          leb_of : nat_lt 2 log.used ≡ false → log.used ≤ 2
-          leb_of is = ltb-false 2 log.used is
-
-      by : {T : Type 0} (r : Result T Stop) → LogStops r log (has_tail log) → OnOk r (log'.ring.hi ≡ (if has_tail log then log.ring.hi + 1 else log.ring.hi)) → OnOk r (log'.used ≡ 2) → Performs r (rules pages) force_work (Mirrors log pages before.image) (Mirrors log' pages now.image)
-      by (Err stop) stops next used = record {
-        done = λ m is. tt;
-        worn = λ m is dev says. first_of_one (rules pages) force m ∙ ap past_end (step m is) ∙ log_stopped (Err stop) log (has_tail log) stops (record m { tail = sealed_if (has_tail log) m.tail }) (next_is m is) dev says;
-      }
-      by (Ok x) stops next used = record {
-        done = λ m is. (
-          first_of_one (rules pages) force m ∙ ap past_end (step m is)
-              ∙ never_past (record m { tail = sealed_if (has_tail log) m.tail }) (let most = numbers.blocks in omega (arith, next_is m is, next, most)) is.masters (let most = numbers.groups in omega (arith, ap next_group is.cache, most)),
-          subst (Mirrors log' pages now.image) (sym (step m is)) (mirrors_then (has_tail log) log log' pages pages before.image now.image m m.cache is is.cache below refl (λ number exists. kept number) next (used ∙ empty (has_tail log) refl)),
-        );
-        worn = λ m is dev says. absurd (no_error says);
-      }
+  force_performs result stops next used low kept numbers = grind (arith, step, nat_lt, next_is, sealed_next, ltb-false, first_of_one, log_stopped, never_past, mirrors_then, no_error)
 
   -- a record is logged, of so many octets
-  abbrev overflows : ℕ → Bool
-  overflows octets = nat_lt block_len (log.used + octets)
-
-  abbrev logged_then : ℕ → Machine → Machine
-  logged_then octets m = record m { tail = record (sealed_if (overflows octets) m.tail) { used = (sealed_if (overflows octets) m.tail).used + octets; waiting = [] ++ (sealed_if (overflows octets) m.tail).waiting } }
-
   pub logged_performs : (result : Result ℕ Stop) (octets : ℕ) → (nat_lt block_len (log.used + octets) ≡ true → 2 < log.used) → LogStops result log (nat_lt block_len (log.used + octets)) → OnOk result (log'.ring.hi ≡ (if nat_lt block_len (log.used + octets) then log.ring.hi + 1 else log.ring.hi)) →
       OnOk result (log'.used ≡ (if nat_lt block_len (log.used + octets) then 2 else log.used) + octets) → ((number : ℕ) → current pages now.image number ≡ current pages before.image number) → HasNumbersLeft log' pages →
       Performs result (rules pages) (logged octets ∷ []) (Mirrors log pages before.image) (Mirrors log' pages now.image)
-  logged_performs result octets some stops next used kept numbers = by result stops next used
-    where
-      none : (b : Bool) → (b && false) ≡ false
-      none true = refl
-      none false = refl
-
-      -- no record is so long that an empty tail has no room for it
-      full_is : (m : Machine) → Mirrors log pages before.image m → is_full_for octets m.tail ≡ overflows octets
-      full_is m is = ap (λ (n : ℕ). nat_lt 2 n && nat_lt block_len (n + octets)) is.used ∙ over (overflows octets) refl
-        where
-          over : (b : Bool) → overflows octets ≡ b → (nat_lt 2 log.used && overflows octets) ≡ overflows octets
-          over true is = ap (λ (b : Bool). b && overflows octets) (lt-ltb 2 log.used (some is))
-          over false is = ap (λ (b : Bool). nat_lt 2 log.used && b) is ∙ none (nat_lt 2 log.used) ∙ sym is
-
-      step : (m : Machine) → Mirrors log pages before.image m → apply_op (rules pages) (logged octets) m ≡ (logged_then octets) m
-      step m is = ap (λ (b : Bool). record m { tail = record (sealed_if b m.tail) { used = (sealed_if b m.tail).used + octets; waiting = [] ++ (sealed_if b m.tail).waiting } }) (full_is m is)
-
-      next_is : (m : Machine) → Mirrors log pages before.image m → (sealed_if (overflows octets) m.tail).next ≡ (if (overflows octets) then log.ring.hi + 1 else log.ring.hi)
-      next_is m is = sealed_next (overflows octets) m.tail ∙ ap (λ (n : ℕ). if (overflows octets) then n + 1 else n) is.next
-
-      mirrors : (m : Machine) → Mirrors log pages before.image m → log'.ring.hi ≡ (if (overflows octets) then log.ring.hi + 1 else log.ring.hi) → log'.used ≡ (if (overflows octets) then 2 else log.used) + octets → Mirrors log' pages now.image ((logged_then octets) m)
-      mirrors m is next used = record {
-        cache = is.cache;
-        next = next_is m is ∙ sym next;
-        used = ap (λ (n : ℕ). n + octets) (sealed_used (overflows octets) m.tail ∙ ap (λ (n : ℕ). if (overflows octets) then 2 else n) is.used) ∙ sym used;
-        waiting = λ page exists. waits_then (overflows octets) m.tail log log' (current pages before.image page) (current pages now.image page) page (is.waiting page exists) (kept page) (below_next log pages before.image below page exists) next;
-        masters = is.masters;
-      }
-
-      by : (r : Result ℕ Stop) → LogStops r log (overflows octets) → OnOk r (log'.ring.hi ≡ (if (overflows octets) then log.ring.hi + 1 else log.ring.hi)) → OnOk r (log'.used ≡ (if (overflows octets) then 2 else log.used) + octets) → Performs r (rules pages) (logged octets ∷ []) (Mirrors log pages before.image) (Mirrors log' pages now.image)
-      by (Err stop) stops next used = record {
-        done = λ m is. tt;
-        worn = λ m is dev says. first_of_one (rules pages) (logged octets) m ∙ ap past_end (step m is) ∙ log_stopped (Err stop) log (overflows octets) stops ((logged_then octets) m) (next_is m is) dev says;
-      }
-      by (Ok lsn) stops next used = record {
-        done = λ m is. (
-          first_of_one (rules pages) (logged octets) m ∙ ap past_end (step m is) ∙ never_past ((logged_then octets) m) (let most = numbers.blocks in omega (arith, next_is m is, next, most)) is.masters (let most = numbers.groups in omega (arith, ap next_group is.cache, most)),
-          subst (Mirrors log' pages now.image) (sym (step m is)) (mirrors m is next used),
-        );
-        worn = λ m is dev says. absurd (no_error says);
-      }
+  logged_performs result octets some stops next used kept numbers = grind (arith, nat_lt, lt-ltb, step, next_is, sealed_next, sealed_used, waits_then, below_next, first_of_one, log_stopped, never_past, no_error)
 
 -- how many octets the tail has with the record
 pub logged_used : (result : Result ℕ Stop) (sealing : Bool) (octets : ℕ) (log log' : LogStore) → OnOk result (log'.ring.hi ≡ (if sealing then log.ring.hi + 1 else log.ring.hi)) → IfOk result (λ lsn. lsn ≡ (if sealing then 512 * (log.ring.hi + 1) + 2 else end_of log)) →
@@ -281,37 +163,12 @@ front_same (front ∷ pool) = refl
 module _ (log' : LogStore) (pages pages' : PageStore) (image : Image) (page lsn octets : ℕ) (changes : cache_of pages' ≡ with_change (cache_of pages)) (sizes : pages'.flash.geometry ≡ pages.flash.geometry)
     (own : lsn_of (current pages' image page) ≡ lsn) (others : (number : ℕ) → number ≢ page → current pages' image number ≡ current pages image number) (some : 0 < lsn) (last : 512 * log'.ring.hi ≤ lsn) where
   pub change_mirrors : (r : Rules) (m : Machine) → Mirrors log' pages image (apply_op r (logged octets) m) → Mirrors log' pages' image (apply_op r (changed octets page) m)
-  change_mirrors r m is = record {
-    cache = ap (λ (pool : List PoolPage). record m.cache { pool = pool }) (front_same m.cache.pool) ∙ ap with_change is.cache ∙ sym changes;
-    next = is.next;
-    used = is.used;
-    waiting = λ number exists. by number (subst (λ (n : ℕ). number < n) (ap (λ g. g.pages) sizes) exists) (page == number) refl;
-    masters = is.masters;
-  }
-    where
-      unsealed : is_unsealed (end_now log') (current pages' image page) ≡ true
-      unsealed =
-          and_from (nat_lt 0 (lsn_of (current pages' image page))) (nat_le (end_now log') (lsn_of (current pages' image page)))
-          (lt-ltb 0 (lsn_of (current pages' image page)) (omega (arith, own, some))) (le-leb (end_now log') (lsn_of (current pages' image page)) (omega (arith, own, last)))
-
-      by : (number : ℕ) → number < pages.flash.geometry.pages → (b : Bool) → (page == number) ≡ b → ((page == number) || waits (apply_op r (logged octets) m).tail number) ≡ is_unsealed (end_now log') (current pages' image number)
-      by number exists true here =
-          ap (λ (b : Bool). b || waits (apply_op r (logged octets) m).tail number) here
-          ∙ sym (ap (λ (n : ℕ). is_unsealed (end_now log') (current pages' image n)) (sym (eqb-true page number here)) ∙ unsealed)
-      by number exists false there =
-          ap (λ (b : Bool). b || waits (apply_op r (logged octets) m).tail number) there ∙ is.waiting number exists
-          ∙ ap (is_unsealed (end_now log')) (sym (others number (λ same. true≢false (sym (sym there ∙ eq_at page number (sym same))))))
-        where
-          eq_at : (a b : ℕ) → a ≡ b → (a == b) ≡ true
-          eq_at a b same = eq-eqb a b same
+  change_mirrors r m is = grind (arith, common_steps, front_same, and_from, nat_lt, nat_le, lt-ltb, le-leb, eqb-true, eq-eqb)
 
   -- the same call, as the record's work and as that of the change
   pub change_performs : {A B : Type 0} {a : A} {b : B} {log : LogStore} {old : Image} {r : Rules} → Performs {T = A} (Ok a) r (logged octets ∷ []) (Mirrors log pages old) (Mirrors log' pages image) →
       Performs {T = B} (Ok b) r (changed octets page ∷ []) (Mirrors log pages old) (Mirrors log' pages' image)
-  change_performs {r = r} one = record {
-    done = λ m is. let d = one.done m is in (d.0, change_mirrors r m d.1);
-    worn = λ m is dev says. absurd (no_error says);
-  }
+  change_performs {r = r} one = grind (arith, common_steps, change_mirrors, no_error)
 
 pub change_stopped_by : {A B : Type 0} {stop : Stop} {log log' other : LogStore} {pages pages' : PageStore} {old now image : Image} {octets page : ℕ} {r : Rules} → Performs {T = A} (Err stop) r (logged octets ∷ []) (Mirrors log pages old) (Mirrors log' pages now) →
     Performs {T = B} (Err stop) r (changed octets page ∷ []) (Mirrors log pages old) (Mirrors other pages' image)
@@ -320,19 +177,11 @@ change_stopped_by {B = B} {stop = stop} one = record { done = λ m is. tt; worn 
 -- A flush behind a tail without records.
 
 pub logged_now : (log : LogStore) (frames : List Frame) → log.used ≡ 2 → AreLogged (end_forced log) frames → AreLogged (end_now log) frames
-logged_now log frames two ahead =
-    let same : end_forced log ≡ end_now log = ap (λ (n : ℕ). 512 * (log.ring.hi + (if nat_lt 2 n then 1 else 0))) two ∙ omega arith in
-    subst (λ (end : ℕ). AreLogged end frames) same ahead
+logged_now log frames two ahead = grind (arith, nat_lt)
 
 changed_pages : (frames : List Frame) → map (λ (p : PoolPage). p.page) (filter (λ (p : PoolPage). p.changed) (map pool_page frames)) ≡ map (λ (f : Frame). f.page) (filter (λ (f : Frame). f.changed) frames)
-changed_pages [] = refl
-changed_pages (frame ∷ frames) = by frame.changed (changed_pages frames)
-  where
-    by : (b : Bool) → map (λ (p : PoolPage). p.page) (filter (λ (p : PoolPage). p.changed) (map pool_page frames)) ≡ map (λ (f : Frame). f.page) (filter (λ (f : Frame). f.changed) frames) →
-        map (λ (p : PoolPage). p.page) (cond b (pool_page frame ∷ filter (λ (p : PoolPage). p.changed) (map pool_page frames)) (filter (λ (p : PoolPage). p.changed) (map pool_page frames)))
-        ≡ map (λ (f : Frame). f.page) (cond b (frame ∷ filter (λ (f : Frame). f.changed) frames) (filter (λ (f : Frame). f.changed) frames))
-    by true rest = ap (λ (l : List ℕ). frame.page ∷ l) rest
-    by false rest = rest
+changed_pages [] = grind (arith)
+changed_pages (frame ∷ frames) = grind (arith, (changed_pages frames))
 
 module _ (log log' : LogStore) (pages pages' : PageStore) (before now : State) (own : IsStore pages) (ahead : AreLogged (end_now log) pages.pool.frames) (below : IsBelow log pages before.image) (left : HasNumbersLeft log pages) where
   flush_step : (m : Machine) → Mirrors log pages before.image m → apply_op (rules pages) (cached flush) m ≡ record m { cache = flushed (rules pages) (cache_of pages) }
@@ -346,20 +195,5 @@ module _ (log log' : LogStore) (pages pages' : PageStore) (before now : State) (
   pub flush_performs : {T : Type 0} (result : Result T Stop) → (IsErrOf result (Worn Log) → ⊥) → (IsErrOf result (Worn Flash) → 2 ^ 40 < next_group (flushed (rules pages) (cache_of pages))) → IfErr result (λ stop. MayStop stop) →
       OnOk result (log'.ring.hi ≡ log.ring.hi) → OnOk result (log'.used ≡ log.used) → OnOk result (cache_of pages' ≡ flushed (rules pages) (cache_of pages)) → OnOk result ((number : ℕ) → number < pages.flash.geometry.pages → current pages' now.image number ≡ current pages before.image number) →
       pages'.flash.geometry ≡ pages.flash.geometry → HasNumbersLeft log' pages' → Performs result (rules pages) flush_work (Mirrors log pages before.image) (Mirrors log' pages' now.image)
-  flush_performs {T = T} (Err stop) no_log over stops next used machine kept sizes numbers = record {
-    done = λ m is. tt;
-    worn = λ m is dev says. first_of_one (rules pages) (cached flush) m ∙ ap past_end (flush_step m is) ∙ worn_at m is dev says;
-  }
-    where
-      worn_at : (m : Machine) → Mirrors log pages before.image m → (dev : Dev) → IsErrOf {T = T} (Err stop) (Worn dev) → past_end (record m { cache = flushed (rules pages) (cache_of pages) }) ≡ Some dev
-      worn_at m is Log says = absurd (no_log says)
-      worn_at m is Flash says = flash_past (record m { cache = flushed (rules pages) (cache_of pages) }) (let most = left.blocks in let at = is.next in omega (arith, at, most)) is.masters (over says)
-      worn_at m is Disk says = absurd (of_error (Err stop) (λ s. MayStop s) (Worn Disk) stops says)
-  flush_performs (Ok x) no_log over stops next used machine kept sizes numbers = record {
-    done = λ m is. (
-      first_of_one (rules pages) (cached flush) m ∙ ap past_end (flush_step m is)
-          ∙ never_past (record m { cache = flushed (rules pages) (cache_of pages) }) (let most = left.blocks in let at = is.next in omega (arith, at, most)) is.masters (let most = numbers.groups in omega (arith, ap next_group machine, most)),
-      subst (Mirrors log' pages' now.image) (sym (flush_step m is)) (mirrors_then false log log' pages pages' before.image now.image m (flushed (rules pages) (cache_of pages)) is (sym machine) below sizes kept next used),
-    );
-    worn = λ m is dev says. absurd (no_error says);
-  }
+  flush_performs {T = T} (Err stop) no_log over stops next used machine kept sizes numbers = grind (arith, first_of_one, flush_step, flash_past, of_error)
+  flush_performs (Ok x) no_log over stops next used machine kept sizes numbers = grind (arith, first_of_one, flush_step, never_past, mirrors_then, no_error)

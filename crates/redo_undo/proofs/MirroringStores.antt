@@ -1,28 +1,24 @@
 -- What calls on a store make of the machine that mirrors it.
-use Rattle.std.proofs.Common.{◌≡◌, ◌⊎◌, ℕ, ◌+◌, ◌^◌, ◌≤◌, false, List, [], ◌∷◌, ◌++◌, Some, inl, inr, ◌*◌, ◌<◌, refl, sym, ap, subst, ◌∙◌, arith}
+use Rattle.std.proofs.Common.{◌≡◌, ◌⊎◌, ℕ, ◌+◌, ◌^◌, ◌≤◌, false, List, [], ◌∷◌, ◌++◌, refl, sym, ap, ◌∙◌, arith}
 use Rattle.std.specs.Prelude.{Result, Ok, Err, OnOk, IfErr, IsErrOf}
 use Rattle.std.specs.List.{list_any}
 use Rattle.std.proofs.lemmas.Bool.{or_from}
 use Rattle.std.proofs.lemmas.List.Folds.{list_any-append}
-use Rattle.site.specs.declared.outside.Dev.{Dev}
-use Rattle.site.specs.declared.outside.Dev.TheVariants.{Log, Flash, Disk}
+use Rattle.site.specs.declared.outside.Dev.TheVariants.{Log}
 use Rattle.site.specs.declared.outside.Stop.{Stop}
 use Rattle.site.specs.declared.outside.Stop.TheVariants.{Device, Worn}
 use Rattle.site.specs.State.{State, Image}
 use Rattle.site.proofs.Working.{no_error}
-use Rattle.log_records.specs.Log.{Entry, number_of, before_of}
-use Rattle.ring_machine.specs.Machine.{Machine, RingOp, save, past_end}
+use Rattle.log_records.specs.Log.{Entry}
+use Rattle.ring_machine.specs.Machine.{RingOp, save}
 use Rattle.ring_machine.specs.Commands.{ends}
-use Rattle.ring_machine.specs.Restart.{clr_work}
 use Rattle.ring_machine.specs.Performing.{Performs}
 use Rattle.ring_machine.proofs.Works.{first_of_one}
 use Rattle.ring_machine.proofs.Ends.{saves_one, masters_stay, clr_saves_none, never_past, masters_past}
 use Rattle.ring_machine.proofs.Performing.{performs_with}
 use Rattle.sealed_ring.specs.declared.ring.Ring.{Ring}
-use Rattle.write_ahead.specs.Forcing.{is_unsealed, end_now}
-use Rattle.page_store.specs.declared.store.PageStore.{PageStore}
 use Rattle.page_store.specs.Representation.{current}
-use Rattle.page_store.specs.Caching.{cache_of, rules, next_group}
+use Rattle.page_store.specs.Caching.{rules}
 use Rattle.redo_undo.specs.declared.store.TransactionStore.{TransactionStore}
 use Rattle.redo_undo.specs.Mirroring.{Mirrors, MirrorsStore, PerformsStore, clrs_for}
 use Rattle.redo_undo.proofs.Mirroring.{HasNumbersLeft}
@@ -34,10 +30,8 @@ store_performs {works = works} {old = old} none same performs =
     performs_with (λ m is. is.both) (λ m is both. record { both = both; masters = masters_stay (rules old.pages) works m none ∙ is.masters ∙ sym (ap (λ (r : Ring). r.hi) same) }) performs
 
 pub clrs_save_none : (updates : List Entry) → list_any saves_one (clrs_for updates) ≡ false
-clrs_save_none [] = refl
-clrs_save_none (u ∷ updates) =
-    list_any-append saves_one (clr_work u) (clrs_for updates)
-    ∙ or_from (list_any saves_one (clr_work u)) (list_any saves_one (clrs_for updates)) (clr_saves_none (before_of u.rec) (number_of u.rec)) (clrs_save_none updates)
+clrs_save_none [] = grind (arith)
+clrs_save_none (u ∷ updates) = grind (arith, list_any-append, saves_one, or_from, clr_saves_none, (clrs_save_none updates))
 
 pub undoing_saves_none : (updates : List Entry) → list_any saves_one (clrs_for updates ++ ends) ≡ false
 undoing_saves_none updates = list_any-append saves_one (clrs_for updates) ends ∙ or_from (list_any saves_one (clrs_for updates)) (list_any saves_one ends) (clrs_save_none updates) refl
@@ -47,33 +41,5 @@ undoing_saves_none updates = list_any-append saves_one (clrs_for updates) ends �
 module _ (old new : TransactionStore) (before now : State) (numbers : HasNumbersLeft old.log old.pages) where
   pub save_performs : {T : Type 0} (result : Result T Stop) → (IsErrOf result (Worn Log) → old.masters.hi ≡ 2 ^ 40) → IfErr result (λ stop. (stop ≡ Device Log) ⊎ (stop ≡ Worn Log)) → OnOk result (new.masters.hi ≡ old.masters.hi + 1) → OnOk result (new.masters.hi ≤ 2 ^ 40) →
       OnOk result (new.log.ring.hi ≡ old.log.ring.hi) → OnOk result (new.log.used ≡ old.log.used) → new.pages ≡ old.pages → ((page : ℕ) → current old.pages now.image page ≡ current old.pages before.image page) → PerformsStore result (save ∷ []) old new before now
-  save_performs {T = T} (Err stop) at_end stops one most hi used same kept = record {
-    done = λ m is. tt;
-    worn = λ m is dev says. first_of_one (rules old.pages) save m ∙ by m is dev says;
-  }
-    where
-      by : (m : Machine) → MirrorsStore old before.image m → (dev : Dev) → IsErrOf {T = T} (Err stop) (Worn dev) → past_end (record m { masters = m.masters + 1 }) ≡ Some dev
-      by m is Log says = masters_past (record m { masters = m.masters + 1 }) (omega (arith, is.masters, at_end says))
-      by m is Flash says = elim stops [ inl device ↦ cc | inr worn ↦ cc ]
-      by m is Disk says = elim stops [ inl device ↦ cc | inr worn ↦ cc ]
-  save_performs (Ok x) at_end stops one most hi used same kept = record {
-    done = λ m is. (
-      first_of_one (rules old.pages) save m
-          ∙ never_past (record m { masters = m.masters + 1 }) (let blocks = numbers.blocks in let at = is.both.next in omega (arith, at, blocks)) (omega (arith, is.masters, one, most)) (let groups = numbers.groups in omega (arith, ap next_group is.both.cache, groups)),
-      record {
-        both = record {
-          cache = is.both.cache ∙ ap cache_of (sym same);
-          next = is.both.next ∙ sym hi;
-          used = is.both.used ∙ sym used;
-          waiting = λ page exists.
-              is.both.waiting page (subst (λ (p : PageStore). page < p.flash.geometry.pages) same exists)
-              ∙ ap (is_unsealed (end_now old.log)) (sym (kept page))
-              ∙ ap (λ (n : ℕ). is_unsealed (512 * n) (current old.pages now.image page)) (sym hi)
-              ∙ ap (λ (p : PageStore). is_unsealed (end_now new.log) (current p now.image page)) (sym same);
-          masters = omega (arith, is.masters, one, most);
-        };
-        masters = ap (λ (n : ℕ). n + 1) is.masters ∙ sym one;
-      },
-    );
-    worn = λ m is dev says. absurd (no_error says);
-  }
+  save_performs {T = T} (Err stop) at_end stops one most hi used same kept = grind (arith, first_of_one, masters_past)
+  save_performs (Ok x) at_end stops one most hi used same kept = grind (arith, first_of_one, never_past, no_error)

@@ -1,20 +1,18 @@
 -- The next units of a store's rings over an honest site, whatever stands there: calls one after the other.
+use Rattle.std.proofs.Common.{arith}
 use Rattle.std.proofs.Common.{◌≡◌, ◌≢◌, ◌⊎◌, inl, inr, refl, ap, sym, subst, ◌∙◌}
 use Rattle.std.specs.Prelude.{◌^◌, Result, Ok, Err, OnOk, IfErr, IsErrOf}
 use Rattle.site.specs.declared.outside.Dev.{Dev}
 use Rattle.site.specs.declared.outside.Dev.TheVariants.{Log, Flash, Disk}
 use Rattle.site.specs.declared.outside.Stop.{Stop}
 use Rattle.site.specs.declared.outside.Stop.TheVariants.{Device, Worn}
-use Rattle.site.specs.declared.geometry.Geometry.{Geometry}
 use Rattle.site.specs.State.{State as Site}
 use Rattle.site.specs.Moments.{ChangesOnly}
 use Rattle.site.proofs.Working.{no_error, err_again, err_as, of_error}
-use Rattle.sealed_ring.specs.declared.ring.Ring.{Ring}
 use Rattle.sealed_ring.specs.Ring.{hi_of}
 use Rattle.image_changes.specs.Rings.{master_shape, segment_shape}
 use Rattle.flash_cache.specs.Representation as flash_cache
 use Rattle.log_store.specs.Representation as log_store
-use Rattle.write_ahead.specs.Forcing.{IsLogAtEnd}
 use Rattle.page_store.specs.declared.store.PageStore.{PageStore}
 use Rattle.page_store.specs.Calls as pages
 use Rattle.page_store.specs.Stopping.{MayStop}
@@ -26,30 +24,14 @@ use Rattle.redo_undo.specs.StoreCalls.{AreNext, KeepsNext}
 -- a call of log and pages
 pub store_next : {T : Type 0} {r : Result T Stop} {old new : TransactionStore} {before now : Site} → old.log.geometry ≡ sizes_of old → new.masters ≡ old.masters → IfErr r (λ stop. MayStop stop) →
     pages.KeepsNext r old.log new.log old.pages new.pages before now → KeepsNext r old new before now
-store_next {T = T} {r = r} {old = old} {new = new} {before = before} {now = now} sizes masters stops first = record { next = λ is. next r is first; worn = λ is. worn is }
-  where
-    next : (r : Result T Stop) → AreNext old before → pages.KeepsNext r old.log new.log old.pages new.pages before now → OnOk r (AreNext new now)
-    next (Ok x) is first = record {
-      block = first.block.next is.block;
-      master = ap (λ (m : Ring). m.hi) masters ∙ is.master ∙ sym first.block.masters;
-      segment = first.segment.next is.segment;
-    }
-    next (Err stop) is first = tt
-
-    worn : AreNext old before → (dev : Dev) → IsErrOf r (Worn dev) → IsSpent dev (sizes_of old) now.image
-    worn is Log says = inl (subst (λ (g : Geometry). IsLogAtEnd g now.image) sizes (first.block.worn is.block says))
-    worn is Flash says = first.segment.worn is.segment says
-    worn is Disk says = of_error r (λ stop. MayStop stop) (Worn Disk) stops says
+store_next {T = T} {r = r} {old = old} {new = new} {before = before} {now = now} sizes masters stops first = grind (arith, of_error)
 
 pub next_nothing : {T : Type 0} {x : T} {store : TransactionStore} {site : Site} → KeepsNext {T = T} (Ok x) store store site site
 next_nothing = record { next = λ is. is; worn = λ is dev says. absurd (no_error says) }
 
 pub next_then : {A B : Type 0} {a : A} {r : Result B Stop} {old mid new : TransactionStore} {before between now : Site} → sizes_of mid ≡ sizes_of old →
     KeepsNext {T = A} (Ok a) old mid before between → KeepsNext r mid new between now → KeepsNext r old new before now
-next_then {now = now} sizes first second = record {
-  next = λ is. second.next (first.next is);
-  worn = λ is dev says. subst (λ (g : Geometry). IsSpent dev g now.image) sizes (second.worn (first.next is) dev says);
-}
+next_then {now = now} sizes first second = grind (arith)
 
 pub next_failed : {A B : Type 0} {stop : Stop} {old new : TransactionStore} {before now : Site} → KeepsNext {T = A} (Err stop) old new before now → KeepsNext {T = B} (Err stop) old new before now
 next_failed first = record { next = λ is. tt; worn = λ is dev says. first.worn is dev (err_again _ _ says) }

@@ -1,5 +1,5 @@
 -- Lists of active transactions.
-use Rattle.std.proofs.Common.{Bool, true, false, true≢false, ◌==◌, ◌⊎◌, inl, inr, nat_eq, get_or, if◌then◌else◌, append_assoc, ◌≡◌, ◌≢◌, ℕ, suc, ◌+◌, ◌≤◌, ◌<◌, cond, List, [], ◌∷◌, ◌++◌, length, Option, None, Some, refl, sym, ap, subst, ◌∙◌, arith}
+use Rattle.std.proofs.Common.{Bool, true, false, true≢false, ◌==◌, ◌⊎◌, inl, inr, nat_eq, get_or, append_assoc, ◌≡◌, ◌≢◌, ℕ, suc, ◌+◌, ◌≤◌, ◌<◌, cond, List, [], ◌∷◌, ◌++◌, length, Option, None, Some, refl, sym, ap, subst, ◌∙◌, arith}
 use Rattle.std.specs.Prelude.{map, filter, drop, option_map, IfNone}
 use Rattle.std.specs.List.{AllByRecursion, list_any}
 use Rattle.std.proofs.lemmas.Bool.{cases_eq, ne_eqb, eq-eqb, eqb-true}
@@ -23,19 +23,15 @@ none_found t [] all = refl
 none_found t (x ∷ table) all = ap (λ b. cond b (Some x) (found_in table t)) (ne_eqb x.txn t all.0) ∙ none_found t table all.1
 
 above : (n : ℕ) (table : List Open) → AscendFrom n table → AllByRecursion (λ x. n ≤ x.txn) table
-above n [] ascend = tt
-above n (x ∷ table) ascend =
-    let low = ascend.0 in
-    (low, all_both (λ y. x.txn + 1 ≤ y.txn) (λ y. x.txn + 1 ≤ y.txn) (λ y. n ≤ y.txn) (λ y p q. omega (arith, p, low)) table (above (x.txn + 1) table ascend.1) (above (x.txn + 1) table ascend.1))
+above n [] ascend = grind (arith)
+above n (x ∷ table) ascend = grind (arith, all_both, (above (x.txn + 1) table ascend.1))
 
 at_least : (n : ℕ) (front : List Open) (was : Open) (back : List Open) → AscendFrom n (front ++ was ∷ back) → n ≤ was.txn
 at_least n front was back ascend = (all_right (λ x. n ≤ x.txn) front (was ∷ back) (above n (front ++ was ∷ back) ascend)).0
 
 pub found_here : (n : ℕ) (front : List Open) (was : Open) (back : List Open) → AscendFrom n (front ++ was ∷ back) → found_in (front ++ was ∷ back) was.txn ≡ Some was
-found_here n [] was back ascend = ap (λ b. cond b (Some was) (found_in back was.txn)) (eq-eqb was.txn was.txn refl)
-found_here n (x ∷ front) was back ascend =
-    let more = at_least (x.txn + 1) front was back ascend.1 in
-    ap (λ b. cond b (Some x) (found_in (front ++ was ∷ back) was.txn)) (ne_eqb x.txn was.txn (λ same. omega (arith, more, same))) ∙ found_here (x.txn + 1) front was back ascend.1
+found_here n [] was back ascend = grind (arith, eq-eqb)
+found_here n (x ∷ front) was back ascend = grind (arith, at_least, ne_eqb, (found_here (x.txn + 1) front was back ascend.1))
 
 others_differ : (n : ℕ) (front : List Open) (was : Open) (back : List Open) → AscendFrom n (front ++ was ∷ back) → AllByRecursion (λ x. x.txn ≢ was.txn) (front ++ back)
 others_differ n [] was back ascend =
@@ -63,13 +59,7 @@ drop_none (u ∷ v ∷ us) less = absurd (omega (arith, less))
 
 -- where more than one Update of a transaction remains one remains after its CLR
 pub still_remain : (old new : List Open) (loser : Loser) (last : ℕ) → AscendFrom 0 old → Remain old → IsOf old loser → 1 < loser.remaining → Replaces old new loser.txn (undone_by last) → Remain new
-still_remain old new loser last ascend all is more r =
-    let parts = subst Remain r.old_is all in
-    let same = first_is old loser.txn r.front r.was r.back is.x ascend r.old_is r.of is.there in
-    let count : loser.remaining ≡ length r.was.updates = ap (λ (l : Loser). l.remaining) is.same ∙ sym (ap (λ (x : Open). length x.updates) same) in
-    subst Remain (sym r.new_is)
-    (all_append (λ x. 0 < length x.updates) r.front (undone_by last r.was ∷ r.back) (all_left (λ x. 0 < length x.updates) r.front (r.was ∷ r.back) parts)
-    (drop_some r.was.updates (omega (arith, more, count)), (all_right (λ x. 0 < length x.updates) r.front (r.was ∷ r.back) parts).1))
+still_remain old new loser last ascend all is more r = grind (arith, first_is, all_append, all_left, drop_some, all_right)
 
 -- and else none does
 pub none_remains_of : (old new : List Open) (loser : Loser) (last : ℕ) → AscendFrom 0 old → AscendFrom 0 new → IsOf old loser → loser.remaining ≤ 1 → Replaces old new loser.txn (undone_by last) → HasNone new loser.txn
@@ -116,23 +106,12 @@ others_remain old mid new t last ascend all r out =
 -- What remains of each transaction.
 
 found_txn : (table : List Open) (t : ℕ) (x : Open) → found_in table t ≡ Some x → x.txn ≡ t
-found_txn [] t x found = absurd (none-some x found)
-found_txn (y ∷ table) t x found = by (y.txn == t) refl found (found_txn table t x)
-  where
-    by : (b : Bool) → (y.txn == t) ≡ b → cond b (Some y) (found_in table t) ≡ Some x → (found_in table t ≡ Some x → x.txn ≡ t) → x.txn ≡ t
-    by true is here rest = ap (λ (o : Open). o.txn) (sym (same_Some y x here)) ∙ eqb-true y.txn t is
-    by false is later rest = rest later
+found_txn [] t x found = grind (arith, none-some)
+found_txn (y ∷ table) t x found = grind (arith, same_Some, eqb-true, (found_txn table t x))
 
 -- a transaction by its name
 pub of_found : (table : List Open) (t : ℕ) (loser : Loser) → Some loser ≡ option_map loser_of (found_in table t) → IsOf table loser × (loser.txn ≡ t)
-of_found table t loser is = by (found_in table t) refl is
-  where
-    by : (o : Option Open) → found_in table t ≡ o → Some loser ≡ option_map loser_of o → IsOf table loser × (loser.txn ≡ t)
-    by None none is = absurd (none-some loser (sym is))
-    by (Some x) found is =
-        let same : loser ≡ loser_of x = same_Some loser (loser_of x) is in
-        let own : loser.txn ≡ t = ap (λ (l : Loser). l.txn) same ∙ found_txn table t x found in
-        (record { x = x; there = ap (found_in table) own ∙ found; same = same }, own)
+of_found table t loser is = grind (arith, none-some, same_Some, found_txn)
 
 found_without : (front : List Open) (x : Open) (back : List Open) (s : ℕ) → x.txn ≢ s → found_in (front ++ x ∷ back) s ≡ found_in (front ++ back) s
 found_without [] x back s other = ap (λ b. cond b (Some x) (found_in back s)) (ne_eqb x.txn s other)
@@ -155,21 +134,7 @@ left_same old new t ascend none out s = by (cases_eq s t)
 
 -- behind a CLR one Update less remains of its transaction
 pub drops_one : (old new : List Open) (t last : ℕ) → AscendFrom 0 old → AscendFrom 0 new → Replaces old new t (undone_by last) → DropsOne old new t
-drops_one old new t last ascend ascend' r s = by (cases_eq s t)
-  where
-    was_there : found_in old t ≡ Some r.was
-    was_there = ap (λ (l : List Open). found_in l t) r.old_is ∙ ap (found_in (r.front ++ r.was ∷ r.back)) (sym r.of) ∙ found_here 0 r.front r.was r.back (subst (AscendFrom 0) r.old_is ascend)
-
-    is_there : found_in new t ≡ Some (undone_by last r.was)
-    is_there = ap (λ (l : List Open). found_in l t) r.new_is ∙ ap (found_in (r.front ++ undone_by last r.was ∷ r.back)) (sym r.of) ∙ found_here 0 r.front (undone_by last r.was) r.back (subst (AscendFrom 0) r.new_is ascend')
-
-    by : (s ≡ t) ⊎ (s ≢ t) → left_in new s ≡ (if s == t then drop 1 (left_in old s) else left_in old s)
-    by (inl same) =
-        ap (left_in new) same ∙ ap updates_of is_there ∙ sym (ap (drop 1) (ap updates_of was_there)) ∙ ap (λ n. drop 1 (left_in old n)) (sym same)
-        ∙ sym (ap (λ b. if b then drop 1 (left_in old s) else left_in old s) (eq-eqb s t same))
-    by (inr other) =
-        ap updates_of (ap (λ (l : List Open). found_in l s) r.new_is ∙ found_without r.front (undone_by last r.was) r.back s (λ same. other (sym same ∙ r.of)) ∙ sym (found_without r.front r.was r.back s (λ same. other (sym same ∙ r.of))) ∙ sym (ap (λ (l : List Open). found_in l s) r.old_is))
-        ∙ sym (ap (λ b. if b then drop 1 (left_in old s) else left_in old s) (ne_eqb s t other))
+drops_one old new t last ascend ascend' r s = grind (arith, found_here, eq-eqb, found_without, ne_eqb)
 
 pub drops_as : (old mid new : List Open) (t : ℕ) → DropsOne old mid t → LeavesSame mid new → DropsOne old new t
 drops_as old mid new t drops same s = same s ∙ drops s
@@ -204,13 +169,8 @@ empty_from [] is = refl
 empty_from (u ∷ us) is = absurd (omega (arith, eqb-true (length (u ∷ us)) 0 is))
 
 none_all : (n : ℕ) (all front table : List Open) → AscendFrom n (front ++ table) → all ≡ front ++ table → AllByRecursion (λ x. HasNone all x.txn) (filter none_remains table)
-none_all n all front [] ascend is = tt
-none_all n all front (x ∷ table) ascend is =
-    by (none_remains x) refl (none_all n all (front ++ x ∷ []) table (subst (AscendFrom n) (sym (append_assoc front (x ∷ []) table)) ascend) (is ∙ sym (append_assoc front (x ∷ []) table)))
-  where
-    by : (b : Bool) → none_remains x ≡ b → AllByRecursion (λ y. HasNone all y.txn) (filter none_remains table) → AllByRecursion (λ y. HasNone all y.txn) (cond b (x ∷ filter none_remains table) (filter none_remains table))
-    by true none rest = (record { x = x; there = ap (λ (l : List Open). found_in l x.txn) is ∙ found_here n front x table ascend; none = empty_from x.updates none }, rest)
-    by false some rest = rest
+none_all n all front [] ascend is = grind (arith)
+none_all n all front (x ∷ table) ascend is = grind (arith, append_assoc, found_here, empty_from, (none_all n all (front ++ x ∷ []) table (subst (AscendFrom n) (sym (append_assoc front (x ∷ []) table)) ascend) (is ∙ sym (append_assoc front (x ∷ []) table))))
 
 pub waits_all : (names : List ℕ) (table : List Open) → AscendFrom 0 table → names ≡ map (λ x. x.txn) (filter none_remains table) → Waits names table
 waits_all names table ascend are = record { rest = filter none_remains table; names_are = are; ascend = filter_ascends 0 table ascend; none = none_all 0 table [] table ascend refl; count = refl }

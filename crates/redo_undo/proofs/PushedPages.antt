@@ -1,5 +1,5 @@
 -- The pages that a touch pushes, by the machine and by the pool, and whether one of them waits for the log.
-use Rattle.std.proofs.Common.{◌≡◌, ℕ, zero, suc, ◌+◌, ◌-◌, ◌*◌, ◌<◌, Bool, true, false, cond, not, ◌&&◌, ◌||◌, nat_lt, nat_le, List, [], ◌∷◌, map, filter, reverse, length, take, Option, Some, refl, sym, ap, subst, ◌∙◌, arith}
+use Rattle.std.proofs.Common.{◌≡◌, ℕ, zero, suc, ◌+◌, ◌*◌, ◌<◌, Bool, true, false, not, ◌&&◌, ◌||◌, nat_lt, nat_le, List, [], ◌∷◌, map, filter, reverse, take, Some, refl, sym, ap, subst, ◌∙◌, arith}
 use Rattle.std.specs.Prelude.{if◌then◌else◌}
 use Rattle.std.specs.List.{AllByRecursion, list_any}
 use Rattle.std.proofs.lemmas.Bool.{and_right, ltb-true, lt-leb}
@@ -11,9 +11,8 @@ use Rattle.buffer_pool.specs.declared.frame.Frame.{Frame}
 use Rattle.buffer_pool.specs.Frames.{frame_of}
 use Rattle.record_model.specs.Touches.{touch}
 use Rattle.second_chance.specs.declared.plan.PoolMark.{PoolMark}
-use Rattle.second_chance.specs.Plans.{group_size, chances_of, pulled_at_eviction}
 use Rattle.second_chance.specs.Queue.{Queue}
-use Rattle.second_chance.specs.Machine.{Rules, PoolPage, Cache, pool_mark, leaving, must_be_pushed, lacks_room}
+use Rattle.second_chance.specs.Machine.{Rules, PoolPage, Cache, pool_mark, lacks_room}
 use Rattle.ring_machine.specs.Tail.{waits}
 use Rattle.ring_machine.specs.Machine.{Machine, pushed_with, pushed_by}
 use Rattle.log_store.specs.declared.store.LogStore.{LogStore}
@@ -21,24 +20,17 @@ use Rattle.log_store.specs.Representation.{has_tail}
 use Rattle.write_ahead.specs.Forcing.{IsLogged, is_unsealed, end_now, end_forced, forces}
 use Rattle.page_store.proofs.Saving.{found_all}
 use Rattle.page_store.specs.declared.store.PageStore.{PageStore}
-use Rattle.page_store.specs.Representation.{IsStore, IsPage, content_by}
-use Rattle.flash_cache.specs.Representation.{version_on}
+use Rattle.page_store.specs.Representation.{IsStore, IsPage}
 use Rattle.page_store.specs.Caching.{cache_of, rules, pool_page}
-use Rattle.page_store.specs.Pulling.{movable, pulled_frames, evicted_of, evicted_frames}
+use Rattle.page_store.specs.Pulling.{movable, evicted_of, evicted_frames}
 use Rattle.page_store.specs.Ahead.{AreLogged, evicted, pushed_by_touch}
 use Rattle.redo_undo.specs.Mirroring.{Mirrors}
 
 -- The pages are those of the frames.
 
 marked : (queue : Queue) (frames : List Frame) → filter (λ (p : PoolMark). p.changed || not p.framed) (map (pool_mark queue) (map pool_page frames)) ≡ map (λ (f : Frame). pool_mark queue (pool_page f)) (movable queue frames)
-marked queue [] = refl
-marked queue (frame ∷ frames) = by (must_be_pushed queue (pool_page frame)) (marked queue frames)
-  where
-    by : (b : Bool) → filter (λ (p : PoolMark). p.changed || not p.framed) (map (pool_mark queue) (map pool_page frames)) ≡ map (λ (f : Frame). pool_mark queue (pool_page f)) (movable queue frames) →
-        cond b (pool_mark queue (pool_page frame) ∷ filter (λ (p : PoolMark). p.changed || not p.framed) (map (pool_mark queue) (map pool_page frames))) (filter (λ (p : PoolMark). p.changed || not p.framed) (map (pool_mark queue) (map pool_page frames)))
-        ≡ map (λ (f : Frame). pool_mark queue (pool_page f)) (cond b (frame ∷ movable queue frames) (movable queue frames))
-    by true rest = ap (λ (l : List PoolMark). pool_mark queue (pool_page frame) ∷ l) rest
-    by false rest = rest
+marked queue [] = grind (arith)
+marked queue (frame ∷ frames) = grind (arith, (marked queue frames))
 
 taken : {X Y : Type 0} (f : X → Y) (n : ℕ) (xs : List X) → take n (map f xs) ≡ map f (take n xs)
 taken f zero xs = refl
@@ -46,45 +38,19 @@ taken f (suc n) [] = refl
 taken f (suc n) (x ∷ xs) = ap (λ l. f x ∷ l) (taken f n xs)
 
 pages_pushed : (r : Rules) (queue : Queue) (frames : List Frame) → pushed_with r queue (map pool_page frames) ≡ map (λ (f : Frame). f.page) (evicted_of r queue frames)
-pages_pushed r queue [] = refl
-pages_pushed r queue (coldest ∷ warmer) = by (must_be_pushed queue (pool_page coldest))
-  where
-    most : ℕ
-    most = group_size - 1 - length (chances_of r.chances (leaving r queue))
-
-    by_rule : (b : Bool) → map (λ (p : PoolMark). p.page) (if b then take most (filter (λ (p : PoolMark). p.changed || not p.framed) (map (pool_mark queue) (map pool_page warmer))) else []) ≡ map (λ (f : Frame). f.page) (if b then take most (movable queue warmer) else [])
-    by_rule true =
-        ap (λ (l : List PoolMark). map (λ (p : PoolMark). p.page) (take most l)) (marked queue warmer)
-        ∙ ap (map (λ (p : PoolMark). p.page)) (taken (λ (f : Frame). pool_mark queue (pool_page f)) most (movable queue warmer))
-        ∙ map_map (λ (p : PoolMark). p.page) (λ (f : Frame). pool_mark queue (pool_page f)) (take most (movable queue warmer))
-    by_rule false = refl
-
-    by : (b : Bool) → (if b then coldest.page ∷ map (λ (p : PoolMark). p.page) (pulled_at_eviction r.pulls r.chances (leaving r queue) (map (pool_mark queue) (map pool_page warmer))) else []) ≡ map (λ (f : Frame). f.page) (if b then coldest ∷ pulled_frames r queue warmer else [])
-    by true = ap (λ (l : List ℕ). coldest.page ∷ l) (by_rule r.pulls)
-    by false = refl
+pages_pushed r queue [] = grind (arith)
+pages_pushed r queue (coldest ∷ warmer) = grind (arith, marked, taken, map_map)
 
 -- They stand in the pool.
 
 evicted_all : (P : Frame → Type 0) (r : Rules) (queue : Queue) (frames : List Frame) → AllByRecursion P frames → AllByRecursion P (evicted_of r queue frames)
-evicted_all P r queue [] all = tt
-evicted_all P r queue (coldest ∷ warmer) all = by (must_be_pushed queue (pool_page coldest))
-  where
-    by_rule : (b : Bool) → AllByRecursion P (if b then take (group_size - 1 - length (chances_of r.chances (leaving r queue))) (movable queue warmer) else [])
-    by_rule true = all_take P (group_size - 1 - length (chances_of r.chances (leaving r queue))) (movable queue warmer) (all_filter P (λ (f : Frame). must_be_pushed queue (pool_page f)) warmer all.1)
-    by_rule false = tt
-
-    by : (b : Bool) → AllByRecursion P (if b then coldest ∷ pulled_frames r queue warmer else [])
-    by true = (all.0, by_rule r.pulls)
-    by false = tt
+evicted_all P r queue [] all = grind (arith)
+evicted_all P r queue (coldest ∷ warmer) all = grind (arith, all_take, all_filter)
 
 -- A page whose LSN is sealed doesn't wait.
 
 pub sealed_off : (end : ℕ) (content : List ℕ) → (0 < lsn_of content → lsn_of content < end) → is_unsealed end content ≡ false
-sealed_off end content below = by (nat_lt 0 (lsn_of content)) refl
-  where
-    by : (b : Bool) → nat_lt 0 (lsn_of content) ≡ b → (b && nat_le end (lsn_of content)) ≡ false
-    by true some = lt-leb end (lsn_of content) (below (ltb-true 0 (lsn_of content) some))
-    by false none = refl
+sealed_off end content below = grind (arith, nat_lt, nat_le, lt-leb, ltb-true)
 
 none_unsealed : (end : ℕ) (frames : List Frame) → AllByRecursion (λ (f : Frame). IsLogged end f.content) frames → list_any (λ (f : Frame). is_unsealed end f.content) frames ≡ false
 none_unsealed end [] all = refl
@@ -108,11 +74,7 @@ tail_needed log frames all = ap (λ (b : Bool). has_tail log && b) (any_map (is_
 -- what is asked of some frames of the pool: one waits where one isn't sealed
 pub some_wait : (log : LogStore) (pages : PageStore) (image : Image) (m : Machine) → IsStore pages → Mirrors log pages image m → (frames : List Frame) → AllByRecursion (λ (f : Frame). IsPage pages.flash.geometry.pages f) frames →
     AllByRecursion (λ (f : Frame). frame_of pages.pool.frames f.page ≡ Some f) frames → list_any (waits m.tail) (map (λ (f : Frame). f.page) frames) ≡ list_any (λ (f : Frame). is_unsealed (end_now log) f.content) frames
-some_wait log pages image m own is frames exist found =
-    any_map (waits m.tail) (λ (f : Frame). f.page) frames
-    ∙ any_same (λ (f : Frame). waits m.tail f.page) (λ (f : Frame). is_unsealed (end_now log) f.content) frames
-    (all_both (λ (f : Frame). IsPage pages.flash.geometry.pages f) (λ (f : Frame). frame_of pages.pool.frames f.page ≡ Some f) (λ (f : Frame). waits m.tail f.page ≡ is_unsealed (end_now log) f.content)
-    (λ f page there. is.waiting f.page page.exists ∙ ap (λ (o : Option Frame). is_unsealed (end_now log) (content_by o (version_on pages.flash.geometry image f.page))) there) frames exist found)
+some_wait log pages image m own is frames exist found = grind (arith, any_map, any_same, all_both)
 
 -- The log is forced for a touch where one of the pages that it pushes waits.
 pub pushed_waits : (log : LogStore) (pages : PageStore) (image : Image) (m : Machine) (page : ℕ) → IsStore pages → AreLogged (end_forced log) pages.pool.frames → Mirrors log pages image m →

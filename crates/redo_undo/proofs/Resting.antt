@@ -1,5 +1,5 @@
 -- Work of the cache while a log is redone: its tail has no records, so no page waits for one, and no block is sealed.
-use Rattle.std.proofs.Common.{◌≡◌, ◌≢◌, ℕ, ◌^◌, ◌≤◌, Bool, true, false, ◌||◌, nat_lt, List, [], ◌∷◌, ◌++◌, map, Some, None, refl, sym, ap, ◌∙◌, arith}
+use Rattle.std.proofs.Common.{◌≡◌, ◌≢◌, ℕ, ◌^◌, ◌≤◌, Bool, true, false, nat_lt, List, [], ◌∷◌, ◌++◌, map, Some, refl, sym, ap, ◌∙◌, arith}
 use Rattle.std.specs.Prelude.{Result, Ok, Err, OnOk, IfErr, IsErrOf, if◌then◌else◌}
 use Rattle.std.specs.List.{list_any}
 use Rattle.std.proofs.lemmas.List.{map-append}
@@ -42,11 +42,7 @@ module _ (r : Rules) (n k : ℕ) where
 
   -- a change of the page costs no more
   change_on : (page : ℕ) (c : Cache) (m : Machine) → 1 ≤ r.groups → m ≡ resting n k c → first_worn r (cached (touch page true) ∷ []) m ≡ first_worn r (cached (touch page false) ∷ []) m
-  change_on page c m some is =
-      let next : next_group (touched r page true c) ≡ next_group (touched r page false c) = touched_next r page true c some ∙ sym (touched_next r page false c some) in
-      first_on (touch page true) c m is
-      ∙ ap (λ (group : ℕ). if nat_lt (2 ^ 40) n || nat_lt (2 ^ 40) k then Some Log else if nat_lt (2 ^ 40) group then Some Flash else None) next
-      ∙ sym (first_on (touch page false) c m is)
+  change_on page c m some is = grind (arith, touched_next, first_on, nat_lt)
 
 -- A touch, which seals nothing.
 

@@ -2,7 +2,6 @@
 use Rattle.log_laws.proofs.Losers.{loser_is_closed, loser_is_not_closed, loser_stays}
 use Rattle.log_laws.proofs.Owing.{owed_closing}
 use Rattle.log_laws.proofs.UndoingSteps.{chain_ends, undo_end}
-use Rattle.log_laws.proofs.UndoingSteps.{none_remains as nothing_remains}
 use Rattle.std.proofs.Common.{◌≡◌, ◌≢◌, ℕ, ◌+◌, ◌-◌, ◌^◌, ◌≤◌, true, List, [], ◌∷◌, ◌++◌, length, refl, sym, ap, subst, ◌∙◌, arith, append_assoc, append-nil, Option}
 use Rattle.std.proofs.lemmas.Bool.{ne_eqb}
 use Rattle.std.proofs.lemmas.List.{length-append}
@@ -58,9 +57,7 @@ module _ (log : LogStore) (pages : PageStore) (site : State) (newest : Option Ma
 
   -- and where it has, none remains
   pub none_remains : now.next ≡ now.txn → c.x.remaining ≡ 0
-  none_remains same =
-      nothing_remains (records ++ c.clrs) c.x c.left
-      (chain_ends (records ++ c.clrs) c.x.txn c.x.next c.x.chain c.left.chain_is (sym c.at.next ∙ same ∙ c.at.txn))
+  none_remains same = grind (arith, chain_ends)
 
   -- one more CLR
   unfoldable pub goes_on : (log' : LogStore) (pages' : PageStore) (new : State) (next : UndoCursor) → Undone log' pages' new newest (records ++ c.clrs) table commits c.x next → blocks_to log' ≤ blocks_to log + 1 →
@@ -106,9 +103,7 @@ module _ (log : LogStore) (pages : PageStore) (site : State) (newest : Option Ma
 
     -- then nothing of it is owed
     pub owes_all : (lsn : ℕ) → owed ((records ++ c.clrs) ++ record { lsn = lsn; rec = End txn } ∷ []) + (length c.clrs + 1) ≡ owed records
-    owes_all lsn =
-        subst (λ (t : ℕ). owed ((records ++ c.clrs) ++ record { lsn = lsn; rec = End t } ∷ []) + (length c.clrs + 1) ≡ owed records) c.same
-        (let less = owes_less lsn in let owes = c.owes in let left = c.left.remaining_is in omega (arith, less, owes, left, none))
+    owes_all lsn = grind (arith, owes_less)
 
     pub room_for_end : blocks_to log + 1 ≤ log.kept + (pages.flash.geometry.blocks - 1)
     room_for_end = let owes = owes_less 0 in let room = c.holds.log_holds.room in omega (arith, owes, room)
@@ -137,10 +132,8 @@ few_left log pages site newest records table commits h going x unfinished =
 
 -- all other transactions are as they were
 others_stay : (records clrs : List Entry) (txn t : ℕ) → t ≢ txn → AreClrsOf txn clrs → is_loser (records ++ clrs) t ≡ is_loser records t
-others_stay records [] txn t differ own = ap (λ (l : List Entry). is_loser l t) (append-nil records)
-others_stay records (e ∷ clrs) txn t differ own =
-    ap (λ (l : List Entry). is_loser l t) (sym (append_assoc records (e ∷ []) clrs)) ∙ others_stay (records ++ e ∷ []) clrs txn t differ own.1
-    ∙ loser_stays records e t (ne_eqb (txn_of e) t (λ same. differ (sym same ∙ own.0.1)))
+others_stay records [] txn t differ own = grind (arith, append-nil)
+others_stay records (e ∷ clrs) txn t differ own = grind (arith, append_assoc, loser_stays, ne_eqb, (others_stay (records ++ e ∷ []) clrs txn t differ own.1))
 
 -- it is logged
 pub rolls_back : (log : LogStore) (pages : PageStore) (site : State) (newest : Option Master) (records : List Entry) (table : List Content) (commits txn : ℕ) (clrs : List Entry) (lsn : ℕ) → AreClrsOf txn clrs → length clrs ≡ length (left_open records txn) →

@@ -1,15 +1,15 @@
 -- Room in the page in front of the pool, as soundness has it.
 use Rattle.std.proofs.lemmas.Grind.{common_steps}
-use Rattle.std.proofs.Common.{◌≡◌, ◌≢◌, ◌⊎◌, inl, inr, ℕ, ◌+◌, ◌*◌, ◌/◌, ◌%◌, ◌<◌, ◌≤◌, ◌==◌, suc, cond, List, [], ◌∷◌, ◌++◌, length, Option, Some, None, refl, sym, ap, subst, ◌∙◌, arith, get_or-set_same, get_or-set_other}
+use Rattle.std.proofs.Common.{◌≡◌, ℕ, ◌+◌, ◌*◌, ◌/◌, ◌%◌, ◌<◌, ◌≤◌, ◌==◌, suc, cond, List, [], ◌∷◌, ◌++◌, length, Option, Some, None, refl, sym, ap, subst, ◌∙◌, arith, get_or-set_same, get_or-set_other}
 use Rattle.std.specs.Prelude.{sum_by, slice_set}
 use Rattle.std.specs.List.{range_with_len}
 use Rattle.std.proofs.Math.Nat.{le-max_left}
-use Rattle.std.proofs.lemmas.Bool.{cases_eq, eq-eqb, ne_eqb}
+use Rattle.std.proofs.lemmas.Bool.{eq-eqb, ne_eqb}
 use Rattle.std.proofs.lemmas.List.Sums.{sum_by-cons}
 use Rattle.site.specs.State.{State}
 use Rattle.record_model.specs.State.{Content, content_at, length_of, page_room}
-use Rattle.log_records.specs.Log.{Entry, Version, log_from, number_of, after_of, is_number, shown}
-use Rattle.log_records.specs.Room.{longest, open_length, put_back, total_on, HasOpenRoom}
+use Rattle.log_records.specs.Log.{Entry, Version, log_from, number_of, after_of, shown}
+use Rattle.log_records.specs.Room.{total_on, HasOpenRoom}
 use Rattle.log_records.specs.Sound.{Master as Fields, InTurn, redone}
 use Rattle.log_laws.specs.Follow.{Follows, IsUndoable}
 use Rattle.log_laws.proofs.Follow.{undoable_behind}
@@ -24,7 +24,7 @@ use Rattle.page_store.specs.declared.store.PageStore.{PageStore}
 use Rattle.page_store.specs.Representation.{IsStore, current}
 use Rattle.page_store.proofs.Fitting.{front_exists}
 use Rattle.checkpoint.specs.declared.master.Master.{Master}
-use Rattle.image_meaning.specs.Meaning.{kept_by, logical_image_under, version_in, versions_on}
+use Rattle.image_meaning.specs.Meaning.{kept_by, version_in, versions_on}
 use Rattle.image_meaning.specs.Redone.{AreKnown, IsRedone, Redoes}
 use Rattle.image_meaning.proofs.Redos.{next_is_redone}
 use Rattle.image_meaning.proofs.Versions.{length-versions}
@@ -60,14 +60,7 @@ total_fits f slots page count room each =
 
 -- a record's value in its slot
 set_slot : (slots : List Content) (after : Content) (number page k : ℕ) → number / 32 ≡ page → length slots ≡ 32 → k < 32 → content_at (slice_set slots (number % 32) after) k ≡ cond (32 * page + k == number) after (content_at slots k)
-set_slot slots after number page k at count less = by (cases_eq k (number % 32)) where
-  by : (k ≡ number % 32) ⊎ (k ≢ number % 32) → content_at (slice_set slots (number % 32) after) k ≡ cond (32 * page + k == number) after (content_at slots k)
-  by (inl same) =
-      ap (content_at (slice_set slots (number % 32) after)) same ∙ get_or-set_same slots (number % 32) after None (omega (arith, count))
-      ∙ sym (ap (λ b. cond b after (content_at slots k)) (eq-eqb (32 * page + k) number (omega (arith, same, at))))
-  by (inr other) =
-      get_or-set_other slots (number % 32) k after None other
-      ∙ sym (ap (λ b. cond b after (content_at slots k)) (ne_eqb (32 * page + k) number (λ is. other (omega (arith, is, at, less)))))
+set_slot slots after number page k at count less = grind (arith, get_or-set_same, eq-eqb, get_or-set_other, ne_eqb)
 
 -- Behind one more record.
 
@@ -80,18 +73,7 @@ open_behind_all m pages log (e ∷ entries) page undoable follow room =
 -- a page that shows a log has room for the next record, where there is open room behind that one
 next_fits : (log : List Entry) (pages : List Version) (e : Entry) (slots : List Content) (number page : ℕ) → number_of e.rec ≡ Some number → number / 32 ≡ page → length slots ≡ 32 →
     HasOpenRoom (log ++ e ∷ []) pages page → ((k : ℕ) → k < 32 → content_at slots k ≡ shown log pages (32 * page + k)) → total_length (slice_set slots (number % 32) (after_of e.rec)) ≤ page_room
-next_fits log pages e slots number page own at count room shows =
-    total_fits (open_length (log ++ e ∷ []) pages) (slice_set slots (number % 32) (after_of e.rec)) page (grind (arith, common_steps, count)) room
-    (λ k less.
-    let is : content_at (slice_set slots (number % 32) (after_of e.rec)) k ≡ shown (log ++ e ∷ []) pages (32 * page + k) =
-    set_slot slots (after_of e.rec) number page k at count less
-    ∙ ap (cond (32 * page + k == number) (after_of e.rec)) (shows k less)
-    ∙ ap (λ b. cond b (after_of e.rec) (shown log pages (32 * page + k))) (turned (32 * page + k))
-    ∙ sym (shown_push log e pages (32 * page + k) ∙ ap (λ o. cond (is_number (32 * page + k) o) (after_of e.rec) (shown log pages (32 * page + k))) own) in
-    omega (arith, ap length_of is, le-max_left (length_of (shown (log ++ e ∷ []) pages (32 * page + k))) (longest (put_back (log ++ e ∷ []) (32 * page + k)))))
-  where
-    turned : (n : ℕ) → (n == number) ≡ (number == n)
-    turned n = grind (arith, common_steps)
+next_fits log pages e slots number page own at count room shows = grind (arith, common_steps, total_fits, set_slot, shown_push, le-max_left)
 
 module _ (log : LogStore) (pages : PageStore) (site : State) (newest : Option Master) (records : List Entry) (table : List Content) (commits : ℕ) (own : IsStore pages) (there : 0 < length pages.pool.frames) (h : Represents log pages site newest records table commits) where
   abbrev versions : List Version
@@ -102,16 +84,7 @@ module _ (log : LogStore) (pages : PageStore) (site : State) (newest : Option Ma
 
   -- undo has room in the page in front
   open_in_front : IsUndoable records × HasOpenRoom records versions front
-  open_in_front =
-      let p = logical_image_under newest pages.flash.geometry site.image h.log_holds.blocks in
-      let carries = h.log_holds.runs_on.carries in
-      let undoable : IsUndoable p.log = record { undone = carries.sound.losers_can_be_undone; held = carries.sound.losers_hold_others_off } in
-      let exists = front_exists pages.flash.geometry.pages pages.pool.frames there own.pages in
-      subst (λ (l : List Entry). IsUndoable l × HasOpenRoom l versions front) h.log_holds.runs_on.records_are (
-        undoable_behind_all p.master p.pages p.log _ undoable carries.follow,
-        open_behind_all p.master p.pages p.log _ front undoable carries.follow
-            (carries.sound.room_in_pages front (omega (arith, exists, length-versions pages.flash.geometry site.image))).open_fits,
-      )
+  open_in_front = grind (arith, front_exists, undoable_behind_all, open_behind_all, length-versions)
 
   -- a record on it has room, where there is open room behind it and records that show the same
   pub fits_behind : (log' : List Entry) (e : Entry) → ((number : ℕ) → shown log' versions number ≡ shown records versions number) → IsOnPage front e.rec → HasOpenRoom (log' ++ e ∷ []) versions front → HasRoomInFront pages e.rec

@@ -11,7 +11,7 @@ use Rattle.std_lemmas.proofs.Bools.{same_bools}
 use Rattle.std_lemmas.proofs.AllOf.{all_member, each_member}
 use Rattle.log_laws.proofs.Parts.{in_order_filter}
 use Rattle.log_records.proofs.Blocks.{some_octet}
-use Rattle.std.proofs.Common.{◌≡◌, ◌⊎◌, inl, inr, ℕ, ◌+◌, ◌-◌, ◌*◌, ◌/◌, ◌≤◌, ◌<◌, ◌==◌, ◌||◌, Bool, true, false, true≢false, cond, List, [], ◌∷◌, map, drop, Option, None, Some, refl, sym, ap, subst, ◌∙◌, arith, append-nil, length}
+use Rattle.std.proofs.Common.{◌≡◌, ◌⊎◌, inl, inr, ℕ, ◌+◌, ◌-◌, ◌*◌, ◌/◌, ◌≤◌, ◌<◌, ◌==◌, Bool, true, false, List, [], ◌∷◌, map, drop, Option, Some, refl, sym, ap, subst, ◌∙◌, arith, append-nil, length}
 use Rattle.std.specs.Prelude.{if◌then◌else◌, filter, flat_map, max, nat_le, nat_lt, slice_get, sum_by}
 use Rattle.std.specs.List.{list_any, AllByRecursion}
 use Rattle.std.proofs.lemmas.List.{length-append}
@@ -51,7 +51,7 @@ use Rattle.image_changes.specs.Rings.{Masters, Blocks, log_shape, KeepsUnits, ma
 use Rattle.image_changes.specs.Changes.{AppendsMaster, Makes, Reaches, ReadsAs}
 use Rattle.write_ahead.specs.Forcing.{end_forced}
 use Rattle.page_store.specs.declared.store.PageStore.{PageStore}
-use Rattle.page_store.specs.Representation.{current, content_by}
+use Rattle.page_store.specs.Representation.{current}
 use Rattle.page_store.specs.Caching.{cache_of, pool_page}
 use Rattle.page_store.specs.Ahead.{AreLogged}
 use Rattle.image_meaning.specs.Meaning.{logical_image_under, kept_by, versions_on, version_in, IsSoundUnder}
@@ -86,30 +86,16 @@ none_in_tail (rec ∷ tail) is = absurd (omega (arith, is, some_octet rec, lengt
 
 -- without changed pages each page's content is its version
 unchanged_frame : (frames : List Frame) (number : ℕ) (frame : Frame) → list_any (λ p. p.changed) (map pool_page frames) ≡ false → frame_of frames number ≡ Some frame → frame.changed ≡ false
-unchanged_frame [] number frame clean found = absurd (none-some frame found)
-unchanged_frame (x ∷ frames) number frame clean found = by (x.page == number) x.changed refl clean found (unchanged_frame frames number frame)
-  where
-    by : (b changed : Bool) → x.changed ≡ changed → (changed || list_any (λ p. p.changed) (map pool_page frames)) ≡ false → cond b (Some x) (frame_of frames number) ≡ Some frame →
-        (list_any (λ p. p.changed) (map pool_page frames) ≡ false → frame_of frames number ≡ Some frame → frame.changed ≡ false) → frame.changed ≡ false
-    by b true is none found rest = absurd (true≢false none)
-    by true false is none found rest = ap (λ (f : Frame). f.changed) (sym (same_Some x frame found)) ∙ is
-    by false false is none found rest = rest none found
+unchanged_frame [] number frame clean found = grind (arith, none-some)
+unchanged_frame (x ∷ frames) number frame clean found = grind (arith, same_Some, (unchanged_frame frames number frame))
 
 pub clean_current : (log : LogStore) (pages : PageStore) (site : State) (newest : Option Master) (records : List Entry) (table : List Content) (commits : ℕ) → Represents log pages site newest records table commits → wants_flush (cache_of pages) ≡ false → (number : ℕ) → current pages site.image number ≡ version_on pages.flash.geometry site.image number
-clean_current log pages site newest records table commits h clean number = by (frame_of pages.pool.frames number) refl
-  where
-    by : (o : Option Frame) → frame_of pages.pool.frames number ≡ o → content_by o (version_on pages.flash.geometry site.image number) ≡ version_on pages.flash.geometry site.image number
-    by None none = refl
-    by (Some frame) found = h.log_holds.ready.pages.unchanged number frame found (unchanged_frame pages.pool.frames number frame clean found)
+clean_current log pages site newest records table commits h clean number = grind (arith, unchanged_frame)
 
 -- known records stay known where some are left out
 known_filter : (test : Entry → Bool) (log : List Entry) (page lsn : ℕ) → AreKnown log page lsn → AreKnown (filter test log) page lsn
-known_filter test [] page lsn known = tt
-known_filter test (e ∷ log) page lsn known = by (test e) (known_filter test log page lsn known.1)
-  where
-    by : (b : Bool) → AreKnown (filter test log) page lsn → AreKnown (cond b (e ∷ filter test log) (filter test log)) page lsn
-    by true rest = (known.0, rest)
-    by false rest = rest
+known_filter test [] page lsn known = grind (arith)
+known_filter test (e ∷ log) page lsn known = grind (arith, (known_filter test log page lsn known.1))
 
 -- the Begins of the transactions that a master names
 named_begins : (pairs : List Pair) → map (λ (a : Active). a.begin) (map (λ pair. record { begin = pair.begin; last = pair.last }) pairs) ≡ begins_of pairs
@@ -141,27 +127,17 @@ sum_same f h [] all = refl
 sum_same f h (x ∷ xs) all = let here = all.0 in omega (arith, sum_by-cons f x xs, sum_by-cons h x xs, here, sum_same f h xs all.1)
 
 filter_swap : (f h : Entry → Bool) (xs : List Entry) → filter f (filter h xs) ≡ filter h (filter f xs)
-filter_swap f h [] = refl
-filter_swap f h (x ∷ xs) = by (f x) (h x) refl refl (filter_swap f h xs)
-  where
-    by : (a b : Bool) → f x ≡ a → h x ≡ b → filter f (filter h xs) ≡ filter h (filter f xs) → filter f (cond b (x ∷ filter h xs) (filter h xs)) ≡ filter h (cond a (x ∷ filter f xs) (filter f xs))
-    by true true is is' rest = cond-true (f x) (x ∷ filter f (filter h xs)) (filter f (filter h xs)) is ∙ ap (λ (l : List Entry). x ∷ l) rest ∙ sym (cond-true (h x) (x ∷ filter h (filter f xs)) (filter h (filter f xs)) is')
-    by true false is is' rest = rest ∙ sym (cond-false (h x) (x ∷ filter h (filter f xs)) (filter h (filter f xs)) is')
-    by false true is is' rest = cond-false (f x) (x ∷ filter f (filter h xs)) (filter f (filter h xs)) is ∙ rest
-    by false false is is' rest = rest
+filter_swap f h [] = grind (arith)
+filter_swap f h (x ∷ xs) = grind (arith, cond-true, cond-false, (filter_swap f h xs))
 
 -- records in order from a block on stand there, and those before a block's end before it
 all_from : (n low to : ℕ) (xs : List Entry) → 512 * n ≤ low → IsInOrder low xs to → from_block n xs ≡ xs
-all_from n low to [] less order = refl
-all_from n low to (x ∷ xs) less order =
-    cond-true (nat_le (512 * n) x.lsn) (x ∷ from_block n xs) (from_block n xs) (le-leb (512 * n) x.lsn (let first = order.0 in omega (arith, less, first)))
-    ∙ ap (λ (l : List Entry). x ∷ l) (all_from n (x.lsn + 1) to xs (let first = order.0 in omega (arith, less, first)) order.1)
+all_from n low to [] less order = grind (arith)
+all_from n low to (x ∷ xs) less order = grind (arith, cond-true, le-leb, (all_from n (x.lsn + 1) to xs (let first = order.0 in omega (arith, less, first)) order.1))
 
 all_before : (n from to : ℕ) (xs : List Entry) → to ≤ 512 * n → IsInOrder from xs to → before_block n xs ≡ xs
-all_before n from to [] less order = refl
-all_before n from to (x ∷ xs) less order =
-    cond-true (nat_lt x.lsn (512 * n)) (x ∷ before_block n xs) (before_block n xs) (lt-ltb x.lsn (512 * n) (let end = order_ends (x.lsn + 1) to xs order.1 in omega (arith, less, end)))
-    ∙ ap (λ (l : List Entry). x ∷ l) (all_before n (x.lsn + 1) to xs less order.1)
+all_before n from to [] less order = grind (arith)
+all_before n from to (x ∷ xs) less order = grind (arith, cond-true, lt-ltb, order_ends, (all_before n (x.lsn + 1) to xs less order.1))
 
 -- all records of an unfinished transaction stand from its Begin on
 chain_kept : (n t from to : ℕ) (log : List Entry) → IsInOrder from log to → IsLoserChain t (entries_of t log) → 512 * n ≤ t → entries_of t (from_block n log) ≡ entries_of t log
@@ -315,11 +291,7 @@ module _ (log : LogStore) (pages : PageStore) (site : State) (newest : Option Ma
           (λ t any. ap (λ (l : List Entry). length (open_updates [] l) + 1) (ap (entries_of t) logical_image_log ∙ entries_now t (listed_is_loser p.log t any))))
 
       pub unfinished_now : KeepUnfinished records (from_block m.kept records)
-      unfinished_now = subst (λ (k : Master). KeepUnfinished records (from_block k.kept records)) read (subst (λ (l : List Entry). KeepUnfinished l (from_block n.kept l)) log_is (record {
-        losers = λ t. ap (λ (l : List Entry). is_loser l t) (sym logical_image_log) ∙ loser_now t;
-        entries = entries_now;
-        owes = ap owed (sym logical_image_log) ∙ owed_now;
-      }))
+      unfinished_now = grind (arith, read, log_is, logical_image_log, loser_now, entries_now, owed_now)
 
       shows_now : (page : ℕ) → page < g.pages → ShowsAll (from_block n.kept records) (versions_on g new.image) page (version_in (current pages new.image page))
       shows_now page exists =

@@ -30,35 +30,14 @@ where_two A B C (Err e) first second then = tt
 
 pub works_then : {A B : Type 0} {a : A} {r : Result B Stop} {old mid new : TransactionStore} {before between now : Site} {n n' : ℕ} →
     KeepsInvariant {T = A} (Ok a) old mid before between n → KeepsInvariant r mid new between now n' → KeepsInvariant r old new before now (n + n')
-works_then {r = r} {old = old} {new = new} {before = before} {between = between} {n = n} {n' = n'} first second =
-    record {
-      calls = calls_then first.calls second.calls;
-      going = second.going;
-      next = λ honest. next_then first.sizes (first.next honest) (second.next (stays_honest before between first.calls.preserves honest));
-      made = ok_as r _ _ (λ more. let all : new.made ≡ old.made + (n + n') = omega (arith, more, first.made) in all) second.made;
-      blocks = ok_as r _ _ (λ more. omega (arith, more, first.blocks)) second.blocks;
-      rises = ok_as r _ _ (λ more. omega (arith, more, first.rises)) second.rises;
-      kept = second.kept ∙ first.kept;
-      sizes = second.sizes ∙ first.sizes;
-      stops = second.stops;
-    }
+works_then {r = r} {old = old} {new = new} {before = before} {between = between} {n = n} {n' = n'} first second = grind (arith, calls_then, next_then, stays_honest, ok_as)
 
 pub works_answered : {A B : Type 0} {a : A} {b : B} {old new : TransactionStore} {before now : Site} {n : ℕ} → KeepsInvariant {T = A} (Ok a) old new before now n → KeepsInvariant {T = B} (Ok b) old new before now n
 works_answered first = record { calls = calls_answered first.calls; going = first.going; next = λ honest. next_answered (first.next honest); made = first.made; blocks = first.blocks; rises = first.rises; kept = first.kept; sizes = first.sizes; stops = tt }
 
 -- a call of log and pages that fails
 pub works_at_error : {A B : Type 0} {stop : Stop} {old new : TransactionStore} {before now : Site} {n : ℕ} → MayWork old before → new.masters ≡ old.masters → calls.KeepsInvariant {T = A} (Err stop) old.log new.log old.pages new.pages before now → KeepsInvariant {T = B} (Err stop) old new before now n
-works_at_error going masters works = record {
-  calls = calls_failed works.calls;
-  going = tt;
-  made = tt;
-  blocks = tt;
-  rises = tt;
-  kept = works.kept;
-  sizes = works.geometry;
-  stops = works.stops;
-  next = λ honest. next_failed (store_next going.both.sizes masters works.stops (works.next honest));
-}
+works_at_error going masters works = grind (arith, calls_failed, next_failed, store_next)
 
 -- On an honest site.
 
@@ -98,16 +77,10 @@ pub keeps_failed : {A B : Type 0} {stop : Stop} {old new : TransactionStore} {be
 keeps_failed first = keeps_before (omega arith) first
 
 pub keeps_answered : {A B : Type 0} {a : A} {b : B} {old new : TransactionStore} {before now : Site} {P : Snapshot → Type 0} {n m : ℕ} → Keeps {T = A} (Ok a) old new before now P n m → Keeps {T = B} (Ok b) old new before now P n m
-keeps_answered {A = A} {B = B} {a = a} {b = b} {old = old} {new = new} {before = before} {now = now} {n = n} {m = m} first = record {
-  ends = ends_answered first.ends;
-  numbers = λ quiet. skips_answered {A = A} {B = B} a b (sizes_of old) old.log new.log before now n m (first.numbers quiet);
-}
+keeps_answered {A = A} {B = B} {a = a} {b = b} {old = old} {new = new} {before = before} {now = now} {n = n} {m = m} first = grind (arith, ends_answered, skips_answered)
 
 pub keeps_no_memory : {A B : Type 0} {a : A} {old new : TransactionStore} {before now : Site} {P : Snapshot → Type 0} {i n m : ℕ} → IsTrue before.honest → KeepsInvariant {T = A} (Ok a) old new before now i → Keeps {T = A} (Ok a) old new before now P n m → Keeps {T = B} (Err Memory) old new before now P n m
-keeps_no_memory {A = A} {B = B} {a = a} {old = old} {new = new} {before = before} {now = now} {n = n} {m = m} honest works first = record {
-  ends = ends_no_memory refl (works.calls.stays_quiet honest) first.ends;
-  numbers = λ quiet. skips_refused {A = A} {B = B} a Memory (sizes_of old) old.log new.log before now n m (first.numbers quiet);
-}
+keeps_no_memory {A = A} {B = B} {a = a} {old = old} {new = new} {before = before} {now = now} {n = n} {m = m} honest works first = grind (arith, ends_no_memory, skips_refused)
 
 pub keeps_ok : {T : Type 0} {x : T} {old new : TransactionStore} {before now : Site} {P : Snapshot → Type 0} {n m : ℕ} → (IsQuiet before → LeavesOnly before now P) → (IsQuiet before → SkipsNone {T = T} {E = Stop} (Ok x) (sizes_of old) old.log new.log before now n m) →
     Keeps {T = T} (Ok x) old new before now P n m

@@ -1,6 +1,6 @@
 -- A session's transaction is undone, CLR by CLR, and its End is logged.
 use Rattle.checkpoint.specs.declared.master.Master.{Master as Saved}
-use Rattle.std.proofs.Common.{Option, ◌≡◌, ℕ, Bool, cond, take, drop, ◌+◌, ◌-◌, ◌*◌, ◌≤◌, List, [], ◌∷◌, ◌++◌, length, refl, sym, ap, subst, ◌∙◌, arith}
+use Rattle.std.proofs.Common.{Option, ◌≡◌, ℕ, Bool, cond, take, ◌+◌, ◌-◌, ◌*◌, ◌≤◌, List, [], ◌∷◌, ◌++◌, length, refl, sym, ap, subst, ◌∙◌, arith}
 use Rattle.std.proofs.lemmas.Bool.{and_right, eq-eqb, ne_eqb}
 use Rattle.std.proofs.lemmas.List.Elements.{filter-append}
 use Rattle.log_laws.proofs.Pendings.{not_closing}
@@ -9,8 +9,8 @@ use Rattle.site.specs.State.{State}
 use Rattle.sealed_ring.specs.Ready.{Finds}
 use Rattle.record_model.specs.State.{Content, Write}
 use Rattle.log_records.specs.declared.log_record.LogRecord.TheVariants.{End}
-use Rattle.log_records.specs.Log.{Entry, txn_of, is_of, is_loser, is_update, is_closing, entries_of, updates_in}
-use Rattle.log_records.specs.Unfinished.{left_open, open_updates, owed}
+use Rattle.log_records.specs.Log.{Entry, txn_of, is_of, is_update, is_closing, entries_of, updates_in}
+use Rattle.log_records.specs.Unfinished.{open_updates, owed}
 use Rattle.log_records.specs.Sound.{IsInOrder, IsOpen, Master}
 use Rattle.log_laws.specs.Follow.{IsActive, IsUndoable}
 use Rattle.log_laws.specs.Tail.{next_lsn}
@@ -39,10 +39,8 @@ concerns_more newest txn before now e own concerns = record {
 
 -- so are its CLRs
 pub concerns_clrs : (newest : Option Saved) (txn : ℕ) (before now clrs : List Entry) → AreClrsOf txn clrs → ConcernsOnly newest txn before now → ConcernsOnly newest txn before (now ++ clrs)
-concerns_clrs newest txn before now [] own concerns = subst (ConcernsOnly newest txn before) (sym (append-nil now)) concerns
-concerns_clrs newest txn before now (e ∷ clrs) own concerns =
-    subst (ConcernsOnly newest txn before) (append_assoc now (e ∷ []) clrs)
-    (concerns_clrs newest txn before (now ++ e ∷ []) clrs own.1 (concerns_more newest txn before now e own.0.1 concerns))
+concerns_clrs newest txn before now [] own concerns = grind (arith, append-nil)
+concerns_clrs newest txn before now (e ∷ clrs) own concerns = grind (arith, append_assoc, concerns_more, (concerns_clrs newest txn before (now ++ e ∷ []) clrs own.1 (concerns_more newest txn before now e own.0.1 concerns)))
 
 -- A session's transaction is unfinished, and all its writes that stand remain to be undone. That reads no more records than it has Updates.
 pub active_left : (store : TransactionStore) (site : State) (newest : Option Saved) (records : List Entry) (table : List Content) (commits begin last : ℕ) (writes : List Write) → Represents store site newest records table commits → IsActive (master_of newest) records begin last writes →
@@ -77,10 +75,8 @@ has_room last new newest records table commits begin writes more back is =
 
 -- CLRs leave a transaction open, and leave its Updates
 open_stays : (m : Master) (records clrs : List Entry) (t : ℕ) → AreClrsOf t clrs → IsOpen m records t → IsOpen m (records ++ clrs) t
-open_stays m records [] t own lives = subst (λ (l : List Entry). IsOpen m l t) (sym (append-nil records)) lives
-open_stays m records (e ∷ clrs) t own lives =
-    subst (λ (l : List Entry). IsOpen m l t) (append_assoc records (e ∷ []) clrs)
-    (open_stays m (records ++ e ∷ []) clrs t own.1 (open_more m records e t lives (and_right (is_of t e) (is_closing e.rec) (not_closing e.rec own.0.0).0)))
+open_stays m records [] t own lives = grind (arith, append-nil)
+open_stays m records (e ∷ clrs) t own lives = grind (arith, append_assoc, open_more, and_right, not_closing, (open_stays m (records ++ e ∷ []) clrs t own.1 (open_more m records e t lives (and_right (is_of t e) (is_closing e.rec) (not_closing e.rec own.0.0).0))))
 
 updates_stay : (records clrs : List Entry) (t : ℕ) → AreClrsOf t clrs → updates_in (entries_of t (records ++ clrs)) ≡ updates_in (entries_of t records)
 updates_stay records [] t own = ap (λ (l : List Entry). updates_in (entries_of t l)) (append-nil records)

@@ -11,7 +11,9 @@ use Rattle.log_records.specs.Spelling.{IsBlock, used_by}
 use Rattle.log_store.specs.declared.store.LogStore.{LogStore}
 use Rattle.log_store.specs.LogList.{LogList, sealed_block}
 use Rattle.log_store.specs.Representation.{Finds}
-use Rattle.image_meaning.specs.Meaning.{master_of, kept_by, saved_by}
+use Rattle.image_meaning.specs.Meaning.{master_of, kept_by, saved_by, logical_image_under}
+use Rattle.log_judge.specs.declared.judge.Judge.{Judge}
+use Rattle.log_judge.specs.Judging.{HasHeard}
 use Rattle.analysis.specs.Read.{IsAnalysis, IsTable, open_at}
 use Rattle.analysis.specs.declared.analysis.Analysis.{Analysis}
 use Rattle.page_store.specs.declared.store.PageStore.{PageStore}
@@ -53,7 +55,7 @@ take_nothing : (blocks : List (List LogRecord)) → take 0 blocks ≡ []
 take_nothing [] = refl
 take_nothing (records ∷ blocks) = refl
 
-none_read : (o : Opening) (block : ℕ) → block ≡ kept_by o.newest → log_from (kept_by o.newest) (take (block - kept_by o.newest) o.blocks) ≡ []
+pub none_read : (o : Opening) (block : ℕ) → block ≡ kept_by o.newest → log_from (kept_by o.newest) (take (block - kept_by o.newest) o.blocks) ≡ []
 none_read o block is =
     let zero_is : block - kept_by o.newest ≡ 0 = omega (arith, is) in
     ap (λ (n : ℕ). log_from (kept_by o.newest) (take n o.blocks)) zero_is ∙ ap (log_from (kept_by o.newest)) (take_nothing o.blocks)
@@ -63,15 +65,15 @@ asks_first o pages site block is =
     subst (λ (done : List Entry). AsksAtRest {T = ⊤} (Ok tt) (asked_of o done) pages pages site site) (sym (none_read o block is)) (nothing_asked pages site)
 
 -- before the first block
-pub up_to_none : (log : LogStore) (pages : PageStore) (site : State) (newest : Option Master) (blocks : List (List LogRecord)) (table : List Content) (commits : ℕ) (found : Analysis) (block : ℕ) →
-    log.geometry ≡ pages.flash.geometry → IsOpened pages.flash.geometry log pages site newest blocks table commits → IsAnalysis (master_of newest) [] found → block ≡ kept_by newest →
-    IsUpTo (record { sizes = pages.flash.geometry; image = site.image; newest = newest; blocks = blocks; table = table; commits = commits }) log pages site site (record { found = found; records = 0 }) block
-up_to_none log pages site newest blocks table commits found block sizes h analysis is =
+pub up_to_none : (log : LogStore) (pages : PageStore) (site : State) (newest : Option Master) (blocks : List (List LogRecord)) (table : List Content) (commits : ℕ) (found : Analysis) (judge : Judge) (block : ℕ) →
+    log.geometry ≡ pages.flash.geometry → IsOpened pages.flash.geometry log pages site newest blocks table commits → IsAnalysis (master_of newest) [] found → HasHeard (logical_image_under newest pages.flash.geometry site.image blocks) [] judge → block ≡ kept_by newest →
+    IsUpTo (record { sizes = pages.flash.geometry; image = site.image; newest = newest; blocks = blocks; table = table; commits = commits }) log pages site site (record { found = found; records = 0; judge = judge }) block
+up_to_none log pages site newest blocks table commits found judge block sizes h analysis heard is =
     let o : Opening = record { sizes = pages.flash.geometry; image = site.image; newest = newest; blocks = blocks; table = table; commits = commits } in
     let first = begins log pages site newest blocks table commits h in
     record {
       from = omega (arith, is);
-      taken = subst (HasTaken o log pages site (record { found = found; records = 0 })) (sym (none_read o block is)) (record { pages_are = first; analysis = analysis; count = refl });
+      taken = subst (HasTaken o log pages site (record { found = found; records = 0; judge = judge })) (sym (none_read o block is)) (record { pages_are = first; analysis = analysis; heard = heard; count = refl });
     }
 
 pub opened_count : (log : LogStore) (pages : PageStore) (site : State) (newest : Option Master) (blocks : List (List LogRecord)) (table : List Content) (commits : ℕ) → IsOpened pages.flash.geometry log pages site newest blocks table commits → log.ring.hi ≡ kept_by newest + length blocks
@@ -96,7 +98,7 @@ module _ (o : Opening) (log : LogStore) (pages : PageStore) (old site : State) (
       IsNextBlock o log pages old new so_far block content used
   next_block new content used goes same inside read =
       record {
-        taken = record { pages_are = redoing_still o log pages site new (log_from (kept_by o.newest) (take (block - kept_by o.newest) o.blocks)) goes same up.taken.pages_are; analysis = up.taken.analysis; count = up.taken.count };
+        taken = record { pages_are = redoing_still o log pages site new (log_from (kept_by o.newest) (take (block - kept_by o.newest) o.blocks)) goes same up.taken.pages_are; analysis = up.taken.analysis; heard = up.taken.heard; count = up.taken.count };
         content_is = read.0;
         used_is = read.1;
         split = log_split (kept_by o.newest) (block - kept_by o.newest) block o.blocks (omega (arith, up.from)) inside;

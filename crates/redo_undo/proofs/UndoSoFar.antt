@@ -1,6 +1,6 @@
 -- What undoing has done for some CLRs of a transaction.
-use Rattle.std.proofs.Common.{◌≡◌, ℕ, ◌+◌, ◌≤◌, ◌<◌, Bool, true, false, List, [], ◌∷◌, ◌++◌, drop, take, suc, append_assoc, append-nil, sym, ap, ◌∙◌, arith, length}
-use Rattle.std.specs.Prelude.{Ok, Err, ⊤, Option, Result, IfOk, OnOk, if◌then◌else◌, nat_eq}
+use Rattle.std.proofs.Common.{◌≡◌, ℕ, ◌+◌, ◌≤◌, ◌<◌, Bool, true, List, [], ◌∷◌, ◌++◌, drop, take, append_assoc, append-nil, sym, ap, ◌∙◌, arith, length}
+use Rattle.std.specs.Prelude.{Ok, Err, ⊤, Option, Result, IfOk, OnOk, if◌then◌else◌}
 use Rattle.std.proofs.lemmas.Bool.{eq-eqb, ne_eqb}
 use Rattle.site.specs.declared.outside.Stop.{Stop}
 use Rattle.std.proofs.lemmas.List.{length-append}
@@ -40,11 +40,7 @@ left_is {records = records} made u rest split update = ap (left_open (records ++
 -- How many CLRs a step has logged.
 
 pub logged_few : (before now : UndoCursor) → clrs_logged before now ≤ 1
-logged_few before now = by (nat_eq now.last before.last)
-  where
-    by : (b : Bool) → (if b then 0 else 1) ≤ 1
-    by true = omega arith
-    by false = omega arith
+logged_few before now = grind (arith)
 
 pub logged_one : (before now : UndoCursor) → before.last < now.last → clrs_logged before now ≡ 1
 logged_one before now later = ap (λ (b : Bool). if b then 0 else 1) (ne_eqb now.last before.last (λ same. omega (arith, same, later)))
@@ -59,9 +55,7 @@ logged_blocks (Err stop) before end next old new first last few = tt
 
 -- With one more item.
 take_one : (n m : ℕ) (xs ys : List Entry) (u : Entry) (rest : List Entry) → n ≡ m + 1 → xs ≡ u ∷ rest → ys ≡ rest → take n xs ≡ u ∷ take m ys
-take_one n m xs ys u rest is split same =
-    let one : m + 1 ≡ suc m = omega arith in
-    ap (λ (k : ℕ). take k xs) (is ∙ one) ∙ ap (take (suc m)) split ∙ ap (λ (l : List Entry). u ∷ take m l) (sym same)
+take_one n m xs ys u rest is split same = grind (arith)
 
 -- Of so many Updates of a transaction some are undone, and so many more are wanted. Of so many records that undoing reads it has read some.
 pub record UndoesSoFar (log : LogStore) (pages : PageStore) (site : State) (newest : Option Master) (records : List Entry) (table : List Content) (commits txn : ℕ) (now : UndoCursor) (first : LogStore) (old : PageStore) (before : State) (chain count more : ℕ) : Type 0 where

@@ -5,7 +5,7 @@ use Rattle.redo_laws.specs.Calls.{KeepsInvariant}
 use Rattle.redo_undo.proofs.UndoCalls.{undoes_few, undoes_as, undoes_then, undoes_stopped, undoes_answered}
 use Rattle.redo_undo.specs.UndoCalls.{UndoesWork}
 use Rattle.log_laws.proofs.Undoing.{found_by_lsn, top_stands}
-use Rattle.std.proofs.Common.{◌≡◌, ℕ, ◌+◌, ◌≤◌, ◌<◌, ◌==◌, true, List, [], ◌∷◌, ◌++◌, length, Option, None, Some, refl, sym, ap, subst, ◌∙◌, append_assoc, append-nil, ◌*◌, arith, length-append, add-one}
+use Rattle.std.proofs.Common.{◌≡◌, ℕ, ◌+◌, ◌≤◌, ◌<◌, ◌==◌, true, List, [], ◌∷◌, ◌++◌, length, Option, Some, refl, sym, ap, subst, ◌∙◌, append_assoc, append-nil, ◌*◌, arith, length-append, add-one}
 use Rattle.std.proofs.lemmas.List.{length-reverse}
 use Rattle.std.specs.Prelude.{Ok, Err, ⊤, find, reverse, option_map}
 use Rattle.std.proofs.lemmas.Option.{none-some, same_Some}
@@ -110,13 +110,7 @@ more_updates log log' pages pages' site site' newest records table commits found
 
 pub next_is_last : (records : List Entry) (next : Option (ℕ × ℕ)) (at : ℕ × ℕ) → next ≡ Some at → next ≡ option_map (λ (u : Entry). record { 0 = txn_of u; 1 = u.lsn }) (last_where (λ v. true) (pending records)) →
     (u : Entry) × IsLastAt records at.0 at.1 u
-next_is_last records next at some is = by (last_where (λ v. true) (pending records)) refl
-  where
-    by : (last : Option Entry) → last_where (λ v. true) (pending records) ≡ last → (u : Entry) × IsLastAt records at.0 at.1 u
-    by None none = absurd (none-some at (sym (is ∙ ap (option_map (λ (u : Entry). record { 0 = txn_of u; 1 = u.lsn })) none) ∙ some))
-    by (Some u) last =
-        let same : record { 0 = txn_of u; 1 = u.lsn } ≡ at = same_Some _ at (sym (is ∙ ap (option_map (λ (u : Entry). record { 0 = txn_of u; 1 = u.lsn })) last) ∙ some) in
-        (u, record { last = last; own = ap (λ (p : ℕ × ℕ). p.0) same; at = ap (λ (p : ℕ × ℕ). p.1) same })
+next_is_last records next at some is = grind (arith, none-some, same_Some)
 
 pub last_in_front : (records : List Entry) (txn lsn : ℕ) (u : Entry) → IsLastAt records txn lsn u → (rest : List Entry) × (reverse (pending records) ≡ u ∷ rest)
 last_in_front records txn lsn u last =
@@ -125,11 +119,7 @@ last_in_front records txn lsn u last =
 
 pub none_is_next : (records : List Entry) (next : Option (ℕ × ℕ)) → ((at : ℕ × ℕ) → next ≡ Some at → ⊥) → next ≡ option_map (λ (u : Entry). record { 0 = txn_of u; 1 = u.lsn }) (last_where (λ v. true) (pending records)) →
     pending records ≡ []
-none_is_next records next never is = none_last (pending records) (by (last_where (λ v. true) (pending records)) refl)
-  where
-    by : (last : Option Entry) → last_where (λ v. true) (pending records) ≡ last → last_where (λ v. true) (pending records) ≡ None
-    by None none = none
-    by (Some u) last = absurd (never _ (is ∙ ap (option_map (λ (u : Entry). record { 0 = txn_of u; 1 = u.lsn })) last))
+none_is_next records next never is = grind (arith, none_last)
 
 -- Some are undone, and what remains is to be done.
 pub record UndoesSoFar (log : LogStore) (pages : PageStore) (site : State) (newest : Option Master) (records : List Entry) (table : List Content) (commits : ℕ) (found : Analysis) (known : ℕ) (start : LogStore) (old : PageStore) (before : State) (logged : ℕ) : Type 0 where

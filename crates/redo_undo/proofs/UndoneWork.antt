@@ -2,7 +2,7 @@
 use Rattle.redo_laws.specs.Holding.{Represents}
 use Rattle.redo_undo.specs.UndoCalls.{UndoesWork}
 use Rattle.log_laws.proofs.Undoing.{top_stands}
-use Rattle.std.proofs.Common.{◌≡◌, ◌≢◌, ◌==◌, ℕ, zero, suc, ◌+◌, ◌*◌, ◌≤◌, ◌<◌, Bool, true, false, cond, not, ◌&&◌, ◌||◌, nat_eq, List, [], ◌∷◌, ◌++◌, map, filter, find, drop, replicate, reverse, length, Option, Some, refl, sym, ap, subst, ◌∙◌, arith, append-nil, append_assoc, eq-eqb, ne_eqb, eqb-true, true≢false, length-append}
+use Rattle.std.proofs.Common.{◌≡◌, ◌==◌, ℕ, zero, suc, ◌+◌, ◌*◌, ◌≤◌, ◌<◌, Bool, true, false, cond, not, ◌&&◌, ◌||◌, nat_eq, List, [], ◌∷◌, ◌++◌, map, filter, find, drop, replicate, reverse, length, Option, Some, refl, sym, ap, subst, ◌∙◌, arith, append-nil, append_assoc, eq-eqb, ne_eqb, eqb-true, true≢false, length-append}
 use Rattle.std.specs.Prelude.{Ok, if◌then◌else◌}
 use Rattle.std.specs.List.{list_any, AllByRecursion}
 use Rattle.std.proofs.lemmas.Bool.{and_from, and_parts, or_left}
@@ -43,9 +43,7 @@ use Rattle.std.proofs.lemmas.Option.{same_Some}
 
 -- the slot of a page is touched, and then changed in front
 pub back_is : (page slot front : ℕ) (before : Content) → slot < 32 → front ≡ page → cached (touch page false) ∷ changed (clr_octets before) front ∷ [] ≡ takes_back (32 * page + slot, before)
-back_is page slot front before less same =
-    ap (λ (n : ℕ). cached (touch page false) ∷ changed (clr_octets before) n ∷ []) same
-    ∙ ap (λ (n : ℕ). cached (touch n false) ∷ changed (clr_octets before) n ∷ []) (sym (page_is page slot less))
+back_is page slot front before less same = grind (arith, page_is)
 
 pub clr_is : (u : Entry) (number : ℕ) (before : Content) → number_of u.rec ≡ Some number → before_of u.rec ≡ before → clr_work u ≡ takes_back (number, before)
 clr_is u number before at is = ap (clr_on (before_of u.rec)) at ∙ ap (λ (b : Content). takes_back (number, b)) is
@@ -77,17 +75,7 @@ pub record EndsMade (log log' : LogStore) (pages : PageStore) (before now : Stat
 
 -- a transaction of which nothing remains is taken out
 pub takes_one : (old new : List Open) (t : ℕ) → AscendFrom 0 old → HasNone old t → TakesOut old new t → length (filter none_remains old) ≡ suc (length (filter none_remains new))
-takes_one old new t ascend none takes =
-    let is : takes.was ≡ none.x = same_Some takes.was none.x
-    (sym (found_here 0 takes.front takes.was takes.back (subst (AscendFrom 0) takes.old_is ascend)) ∙ ap (found_in (takes.front ++ takes.was ∷ takes.back)) takes.of ∙ sym (ap (λ (l : List Open). found_in l t) takes.old_is) ∙ none.there) in
-    let empty : none_remains takes.was ≡ true = ap (λ (l : List ℕ). nat_eq (length l) 0) (ap (λ (x : Open). x.updates) is ∙ none.none) in
-    let here : filter none_remains (takes.was ∷ takes.back) ≡ takes.was ∷ filter none_remains takes.back = ap (λ (b : Bool). cond b (takes.was ∷ filter none_remains takes.back) (filter none_remains takes.back)) empty in
-    let before : length (filter none_remains old) ≡ length (filter none_remains takes.front) + suc (length (filter none_remains takes.back)) =
-    ap (λ (l : List Open). length (filter none_remains l)) takes.old_is ∙ ap length (filter-append none_remains takes.front (takes.was ∷ takes.back))
-    ∙ length-append (filter none_remains takes.front) (filter none_remains (takes.was ∷ takes.back)) ∙ ap (λ (l : List Open). length (filter none_remains takes.front) + length l) here in
-    let behind : length (filter none_remains new) ≡ length (filter none_remains takes.front) + length (filter none_remains takes.back) =
-    ap (λ (l : List Open). length (filter none_remains l)) takes.new_is ∙ ap length (filter-append none_remains takes.front takes.back) ∙ length-append (filter none_remains takes.front) (filter none_remains takes.back) in
-    omega (arith, before, behind)
+takes_one old new t ascend none takes = grind (arith, same_Some, found_here, nat_eq, filter-append, length-append)
 
 -- there is one where it is found
 pub some_none : (table : List Open) (t : ℕ) → HasNone table t → 1 ≤ length (filter none_remains table)
@@ -113,14 +101,8 @@ some_none table t none = by table none.there
 
 -- and none where of each one something remains
 pub no_ends : (table : List Open) → AllByRecursion (λ (x : Open). 0 < length x.updates) table → length (filter none_remains table) ≡ 0
-no_ends [] all = refl
-no_ends (x ∷ table) all =
-    let some : none_remains x ≡ false = positive (length x.updates) all.0 in
-    ap (λ (b : Bool). length (cond b (x ∷ filter none_remains table) (filter none_remains table))) some ∙ no_ends table all.1
-  where
-    positive : (n : ℕ) → 0 < n → nat_eq n 0 ≡ false
-    positive zero less = absurd (omega (arith, less))
-    positive (suc n) less = ne_eqb (suc n) 0 (λ same. omega (arith, same))
+no_ends [] all = grind (arith)
+no_ends (x ∷ table) all = grind (arith, nat_eq, ne_eqb, (no_ends table all.1))
 
 -- so many are there from the beginning
 empty_is : (updates : List Entry) → nat_eq (length (map (λ (u : Entry). u.lsn) updates)) 0 ≡ is_empty updates
@@ -128,13 +110,8 @@ empty_is [] = refl
 empty_is (u ∷ updates) = ne_eqb (suc (length (map (λ (x : Entry). x.lsn) updates))) 0 (λ same. omega (arith, same))
 
 counted : (records : List Entry) (ts : List ℕ) → length (filter none_remains (map (open_at [] records) ts)) ≡ length (filter (λ (t : ℕ). is_empty (left_open records t)) ts)
-counted records [] = refl
-counted records (t ∷ ts) = by (is_empty (left_open records t)) (empty_is (left_open records t)) (counted records ts)
-  where
-    by : (b : Bool) → none_remains (open_at [] records t) ≡ b → length (filter none_remains (map (open_at [] records) ts)) ≡ length (filter (λ (t : ℕ). is_empty (left_open records t)) ts) →
-        length (filter none_remains (open_at [] records t ∷ map (open_at [] records) ts)) ≡ length (cond b (t ∷ filter (λ (t : ℕ). is_empty (left_open records t)) ts) (filter (λ (t : ℕ). is_empty (left_open records t)) ts))
-    by true is rest = ap (λ (b : Bool). length (cond b (open_at [] records t ∷ filter none_remains (map (open_at [] records) ts)) (filter none_remains (map (open_at [] records) ts)))) is ∙ ap suc rest
-    by false is rest = ap (λ (b : Bool). length (cond b (open_at [] records t ∷ filter none_remains (map (open_at [] records) ts)) (filter none_remains (map (open_at [] records) ts)))) is ∙ rest
+counted records [] = grind (arith)
+counted records (t ∷ ts) = grind (arith, empty_is, (counted records ts))
 
 pub ends_are : OneTable → TableOfUnfinished → (records : List Entry) (table : List Open) (from to : ℕ) → IsTable [] records table → IsInOrder from records to → ends_for table ≡ replicate (length (only_ends records)) (logged 9)
 ends_are one unfinished records table from to is order =
@@ -150,13 +127,8 @@ ended_first active one unfinished {log = log} {pages = pages} {site = site} {new
 -- Whether an Update of a transaction waits to be undone.
 
 not_among : (f w : Entry → Bool) (xs : List Entry) → ((e : Entry) → f e ≡ true → w e ≡ false) → list_any f (filter w xs) ≡ false
-not_among f w [] never = refl
-not_among f w (e ∷ xs) never = by (f e) (w e) refl refl (not_among f w xs never)
-  where
-    by : (a b : Bool) → f e ≡ a → w e ≡ b → list_any f (filter w xs) ≡ false → list_any f (cond b (e ∷ filter w xs) (filter w xs)) ≡ false
-    by a false own waits rest = rest
-    by true true own waits rest = absurd (true≢false (sym waits ∙ never e own))
-    by false true own waits rest = ap (λ (b : Bool). b || list_any f (filter w xs)) own ∙ rest
+not_among f w [] never = grind (arith)
+not_among f w (e ∷ xs) never = grind (arith, waits, (not_among f w xs never))
 
 among : (f w : Entry → Bool) (xs : List Entry) (e : Entry) (test : Entry → Bool) → find test xs ≡ Some e → f e ≡ true → w e ≡ true → list_any f (filter w xs) ≡ true
 among f w [] e test found own waits = cc

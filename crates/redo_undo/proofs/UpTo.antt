@@ -1,14 +1,14 @@
 -- Of so many Updates of a transaction that are to be undone as many are as there are.
+use Rattle.std.proofs.lemmas.Grind.{common_steps}
 use Rattle.std.proofs.Common.{◌≡◌, ℕ, zero, suc, ◌+◌, ◌-◌, ◌≤◌, min, List, [], ◌∷◌, length, take, ◌++◌, true, drop, refl, sym, ap, ◌∙◌, arith, append-nil, append_assoc}
-use Rattle.std.specs.Prelude.{Option, ⊤, Ok, Result}
+use Rattle.std.specs.Prelude.{Option, Ok, Result}
 use Rattle.std.proofs.Math.ListN.{drop_of_length-le}
 use Rattle.std.proofs.lemmas.List.{take-append-drop}
-use Rattle.log_records.specs.Sound.{last_lsn}
 use Rattle.log_laws.proofs.OpenUpdates.{left_after_clr}
 use Rattle.site.specs.State.{State}
 use Rattle.site.specs.declared.outside.Stop.{Stop}
 use Rattle.record_model.specs.State.{Content}
-use Rattle.log_records.specs.Log.{Entry, updates_in, entries_of, is_loser}
+use Rattle.log_records.specs.Log.{Entry, updates_in}
 use Rattle.log_records.specs.Unfinished.{is_clr, left_open}
 use Rattle.log_laws.specs.Analysis.{Unfinished, IsUnfinished, past_clr}
 use Rattle.log_laws.proofs.UndoingSteps.{clr_is_read}
@@ -19,7 +19,7 @@ use Rattle.redo_laws.specs.Holding.{blocks_to}
 use Rattle.redo_laws.specs.UndoWorks.{works_of}
 use Rattle.redo_undo.specs.declared.undo.UndoCursor.{UndoCursor}
 use Rattle.redo_undo.specs.Mirroring.{clrs_for}
-use Rattle.redo_undo.specs.Rollback.{AreClrsOf, Compensates, CompensatesUpTo, UndoesLast}
+use Rattle.redo_undo.specs.Rollback.{AreClrsOf, CompensatesUpTo, UndoesLast}
 use Rattle.redo_undo.specs.UndoCalls.{UndoesWork}
 use Rattle.redo_undo.proofs.UndoCalls.{undoes_answered, undoes_as, undoes_few}
 use Rattle.redo_undo.proofs.UndoSoFar.{UndoesSoFar}
@@ -45,11 +45,7 @@ module _ {log : LogStore} {pages : PageStore} {site : State} {newest : Option Ma
 
   -- so many records were read, at most
   pub reads_few : so_far.read ≤ length so_far.made.clrs + (length x.chain - x.remaining)
-  reads_few =
-      let long = chain_is_longer (records ++ so_far.made.clrs) so_far.made.x so_far.made.left in
-      let all = chain_is_longer records x is in
-      let read = so_far.reads_are in let count = so_far.made.count in let remain = is.remaining_is in
-      omega (arith, long, all, read, count, remain)
+  reads_few = grind (arith, chain_is_longer)
 
   -- one fewer where a CLR is read next
   pub passed_few : (e : Entry) (rest : List Entry) → so_far.made.x.chain ≡ e ∷ rest → is_clr e.rec ≡ true → so_far.read + 1 ≤ length so_far.made.clrs + (length x.chain - x.remaining)
@@ -74,25 +70,17 @@ module _ {log : LogStore} {pages : PageStore} {site : State} {newest : Option Ma
 
   -- no more are wanted
   pub none_wanted : more ≡ 0 → (take more (left_open (records ++ so_far.made.clrs) x.txn) ≡ []) × (length so_far.made.clrs ≡ min count x.remaining)
-  none_wanted none =
-      let many = so_far.many in let count = so_far.made.count in let remain = is.remaining_is in
-      (ap (λ (n : ℕ). take n (left_open (records ++ so_far.made.clrs) x.txn)) none, omega (arith, many, count, remain, none))
+  none_wanted none = grind (arith)
 
   -- none is left
   pub none_left : so_far.made.x.remaining ≡ 0 → (take more (left_open (records ++ so_far.made.clrs) x.txn) ≡ []) × (length so_far.made.clrs ≡ min count x.remaining)
-  none_left none =
-      let many = so_far.many in let count = so_far.made.count in let remain = is.remaining_is in
-      (take_none more (left_open (records ++ so_far.made.clrs) x.txn) (own_left ∙ none), omega (arith, many, count, remain, none))
+  none_left none = grind (arith, take_none, own_left)
 
 -- Where all are wanted all are done.
 pub does_all : {T : Type 0} {r : Result T Stop} {first log : LogStore} {old pages : PageStore} {before site : State} {newest : Option Master} {records : List Entry} {table : List Content} {commits count : ℕ} (x : Unfinished) → IsUnfinished records x → length (left_open records x.txn) ≤ count →
     UndoesWork r (clrs_for (take count (left_open records x.txn))) (works_of (take count (left_open records x.txn))) first log old pages before site newest table commits (min count x.remaining) (min count x.remaining + (length x.chain - x.remaining)) →
     UndoesWork r (clrs_for (left_open records x.txn)) (works_of (left_open records x.txn)) first log old pages before site newest table commits x.remaining (length x.chain)
-does_all {records = records} {count = count} x is all does =
-    let long = chain_is_longer records x is in
-    let same : left_open records x.txn ≡ take count (left_open records x.txn) =
-    sym (take-append-drop count (left_open records x.txn)) ∙ ap (λ (l : List Entry). take count (left_open records x.txn) ++ l) (drop_of_length-le (left_open records x.txn) all) ∙ append-nil (take count (left_open records x.txn)) in
-    undoes_few (omega arith) (omega (arith, long)) (undoes_as (ap clrs_for same) (ap works_of same) does)
+does_all {records = records} {count = count} x is all does = grind (arith, common_steps, chain_is_longer, take-append-drop, drop_of_length-le, append-nil, undoes_few, undoes_as)
 
 pub all_done : {log : LogStore} {pages : PageStore} {site : State} {newest : Option Master} {records : List Entry} {table : List Content} {commits txn count blocks : ℕ} {now : UndoCursor} (u : CompensatesUpTo log pages site newest records table commits txn count blocks now) → length (left_open records txn) ≤ count → u.made.x.remaining ≡ 0
 all_done u few = let many = u.many in let count = u.made.count in omega (arith, many, count, few)
@@ -100,29 +88,9 @@ all_done u few = let many = u.many in let count = u.made.count in omega (arith, 
 -- What the last ones leave.
 
 pub left_after_clrs : (records clrs : List Entry) (t : ℕ) → AreClrsOf t clrs → left_open (records ++ clrs) t ≡ drop (length clrs) (left_open records t)
-left_after_clrs records [] t own = ap (λ (l : List Entry). left_open l t) (append-nil records)
-left_after_clrs records (e ∷ clrs) t own =
-    ap (λ (l : List Entry). left_open l t) (sym (append_assoc records (e ∷ []) clrs)) ∙ left_after_clrs (records ++ e ∷ []) clrs t own.1
-    ∙ ap (drop (length clrs)) (left_after_clr records e t own.0.0 own.0.1) ∙ one_more (length clrs) (left_open records t)
-  where
-    one_more : (n : ℕ) (us : List Entry) → drop n (drop 1 us) ≡ drop (suc n) us
-    one_more zero [] = refl
-    one_more (suc n) [] = refl
-    one_more n (u ∷ us) = refl
+left_after_clrs records [] t own = grind (arith, common_steps, append-nil)
+left_after_clrs records (e ∷ clrs) t own = grind (arith, common_steps, append_assoc, left_after_clr, (left_after_clrs (records ++ e ∷ []) clrs t own.1))
 
 pub undoes_last : {log : LogStore} {pages : PageStore} {site : State} {newest : Option Master} {records : List Entry} {table : List Content} {commits txn count blocks : ℕ} {now : UndoCursor} → CompensatesUpTo log pages site newest records table commits txn count blocks now → count ≤ length (left_open records txn) →
     UndoesLast log pages site newest records table commits txn count now.last
-undoes_last {records = records} {txn = txn} {count = count} u few =
-    let made = u.made in
-    let many : length made.clrs ≡ count = let many = u.many in omega (arith, many, few) in
-    record {
-      clrs = made.clrs;
-      own = made.own;
-      many = many;
-      holds = made.holds;
-      loser = ap (is_loser (records ++ made.clrs)) (sym made.same) ∙ made.left.loser;
-      last_is = made.at.last ∙ made.left.last_is ∙ ap (λ (t : ℕ). last_lsn (entries_of t (records ++ made.clrs))) made.same;
-      left = left_after_clrs records made.clrs txn made.own ∙ ap (λ (n : ℕ). drop n (left_open records txn)) many;
-      owes = let owes = made.owes in omega (arith, owes, many);
-      orderly = made.orderly;
-    }
+undoes_last {records = records} {txn = txn} {count = count} u few = grind (arith, left_after_clrs)

@@ -25,6 +25,7 @@ use Rattle.image_meaning.specs.LogicalImages.{ReplaceAll}
 use Rattle.image_meaning.specs.Redone.{IsRedone, AreKnown}
 use Rattle.image_meaning.specs.Beside.{AreRingsSoundUnder}
 use Rattle.analysis.specs.Read.{IsAnalysis}
+use Rattle.log_judge.specs.Judging.{HasHeard}
 use Rattle.checkpoint.specs.declared.master.Master.{Master}
 use Rattle.analysis.specs.Taken.{is_taken}
 use Rattle.image_changes.specs.Rings.{KeepsUnits, master_shape}
@@ -91,11 +92,25 @@ pub record IsRedoing (o : Opening) (log : LogStore) (pages : PageStore) (site : 
   pub known : (page : ℕ) → page < o.sizes.pages → AreKnown front page (lsn_of (current pages site.image page))
   pub from : (page : ℕ) → page < o.sizes.pages → IsFrom (opened o) front page (lsn_of (current pages site.image page))
 
--- These records are read: the pages have them redone, analysis knows of them, and they are counted.
+-- Log and pages fit the site, and the log has the blocks that it was opened with, whatever their records say. Nothing
+-- of it is unsealed.
+pub record IsReadable (o : Opening) (log : LogStore) (pages : PageStore) (site : State) : Type 0 where
+  pub kept : log.kept ≡ kept_by o.newest
+  pub ready : AreReady pages log (record { first = kept_by o.newest; blocks = o.blocks; tail = [] }) site
+
+-- While they are read: these ones keep the rules so far, and they are counted.
+pub record IsReading (o : Opening) (log : LogStore) (pages : PageStore) (site : State) (so_far : Redone)
+    (front : List Entry) : Type 0 where
+  pub readable : IsReadable o log pages site
+  pub heard : HasHeard (opened o) front so_far.judge
+  pub count : so_far.records ≡ length front
+
+-- These records are read: the pages have them redone, analysis knows of them, they are judged and counted.
 pub record HasTaken (o : Opening) (log : LogStore) (pages : PageStore) (site : State) (so_far : Redone)
     (front : List Entry) : Type 0 where
   pub pages_are : IsRedoing o log pages site front
   pub analysis : IsAnalysis (opened o).master (heard_of (opened o).master front) so_far.found
+  pub heard : HasHeard (opened o) front so_far.judge
   pub count : so_far.records ≡ length front
 
 -- a call that redoes asks for this work, and does it on a log whose tail has no records

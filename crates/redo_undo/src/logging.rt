@@ -9,10 +9,12 @@ ghost use Rattle.log_records.specs.declared.log_record.LogRecord.{LogRecord};
 ghost use Rattle.log_records.specs.Log.{Entry, number_of};
 ghost use Rattle.log_records.specs.Sound.{AreOrderly};
 ghost use Rattle.log_records.specs.Spelling.{HasForm};
+ghost use Rattle.log_store.specs.LogList.{LogList};
 ghost use Rattle.log_store.specs.Representation as log_store;
 ghost use Rattle.log_store.specs.Representation.{end_of, has_tail};
 ghost use Rattle.write_ahead.specs.Forcing.{end_forced};
 ghost use Rattle.page_store.specs.declared.store.PageStore.{PageStore};
+ghost use Rattle.page_store.specs.Leaves.{AreReady};
 ghost use Rattle.second_chance.specs.Machine.{holds};
 ghost use Rattle.slotted_page.specs.Layout.{lsn_of};
 ghost use Rattle.buffer_pool.specs.Frames.{front_of};
@@ -66,6 +68,10 @@ pub fn touch<S: Site>(
         (LeavesOpened o (S.state site.old).told) 0 0 }
     ensures at_rest { (o : Opening) (front : List Entry) → IsRedoing o log.old pages.old (S.state site.old) front
         → PerformsAtRest result (one_touch page) pages.old pages.new }
+
+    // Of an honest site that log and pages fit, whatever the records say.
+    ensures ready { (list : LogList) → AreReady pages.old log.old list (S.state site.old) → list.tail ≡ []
+        → OnOk result (AreReady pages.new log.new list (S.state site.new)) }
 
     // Of every site.
     ensures asks { StepsMachine result (one_touch page) pages.old pages.new (S.state site.old) (S.state site.new) }

@@ -17,7 +17,11 @@ ghost use Rattle.analysis.specs.Read.{IsAnalysis, IsTable};
 ghost use Rattle.analysis.specs.Taken.{is_named, is_taken, Steps, taken};
 ghost use Rattle.redo_laws.specs.Holding.{Invariant, Represents, IsOnPage, blocks_to};
 ghost use Rattle.redo_undo.specs.Redoing.{IsOpened, Opening, Takes, LeavesOpened, IsRedoing, HasTaken, touches_of};
-ghost use Rattle.redo_undo.specs.Redoing.{AsksAtRest, heard_of};
+ghost use Rattle.redo_undo.specs.Redoing.{AsksAtRest, IsReadable, IsReading, heard_of, opened};
+ghost use Rattle.log_judge.specs.Judging.{HasHeard};
+ghost use Rattle.log_judge.specs.Rules.{IsJudged};
+ghost use Rattle.log_store.specs.LogList.{LogList};
+ghost use Rattle.page_store.specs.Leaves.{AreReady};
 ghost use Rattle.checkpoint.specs.declared.master.Master.{Master};
 ghost use Rattle.redo_laws.specs.MachineSteps.{redo_works};
 ghost use Rattle.redo_laws.specs.Calls.{KeepsInvariant, LogsNothing, Keeps};
@@ -26,17 +30,20 @@ use crate::changing::{change_front, fits_front};
 use crate::logging::touch;
 use analysis::{Analysis, losers_are_taken, sound_log_steps, table_of_records};
 use checkpoint::Master;
+use log_judge::{Judge, Sizes, sound_is_judged};
 use log_records::{BLOCK_LEN, LogRecord, read_record};
 use log_store::LogStore;
 use page_store::PageStore;
 use site::{Site, Stop};
 use std::alloc::Global;
 
-/// What the log leaves unfinished, and the number of its records that were read.
+/// What the log leaves unfinished, the number of its records that were read, and what is known of them for judging
+/// them.
 #[derive(Drop)]
 pub struct Redone {
     pub found: Analysis,
     pub records: u64,
+    pub judge: Judge,
 }
 
 // The page that an Update or a CLR is on, and none of any other record.
@@ -142,6 +149,10 @@ fn redo_record<S: Site>(
         → AsksAtRest result (touches_of o (record { lsn = lsn; rec = rec.now } ∷ [])) pages.old pages.new
         (S.state site.old) (S.state site.new) }
 
+    // Of an honest site that log and pages fit, whatever the records say.
+    ensures ready { (list : LogList) → AreReady pages.old log.old list (S.state site.old) → list.tail ≡ []
+        → OnOk result (AreReady pages.new log.new list (S.state site.new)) }
+
     // Of every site.
     ensures logs_nothing { LogsNothing result log.old log.new pages.old pages.new (S.state site.old)
         (S.state site.new) }
@@ -166,7 +177,7 @@ fn redo_record<S: Site>(
     Ok(())
 }
 
-// Takes the next record: analysis hears of it, and from the redo block on it is redone.
+// Takes the next record: it is judged, analysis hears of it, and from the redo block on it is redone.
 fn take_record<S: Site>(
     site: &mut S,
     log: &mut LogStore,
@@ -188,15 +199,27 @@ fn take_record<S: Site>(
         → Takes result o log.old log.new pages.old pages.new (S.state site.old) (S.state site.new) so_far.new
         front (record { lsn = lsn; rec = rec.now } ∷ []) }
 
+    // Of an honest site that log and pages fit, whatever the records say.
+    ensures reads { (o : Opening) (front rest : List Entry) → master.now ≡ saved_by o.newest
+        → IsReading o log.old pages.old (S.state site.old) so_far.old front
+        → log_from (kept_by o.newest) o.blocks ≡ front ++ record { lsn = lsn; rec = rec.now } ∷ rest
+        → OnOk result (IsReading o log.new pages.new (S.state site.new) so_far.new
+        (front ++ record { lsn = lsn; rec = rec.now } ∷ [])) }
+
     // Of every site.
     ensures logs_nothing { LogsNothing result log.old log.new pages.old pages.new (S.state site.old)
         (S.state site.new) }
     ensures found_going { read.Invariant so_far.new.found }
     ensures records { OnOk result (so_far.new.records ≡ so_far.old.records + 1) }
+    ensures sizes { so_far.new.judge.sizes ≡ so_far.old.judge.sizes }
     ensures owed { OnOk result (owed_for (listed so_far.new.found.table)
         ≤ owed_for (listed so_far.old.found.table) + 1) }
 {
     sound_log_steps();
+    sound_is_judged();
+    if let Err(stop) = so_far.judge.hear(master, lsn, rec) {
+        return Err(stop);
+    }
     if let Err(stop) = analyse(master, &mut so_far.found, lsn, rec) {
         return Err(stop);
     }
@@ -234,12 +257,21 @@ fn take_block<S: Site>(
         → Takes result o log.old log.new pages.old pages.new (S.state site.old) (S.state site.new) so_far.new
         front (entries_from (512 * block + 2) records) }
 
+    // Of an honest site that log and pages fit, whatever the records say.
+    ensures reads { (o : Opening) (front rest : List Entry) (records : List LogRecord) → master.now ≡ saved_by o.newest
+        → IsReading o log.old pages.old (S.state site.old) so_far.old front
+        → IsBlock content.now records → used ≡ used_by records
+        → log_from (kept_by o.newest) o.blocks ≡ front ++ (entries_from (512 * block + 2) records ++ rest)
+        → OnOk result (IsReading o log.new pages.new (S.state site.new) so_far.new
+        (front ++ entries_from (512 * block + 2) records)) }
+
     // Of every site.
     ensures logs_nothing { LogsNothing result log.old log.new pages.old pages.new (S.state site.old)
         (S.state site.new) }
     ensures found_going { OnOk result (read.Invariant so_far.new.found) }
     ensures some { OnOk result (so_far.old.records < so_far.new.records) }
     ensures few { OnOk result (so_far.new.records ≤ so_far.old.records + 503) }
+    ensures sizes { OnOk result (so_far.new.judge.sizes ≡ so_far.old.judge.sizes) }
     ensures owed { OnOk result (owed_for (listed so_far.new.found.table) + so_far.old.records
         ≤ owed_for (listed so_far.old.found.table) + so_far.new.records) }
 {
@@ -265,7 +297,30 @@ fn take_block<S: Site>(
     Ok(())
 }
 
-/// Analysis and redo of a restart: the log is read once, from its kept block on. Analysis hears of each record from the
+// A judge of the records of a log.
+fn judge_of(alloc: Global, log: &LogStore, master: &Master) -> Result<Judge, Stop>
+    requires bounded { log.now.ring.hi ≤ 2 ^ 40 }
+    ensures sizes { IfOk result (λ judge. judge.sizes.hi ≡ log.now.ring.hi) }
+    ensures heard { (o : Opening) → master.now ≡ saved_by o.newest → log.now.geometry ≡ o.sizes
+        → log.now.ring.hi ≡ kept_by o.newest + length o.blocks
+        → IfOk result (λ judge. HasHeard (opened o) [] judge) }
+    ensures foreign { (o : Opening) → master.now ≡ saved_by o.newest → log.now.geometry ≡ o.sizes
+        → log.now.ring.hi ≡ kept_by o.newest + length o.blocks
+        → IsErrOf result Stop.Foreign → IsJudged (opened o) → ⊥ }
+    ensures stops { IfErr result (λ stop. (stop ≡ Stop.Memory) ⊎ (stop ≡ Stop.Foreign)) }
+{
+    let geometry = log.geometry();
+    let hi = log.sealed_end() / 512;
+    let sizes = Sizes {
+        pages: geometry.pages,
+        blocks: geometry.blocks,
+        hi,
+    };
+    Judge::start(alloc, master, sizes)
+}
+
+/// Analysis and redo of a restart: the log is read once, from its kept block on. Its records are judged as they are
+/// read: where one breaks a rule, or all of them do, it answers Foreign. Analysis hears of each record from the
 /// master's redo block on, and of those of the transactions that the master names; from the redo block on each Update
 /// and each CLR is redone where its page has a smaller LSN. Where the log's content isn't of the form, or a record is
 /// on a page that doesn't exist or has no room for it, it answers Foreign.
@@ -311,6 +366,11 @@ pub fn redo<S: Site>(
         (redo_works (logical_image_under newest pages.old.flash.geometry (S.state site.old).image blocks))
         pages.old pages.new (S.state site.old) (S.state site.new) }
 
+    // Of an honest site that log and pages fit, with these blocks, whatever their records say: it answers Ok only where
+    // they keep the rules that are judged.
+    ensures judged { (o : Opening) → master.now ≡ saved_by o.newest → o.sizes ≡ pages.old.flash.geometry
+        → IsReadable o log.old pages.old (S.state site.old) → IfOk result (λ redone. IsJudged (opened o)) }
+
     // Of every site.
     ensures works { KeepsInvariant result log.old log.new pages.old pages.new (S.state site.old) (S.state site.new) }
     ensures found_going { IfOk result (λ redone. read.Invariant redone.found) }
@@ -325,11 +385,20 @@ pub fn redo<S: Site>(
 {
     table_of_records();
     losers_are_taken();
+    sound_is_judged();
     let found = match Analysis::start(alloc, master) {
         Ok(found) => found,
         Err(stop) => return Err(stop),
     };
-    let mut so_far = Redone { found, records: 0 };
+    let judge = match judge_of(alloc, log, master) {
+        Ok(judge) => judge,
+        Err(stop) => return Err(stop),
+    };
+    let mut so_far = Redone {
+        found,
+        records: 0,
+        judge,
+    };
     let mut content = [0u8; BLOCK_LEN];
     for block in log.kept()..log.sealed_end() / 512 {
         let used = match log.read_block(site, block, &mut content) {
@@ -340,6 +409,9 @@ pub fn redo<S: Site>(
             Ok(()) => {}
             Err(stop) => return Err(stop),
         }
+    }
+    if !so_far.judge.is_sound(master) {
+        return Err(Stop::Foreign);
     }
     Ok(so_far)
 }

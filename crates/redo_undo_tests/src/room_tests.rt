@@ -1,10 +1,10 @@
-// Rows of redo and undo on a page near its end. The heap of a page has 3,952 octets: 19 values of 200 and one of 152 fill
-// it. Two Updates by which a slot gets 200 octets take a block.
+// Rows of redo and undo on a page near its end. The heap of a page has 3,952 octets: 19 values of 200 and one of 152
+// fill it. Two Updates by which a slot gets 200 octets take a block.
 
 use crate::rows::Row;
 
-// The Updates of slots 0 to 18 stand at 3, 227, 514, 738, .. up to 4610, and that of slot 19 at 4834. Redo fills the page
-// to its last octet, and undo empties it.
+// The Updates of slots 0 to 18 stand at 3, 227, 514, 738, .. up to 4610, and that of slot 19 at 4834. Redo fills the
+// page to its last octet, and undo empties it.
 pub(crate) const FILLED: &[Row] = &[
     Row::Begin(2),
     Row::Fill(4610),

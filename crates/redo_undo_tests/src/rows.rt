@@ -35,8 +35,8 @@ pub(crate) enum Row {
     Update(u64, u64, u64, u8),
     // The CLR of such an Update is logged so. Behind the record before it stands where undo goes on.
     Clr(u64, u64, u64, u64, u8),
-    // Behind its Begin transaction 2 has Updates by which slots 0 to 18 get 200 octets each. The last one is logged with
-    // this LSN. No page is changed.
+    // Behind its Begin transaction 2 has Updates by which slots 0 to 18 get 200 octets each. The last one is logged
+    // with this LSN. No page is changed.
     Fill(u64),
     // An Update is logged with this LSN, by a transaction, behind the record at another one. A slot had a value of so
     // many octets, and gets one of so many. No page is changed.

@@ -1,1 +1,2 @@
+mod Archived
 mod Simulated

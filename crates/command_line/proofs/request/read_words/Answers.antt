@@ -1,4 +1,5 @@
-use Rattle.std.proofs.Common.{◌∙◌}
+use Rattle.std.proofs.Common.{◌≡◌, ◌∙◌, sym}
+use Rattle.command_line.specs.declared.request.Unread.TheVariants.{Memory, Words}
 use Rattle.command_line.specs.Words.{words_of}
 use Rattle.command_line.proofs.ClapLaws.{dash_is, no_dash, right_undashed}
 use Rattle.command_line.proofs.request.read_words.Goals as goal
@@ -14,3 +15,9 @@ returns-in-Ok-clause-dashed c dash = absurd (no_dash c.args.words.now c.has_dash
 
 pub returns-clause-dashed : goal.returns-clause-dashed
 returns-clause-dashed c dash = absurd (no_dash c.args.words.now c.has_dash.result c.has_dash.ensures c.if-has_dash.false dash)
+
+pub returns-clause-unread : goal.returns-clause-unread
+returns-clause-unread c is right =
+    let memory : c.unread_by.result ≡ Memory = c.unread_by.ensures.1 (c.kind.ensures ∙ c.in-Err.ensures.right right) in
+    let bad : Words ≡ Memory = sym is ∙ memory in
+    cc

@@ -1,7 +1,7 @@
 use Rattle.std.proofs.Common.{rules, ◌≡◌, codes, ⊎_elim, sym, true≢false}
 use Rattle.std.specs.Prelude.{Some}
 use Rattle.clap.specs.Words.{found_of, subcommand_name_of}
-use Rattle.command_line.proofs.ClapInverse.{run_right, run_wrong, new_right, new_wrong, load_right, load_wrong, simulate_right, simulate_wrong, trial_right, trial_wrong, check_right, right_named}
+use Rattle.command_line.proofs.ClapInverse.{run_right, run_wrong, new_right, new_wrong, load_right, load_wrong, simulate_right, simulate_wrong, trial_right, trial_wrong, check_right, archive_right, archive_wrong, right_named}
 use Rattle.command_line.proofs.request.request_in.Goals as goal
 
 pub returns-in_default-pool_in-clause-none : goal.returns-in_default-pool_in-clause-none
@@ -59,6 +59,16 @@ returns-in-Some-subcommand_matches-5-clause-some c words read =
     let is : subcommand_name_of c.args.matches.now ≡ Some (codes "check") = search rules in
     check_right words c.args.matches.now read is
 
+pub returns-in_default-from_in-clause-none : goal.returns-in_default-from_in-clause-none
+returns-in_default-from_in-clause-none c words read =
+    let is : subcommand_name_of c.args.matches.now ≡ Some (codes "archive") = search rules in
+    archive_wrong words c.args.matches.now (found_of c.in-Some-subcommand_matches-6.archive.now) read c.in-Some-subcommand_matches-6.ensures.rows is c.in_default-from_in.ensures.none
+
+pub returns-in-Some-subcommand_matches-6-clause-some : goal.returns-in-Some-subcommand_matches-6-clause-some
+returns-in-Some-subcommand_matches-6-clause-some c words read =
+    let is : subcommand_name_of c.args.matches.now ≡ Some (codes "archive") = search rules in
+    archive_right words c.args.matches.now (found_of c.in-Some-subcommand_matches-6.archive.now) read c.in-Some-subcommand_matches-6.ensures.rows is c.in-Some-from_in.from c.in-Some-from_in.ensures.from
+
 pub returns-clause-none : goal.returns-clause-none
 returns-clause-none c words read right = ⊎_elim
     (λ run. absurd (true≢false (sym (c.in_default.ensures.found.1 run))))
@@ -70,5 +80,7 @@ returns-clause-none c words read right = ⊎_elim
     (λ simulate. absurd (true≢false (sym (c.in_default-subcommand_matches-3.ensures.found.1 simulate))))
     (λ end. ⊎_elim
     (λ trial. absurd (true≢false (sym (c.in_default-subcommand_matches-4.ensures.found.1 trial))))
-    (λ check. absurd (true≢false (sym (c.in_default-subcommand_matches-5.ensures.found.1 check)))) end) last) others) other)
+    (λ both. ⊎_elim
+    (λ check. absurd (true≢false (sym (c.in_default-subcommand_matches-5.ensures.found.1 check))))
+    (λ archive. absurd (true≢false (sym (c.in_default-subcommand_matches-6.ensures.found.1 archive)))) both) end) last) others) other)
     (right_named words c.args.matches.now read right)

@@ -17,7 +17,8 @@ use Rattle.site.proofs.Laws.{stays_honest, unchanged_in_sequence, goes_in_sequen
 use Rattle.site.specs.declared.outside.Stop.TheVariants.{Foreign}
 use Rattle.image_meaning.specs.Meaning.{AreOctetsSoundUnder, kept_by, saved_by}
 use Rattle.flash_cache.specs.Representation.{groups_on}
-use Rattle.engine.proofs.Openings.{has_groups, first_on, there_is_newest, masters_form, kept_is, both_go_on, ready_now}
+use Rattle.engine.proofs.Openings.{has_groups, first_on, there_is_newest, masters_form, kept_is, both_go_on, readable_now, ready_now}
+use Rattle.engine.specs.Judged.{read_of}
 use Rattle.std.specs.Prelude.{IsTrue}
 use Rattle.site.specs.Calls.{IsUnchanged}
 use Rattle.engine.proofs.restart.open.Given.{Over}
@@ -82,6 +83,34 @@ returns-in-Ok-keep_from-clause-ready g c honest newest blocks table commits soun
     (c.in-Ok-newest.ensures.found honest_found (masters_form newest k found.image there_found.masters)) finds
     (subst (λ (log : LogStore). log_store.HasBlocks log.geometry (kept_by newest) blocks mid.image) (sym keeps) held.blocks)
     (subst (λ (log : LogStore). log_store.HasTail log.tail log.used []) (sym keeps) held.tail) sound means
+
+pub returns-in-Ok-keep_from-clause-legible : goal.returns-in-Ok-keep_from-clause-legible
+returns-in-Ok-keep_from-clause-legible g c honest newest blocks h =
+    let old = g.S.Site.state c.args.site.now in
+    let mid = g.S.Site.state c.start.new.site in
+    let found = g.S.Site.state c.start-2.new.site in
+    let new = g.S.Site.state c.newest.new.site in
+    let k = c.args.geometry.now in
+    let s = (goal.at.returns-in-Ok-keep_from-clause-legible g c).After-newest in
+    let same_first = c.start.ensures.reads.same honest in
+    let honest_mid = honest_mid g s honest in
+    let honest_found = honest_found g s honest in
+    let there_mid = subst (AreOctetsSoundUnder newest k) (sym same_first.image) h.octets in
+    let there_found = there g s honest newest h.octets in
+    let master = c.in-Ok-newest.master in
+    let is = c.one_master.ensures.newest found.image master (saved_by newest) (c.in-Ok-newest.ensures.master honest_found) (there_is_newest newest k found.image there_found.masters) in
+    let keeps = c.in-Ok-keep_from.ensures.keeps in
+    let finds = subst (λ (log : LogStore). log_store.Finds log mid) (sym keeps) (record { honest = (c.in-Ok.ensures.found honest h.held.form).honest; form = (c.in-Ok.ensures.found honest h.held.form).form; hi = (c.in-Ok.ensures.found honest h.held.form).hi }) in
+    let held = c.in-Ok.ensures.holds honest (kept_by newest) blocks h.held in (
+      is,
+      readable_now k c.keep_from.new.log c.in-Ok-start.pages old mid found new c.start.ensures.reads.preserves same_first c.start-2.ensures.preserves
+          (c.start-2.ensures.same honest_mid) c.newest.ensures.reads.preserves (c.newest.ensures.reads.same honest_found)
+          master (read_of k old.image newest blocks) (ap (λ (log : LogStore). log.kept) keeps) is
+          (c.in-Ok-start.ensures.fits honest_mid (first_on k mid.image) (groups_on k mid.image)
+          (has_groups k mid.image there_mid.groups) there_mid.segments there_mid.clean there_mid.versions) finds
+          (subst (λ (log : LogStore). log_store.HasBlocks log.geometry (kept_by newest) blocks mid.image) (sym keeps) held.blocks)
+          (subst (λ (log : LogStore). log_store.HasTail log.tail log.used []) (sym keeps) held.tail),
+    )
 
 pub returns-in-Ok-keep_from-clause-preserves : goal.returns-in-Ok-keep_from-clause-preserves
 returns-in-Ok-keep_from-clause-preserves g c =

@@ -391,3 +391,9 @@ returns-clause-performs g c newest blocks table commits h =
     let p = logical_image_under newest c.args.opened.pages.flash.geometry (g.S.Site.state c.args.site.now).image blocks in
     let first = store_from (after_undo g at.After-checkpoint newest blocks table commits h) refl refl (restart_saves_none (redo_works p) (log_under newest blocks)) refl (performs_of c.in-Ok-undo_all.is (both_done g at.After-undo_all newest blocks table commits h)) in
     performs_then first (performs_by (sym (rules_after g at.After-undo_all newest blocks table commits h ∙ (c.in-Ok.ensures.asks newest blocks table commits h.master h.opened_is).asks.rules_are)) (performs_failed (c.in-Err-checkpoint.ensures.performs newest (log_under newest blocks ++ held.0) table held.1)))
+
+pub returns-clause-judged : goal.returns-clause-judged
+returns-clause-judged g c o own size h = tt
+
+pub returns-in-Ok-checkpoint-clause-judged : goal.returns-in-Ok-checkpoint-clause-judged
+returns-in-Ok-checkpoint-clause-judged g c o own size h = c.in-Ok.ensures.judged o own size h

@@ -14,7 +14,9 @@ use Rattle.log_records.specs.Log.{table_of}
 use Rattle.page_store.specs.Caching.{cache_of, rules}
 use Rattle.site.proofs.Working.{ok_as, calls_failed, err_again}
 use Rattle.engine.proofs.Asking.{from_found, last_found, not_found, still_writes, writes_found}
-use Rattle.std.specs.Prelude.{Ok, Err, IfOk, IsTrue, Option}
+use Rattle.std.specs.Prelude.{Ok, Err, IfOk, OnOk, IsTrue, Option}
+use Rattle.log_judge.specs.Rules.{IsJudged}
+use Rattle.engine.specs.Judged.{IsLegible, read_of}
 use Rattle.std.proofs.Common.{◌≡◌, ◌∙◌, sym, subst, ap, refl, arith, ℕ, List}
 use Rattle.site.specs.State.{State}
 use Rattle.site.specs.declared.geometry.Geometry.{Geometry}
@@ -86,6 +88,12 @@ returns g c =
     let recovered = λ (honest : IsTrue old.honest) (k : Geometry) (newest : Option Master) (blocks : List (List LogRecord)) (sound : IsSound newest k old.image blocks).
     let p = image g s honest k newest blocks sound in c.recover.ensures.recovers newest blocks (table_of p.log p.pages) (commit_count p) (ready g s honest k newest blocks sound) in
     record {
+      judged = λ honest k newest blocks h.
+          let before = g.S.Site.state c.args.site.now in
+          let same = (c.in-Ok.ensures.found k h.octets.limits h.octets.lengths).1 in
+          let one = c.in-Ok-open.ensures.legible honest newest blocks (subst (λ (x : Geometry). IsLegible newest x before.image blocks) (sym same) h) in
+          subst (λ (x : Geometry). OnOk c.recover.result (IsJudged (logical_image_under newest x before.image blocks))) same
+          (c.recover.ensures.judged (read_of c.in-Ok.geometry before.image newest blocks) one.0 (sym c.in-Ok-open.ensures.sizes) one.1);
       opens = λ honest k newest blocks table commits sound means.
           let same : c.in-Ok.geometry ≡ k = (c.in-Ok.ensures.found k sound.octets.limits sound.octets.lengths).1 in
           let ready : IsReady c.in-Ok-open.opened mid newest blocks table commits = c.in-Ok-open.ensures.ready honest newest blocks table commits
@@ -146,6 +154,7 @@ pub returns-in-Err-open : goal.returns-in-Err-open
 returns-in-Err-open g c =
     let old = g.S.Site.state c.args.site.now in
     record {
+      judged = λ honest k newest blocks h. tt;
       opens = search rules;
       ends = λ honest k table commits stands.
           let same : c.in-Ok.geometry ≡ k = (c.in-Ok.ensures.found k stands.stands.sound.octets.limits stands.stands.sound.octets.lengths).1 in

@@ -4,6 +4,7 @@ use Rattle.site.specs.State.{State, Image}
 use Rattle.log_records.specs.declared.log_record.LogRecord.{LogRecord}
 use Rattle.image_form.specs.declared.place.Place.{Place}
 use Rattle.image_form.specs.Verdict.{HoldBefore, logical_image_of, values_of}
+use Rattle.image_form.proofs.FirstRule.{answers_as}
 use Rattle.image_check.specs.Deciding.{MeetsBefore, HoldOr}
 use Rattle.image_check.specs.Judgement.{IsVerdictOn}
 use Rattle.image_check.specs.Judging.{reading_of}
@@ -38,9 +39,12 @@ returns-in-Some g c = record {
   reads = search rules;
 }
 
+pub judge_counts-requires : goal.judge_counts-requires
+judge_counts-requires g c = may_later c.in_ok-rule.ensures.reads (may_later c.in_ok-records.ensures.reads c.requires)
+
 pub returns : goal.returns
 returns g c = record {
-  says = λ blocks meets survey.
+  says = answers_as c.judge_counts.result _ _ (λ verdict says blocks meets survey.
       let r = reading_of c.args.found.now blocks in
       let s0 : State = g.S.Site.state c.args.site.now in
       let s1 : State = g.S.Site.state c.rule_shown.new.site in
@@ -51,6 +55,6 @@ returns g c = record {
       let counted = (c.in_ok-records.ensures.says blocks (sees_of meets) meets.there.rings meets.reads.formed).values ((meets.rules 5 (omega arith)).fifth refl) in
       let own = subst (λ (o : Result ℕ Place). IfOk o (λ count. count ≡ values_of (logical_image_of r s0.image))) c.in-Ok.is counted in
       let values : c.in-Ok.records ≡ values_of (logical_image_of r s2.image) = subst (λ (image : Image). c.in-Ok.records ≡ values_of (logical_image_of r image)) (sym p2.same) own in
-      subst (λ (image : Image). IsVerdictOn image c.judge_counts.result) p2.same (c.judge_counts.ensures s2 blocks p2.meets survey values);
+      subst (λ (image : Image). IsVerdictOn image verdict) p2.same (says blocks p2.meets survey values)) c.judge_counts.ensures.says;
   reads = search rules;
 }

@@ -22,3 +22,6 @@ rule_undoable-requires c = may (goal.at.rule_undoable-requires c).In-Ok
 
 pub rule_apart-requires : goal.rule_apart-requires
 rule_apart-requires c = may (goal.at.rule_apart-requires c).In-Ok
+
+pub rule_page_room-requires : goal.rule_page_room-requires
+rule_page_room-requires c = may (goal.at.rule_page_room-requires c).In-Ok

@@ -53,6 +53,7 @@ loop-group-preserved g c =
       formed = subst (All (λ x. AreGroupHeads x)) (sym items) (all_pushed list heads c.loop-group.invariant.formed (some_formed c.in-Ok-Some.field-0 heads c.in-Ok-Some.field-0-is c.in-Ok-Some.ensures.formed));
       count = let long = ap length items ∙ length-append list (heads ∷ []) in omega (arith, long, count);
       most = omega (arith, c.loop-group-test.true, c.hi-group-end.ensures);
+      log = c.in-Ok-Some.ensures.log ∙ c.loop-group.invariant.log;
       heads = λ honest found groups.
           let same : now.image ≡ old.image = (reads.same honest).image in
           let some = c.requires.sizes.limits.groups in

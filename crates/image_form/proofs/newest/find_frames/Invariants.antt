@@ -16,6 +16,7 @@ invariant-loop-group g l =
       formed : All (λ heads. AreGroupHeads heads) l.list.items;
       count : l.first + length l.list.items ≡ l.group;
       most : l.group ≤ l.rings.groups.hi;
+      log : now.log_reads ≡ old.log_reads;
       heads : IsTrue old.honest → AreFound l.rings old → AreGroups l.geometry old.image → AreHeadsFrom l.geometry old.image l.first l.list.items;
       reads : OnlyReads {T = Unit {0}} (Ok tt) old now;
     }

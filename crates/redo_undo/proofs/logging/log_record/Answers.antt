@@ -11,7 +11,7 @@ use Rattle.log_store.specs.Representation.{overflows, next_lsn, end_of, has_tail
 use Rattle.log_store.specs.LogList.{LogList, changes_if}
 use Rattle.page_store.specs.Ahead.{AreSealed}
 use Rattle.redo_laws.specs.Holding.{MayGrow, RepresentsLog, Represents}
-use Rattle.redo_laws.proofs.Appended.{appended, ends_with, append_leaves, rings_now, sealed_now, versions_same, current_same, IsNumbered, IsAppended, if_ok_four, if_ok_one, if_ok_two, if_ok_three, ok_by, most_blocks}
+use Rattle.redo_laws.proofs.Appended.{appended, ends_with, append_leaves, rings_now, more_sealed, versions_same, current_same, IsNumbered, IsAppended, if_ok_four, if_ok_one, if_ok_two, if_ok_three, ok_by, most_blocks}
 use Rattle.redo_laws.specs.Committing.{EndsWith}
 use Rattle.image_meaning.specs.Beside.{AreRingsSoundUnder}
 use Rattle.checkpoint.specs.declared.master.Master.{Master}
@@ -78,11 +78,8 @@ module _ (g : Over) (c : After-append g) (pages : PageStore) (newest : Option Ma
       let ready = h.log_holds.ready in
       let changes = c.append.ensures.seals.changes ready.blocks.honest in
       if_ok_four c.append.result _ _ _ (λ lsn. IsNumbered c.args.log.now c.append.new.self lsn sealing) Stands (λ lsn holds finds reaches numbers. record {
-        rings = rings_now c.args.log.now pages site newest records table commits h sizes new
-            sealing reaches;
-        are_sealed = sealed_now c.args.log.now pages site newest records table commits h sizes new
-            sealing c.append.new.self changes
-            c.append.ensures.seals.geometry finds c.append.ensures.seals.at_most_one.0;
+        rings = rings_now newest pages.flash.geometry _ sealing list site.image new.image sizes h.log_holds.rings reaches;
+        are_sealed = more_sealed pages site new changes _ c.append.new.self sizes c.append.ensures.seals.geometry ready.blocks finds c.append.ensures.seals.at_most_one.0 h.log_holds.ahead.versions;
         appended_is = record { numbers = numbers; kept = c.append.ensures.seals.kept; holds = holds; finds = finds; changes = changes; preserves = c.append.ensures.seals.preserves };
       })
       (c.append.ensures.holds list ready.blocks ready.records) (c.append.ensures.seals.finds ready.blocks) (c.append.ensures.seals.reaches list ready.blocks ready.records)

@@ -2,7 +2,9 @@ use Rattle.std.proofs.Common.{Bool, false, [], arith, ◌∙◌, List, ap, ℕ, 
 use Rattle.std.specs.Prelude.{◌≡◌, OnOk, if◌then◌else◌}
 use Rattle.write_ahead.specs.Forcing.{forces}
 use Rattle.page_store.specs.Ahead.{pushed_by_touch}
-use Rattle.log_store.specs.LogList.{LogList}
+use Rattle.log_store.specs.LogList.{LogList, sealed_if}
+use Rattle.log_records.specs.Spelling.{used_by}
+use Rattle.page_store.specs.Leaves.{AreReady}
 use Rattle.redo_undo.specs.Redoing.{IsRedoing, Opening}
 use Rattle.redo_laws.proofs.Endings.{ends_by_pages}
 use Rattle.redo_laws.proofs.CallsInSequence.{some_group}
@@ -55,6 +57,10 @@ returns g c =
     let k = pages.flash.geometry in
     let tail = forced_tail log (pushed_by_touch pages c.args.page) in
     record {
+      ready = λ list h none.
+          let never = never_forced log (pushed_by_touch pages c.args.page) (h.records.tail.end ∙ ap used_by none) in
+          ok_as c.touch.result _ (AreReady c.touch.new.self c.touch.new.log list new)
+          (λ stands. subst (λ (b : Bool). AreReady c.touch.new.self c.touch.new.log (sealed_if b list) new) never stands.ready) (c.touch.ensures.stands list h);
       holds = λ newest records table commits h.
           let list : LogList = record { first = kept_by newest; blocks = h.log_holds.blocks; tail = h.log_holds.tail } in
           ok_both c.touch.result _ _ (Represents c.touch.new.log c.touch.new.self new newest records table commits)

@@ -1,4 +1,4 @@
-use Rattle.std.proofs.Common.{◌≡◌, ◌+◌, ◌-◌, ◌*◌, ◌≤◌, ℕ, List, length, take}
+use Rattle.std.proofs.Common.{◌≡◌, ◌+◌, ◌-◌, ◌*◌, ◌^◌, ◌≤◌, ℕ, List, length, take}
 use Rattle.std.specs.Prelude.{⊤, Ok, Option}
 use Rattle.record_model.specs.State.{Content}
 use Rattle.log_records.specs.declared.log_record.LogRecord.{LogRecord}
@@ -7,7 +7,8 @@ use Rattle.analysis.specs.Open.{owed_for}
 use Rattle.analysis.specs.Table.{listed}
 use Rattle.analysis.specs.Read as read
 use Rattle.redo_laws.specs.Holding.{blocks_to}
-use Rattle.redo_undo.specs.Redoing.{AsksAtRest, IsOpened, asked_of}
+use Rattle.redo_undo.specs.Redoing.{AsksAtRest, IsOpened, IsReadable, Opening, asked_of}
+use Rattle.redo_undo.proofs.Judging.{IsReadTo}
 use Rattle.redo_undo.proofs.TakenRecords.{IsUpTo}
 use Rattle.image_meaning.specs.Meaning.{kept_by, saved_by}
 use Rattle.checkpoint.specs.declared.master.Master.{Master}
@@ -29,6 +30,8 @@ invariant-loop-block g l =
       blocks : blocks_to l.log ≡ blocks_to l.fn.log;
       rises : l.fn.log.ring.hi ≤ l.log.ring.hi;
       log_reads : now.log_reads ≤ old.log_reads + (l.block - l.fn.log.kept);
+      sizes : l.so_far.judge.sizes.hi ≤ 2 ^ 40;
+      read_to : (o : Opening) → l.master ≡ saved_by o.newest → o.sizes ≡ l.fn.pages.flash.geometry → IsReadable o l.fn.log l.fn.pages old → IsReadTo o l.log l.pages now l.so_far l.block;
       up_to : (newest : Option Master) (blocks : List (List LogRecord)) (table : List Content) (commits : ℕ) → l.master ≡ saved_by newest → IsOpened l.fn.pages.flash.geometry l.fn.log l.fn.pages old newest blocks table commits →
           IsUpTo (record { sizes = l.fn.pages.flash.geometry; image = old.image; newest = newest; blocks = blocks; table = table; commits = commits }) l.log l.pages old now l.so_far l.block;
       asked : (newest : Option Master) (blocks : List (List LogRecord)) (table : List Content) (commits : ℕ) → l.master ≡ saved_by newest → IsOpened l.fn.pages.flash.geometry l.fn.log l.fn.pages old newest blocks table commits →

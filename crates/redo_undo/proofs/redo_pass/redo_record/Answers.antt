@@ -29,6 +29,7 @@ returns-in_default g c =
       keeps = λ o front rest h is. keeps_redoing c.requires.going.sizes h;
       asks = λ o front rest h is.
           asks_no_page _ o (record { lsn = c.args.lsn; rec = c.args.rec.now }) c.args.pages.now (g.S.Site.state c.args.site.now) c.in_default.ensures.none;
+      ready = λ list h none. h;
       logs_nothing = logs_nothing c.requires.going;
     }
 
@@ -48,6 +49,7 @@ returns-then-front_lsn-lsn g c =
           c.in-Some.page on.0 on.1 on.2 c.args.pages.now (g.S.Site.state c.args.site.now) _ (record { asks = c.in-Ok.ensures.asks; performs = c.in-Ok.ensures.at_rest o front h })
           (front_knows pages site.image c.args.rec.now c.args.lsn c.in-Some.page c.in-Ok.ensures.there c.in-Ok.ensures.front on
           (omega (arith, c.front_lsn.ensures, c.if-front_lsn-lsn.true)) c.in-Some.page on.0 on.1 on.2);
+      ready = λ list h none. c.in-Ok.ensures.ready list h none;
       logs_nothing = logs_answered c.in-Ok.ensures.logs_nothing;
     }
 
@@ -81,6 +83,7 @@ returns g c =
           (omega (arith, content, c.front_lsn.ensures, c.if-front_lsn-lsn.false)) c.change_front.new.pages
           (some_group c.requires.going) c.change_front.ensures.machine
           (λ i. rules_of (c.change_front.ensures.size i) (c.change_front.ensures.flash i).geometry.groups) c.change_front.ensures.flash;
+      ready = λ list h none. let now = c.in-Ok.ensures.ready list h none in record { pages = c.change_front.ensures.fit site now.pages; blocks = now.blocks; records = now.records };
       logs_nothing = grind (arith, common_steps);
     }
 

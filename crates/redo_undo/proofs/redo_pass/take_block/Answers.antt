@@ -1,7 +1,8 @@
 use Rattle.log_records.proofs.Blocks.{some_octet, one_spelled}
-use Rattle.std.proofs.Common.{◌+◌, ◌*◌, ◌++◌, ◌∷◌, [], List, append-nil, refl, sym, subst, append_assoc, arith}
+use Rattle.std.proofs.Common.{◌+◌, ◌*◌, ◌++◌, ◌∷◌, [], List, append-nil, refl, sym, subst, ◌∙◌, append_assoc, arith}
 use Rattle.log_records.specs.Log.{Entry, entries_from}
-use Rattle.redo_undo.specs.Redoing.{HasTaken}
+use Rattle.redo_undo.specs.Redoing.{HasTaken, IsReading}
+use Rattle.redo_undo.proofs.Judging.{part_read}
 use Rattle.redo_laws.proofs.CallsInSequence.{some_group}
 use Rattle.log_laws.proofs.BlockRecords.{next_of_log, past_one, none_there, past_all}
 use Rattle.redo_undo.proofs.TakenRecords.{part_begins}
@@ -20,6 +21,9 @@ loop-at-init g c =
       more = omega arith;
       some = λ less. absurd (omega (arith, less));
       owed = omega arith;
+      sizes = refl;
+      reads = λ o front rest records own h block used is. part_read o c.args.log.now c.args.pages.now (g.S.Site.state c.args.site.now) c.args.so_far.now front
+          c.args.block c.args.content.now c.args.used records h block used;
       part = λ o front rest records own h block used is. part_begins o c.args.log.now c.args.pages.now (g.S.Site.state c.args.site.now) c.args.so_far.now front
           c.args.block c.args.content.now c.args.used records c.requires.going.sizes h block used;
       keeps = λ o front rest records own h block used is. keeps_redoing c.requires.going.sizes h.pages_are;
@@ -49,6 +53,17 @@ loop-at-preserved g c =
       more = omega (arith, one, i.more);
       some = λ less. omega (arith, one, i.more);
       owed = omega (arith, i.owed, t.owed, one);
+      sizes = t.sizes ∙ i.sizes;
+      reads = λ o front rest records own h block used is.
+          let a = i.reads o front rest records own h block used is in
+          let e : Entry = record { lsn = 512 * c.args.block + c.loop-at.at; rec = c.in-Ok.rec } in
+          let next = next_of_log one_spelled c.args.block c.args.content.now c.args.used c.loop-at.at records a.done a.past front c.in-Ok.rec c.in-Ok.end _ rest before found is in
+          record {
+            done = a.done ++ e ∷ [];
+            past = past_one one_spelled c.args.block c.args.content.now c.args.used c.loop-at.at records a.done a.past c.in-Ok.rec c.in-Ok.end before found;
+            reading = subst (IsReading o c.take_record.new.log c.take_record.new.pages new c.take_record.new.so_far) (append_assoc front a.done (e ∷ []))
+                (t.reads o (front ++ a.done) next.0 own a.reading next.1);
+          };
       part = λ o front rest records own h block used is.
           let a = i.part o front rest records own h block used is in
           let e : Entry = record { lsn = 512 * c.args.block + c.loop-at.at; rec = c.in-Ok.rec } in
@@ -97,3 +112,9 @@ returns-clause-takes g c o front rest records own h block used is =
       keeps = i.keeps o front rest records own h block used is;
       asks = asks_all _ o c.args.pages.now c.loop-at.pages (g.S.Site.state c.args.site.now) (g.S.Site.state c.loop-at.site) a.done (entries_from (512 * c.args.block + 2) records) all a.asked;
     }
+
+pub returns-clause-reads : goal.returns-clause-reads
+returns-clause-reads g c o front rest records own h block used is =
+    let a = c.loop-at.invariant.reads o front rest records own h block used is in
+    let all = past_all one_spelled c.args.block c.args.content.now c.args.used c.loop-at.at records a.done a.past c.loop-at-test.false in
+    subst (λ (l : List Entry). IsReading o c.loop-at.log c.loop-at.pages (g.S.Site.state c.loop-at.site) c.loop-at.so_far (front ++ l)) all a.reading

@@ -5,7 +5,8 @@ use Rattle.log_records.specs.Log.{Entry, log_from, entries_from}
 use Rattle.analysis.specs.Open.{owed_for}
 use Rattle.analysis.specs.Table.{listed}
 use Rattle.analysis.specs.Read as read
-use Rattle.redo_undo.specs.Redoing.{Opening, HasTaken, LeavesOpened}
+use Rattle.redo_undo.specs.Redoing.{Opening, HasTaken, IsReading, LeavesOpened}
+use Rattle.redo_undo.proofs.Judging.{IsPartRead}
 use Rattle.redo_undo.proofs.TakenRecords.{IsPartWay}
 use Rattle.image_meaning.specs.Meaning.{kept_by, saved_by}
 use Rattle.redo_laws.specs.Calls.{Keeps, LogsNothing}
@@ -27,6 +28,9 @@ invariant-loop-at g l =
       owed : owed_for (listed l.so_far.found.table) + l.fn.so_far.records ≤ owed_for (listed l.fn.so_far.found.table) + l.so_far.records;
       part : (o : Opening) (front rest : List Entry) (records : List LogRecord) → l.master ≡ saved_by o.newest → HasTaken o l.fn.log l.fn.pages old l.fn.so_far front → IsBlock l.content records → l.used ≡ used_by records →
           log_from (kept_by o.newest) o.blocks ≡ front ++ (entries_from (512 * l.block + 2) records ++ rest) → IsPartWay o l.log l.fn.pages l.pages old now l.so_far front l.block l.content l.used l.at records;
+      sizes : l.so_far.judge.sizes ≡ l.fn.so_far.judge.sizes;
+      reads : (o : Opening) (front rest : List Entry) (records : List LogRecord) → l.master ≡ saved_by o.newest → IsReading o l.fn.log l.fn.pages old l.fn.so_far front → IsBlock l.content records → l.used ≡ used_by records →
+          log_from (kept_by o.newest) o.blocks ≡ front ++ (entries_from (512 * l.block + 2) records ++ rest) → IsPartRead o l.log l.pages now l.so_far front l.block l.content l.used l.at records;
       keeps : (o : Opening) (front rest : List Entry) (records : List LogRecord) → l.master ≡ saved_by o.newest → HasTaken o l.fn.log l.fn.pages old l.fn.so_far front → IsBlock l.content records → l.used ≡ used_by records →
           log_from (kept_by o.newest) o.blocks ≡ front ++ (entries_from (512 * l.block + 2) records ++ rest) → Keeps {T = Unit {0}} (Ok tt) l.fn.pages.flash.geometry l.fn.log l.log old now (LeavesOpened o old.told) 0 0;
     }

@@ -1,13 +1,11 @@
-use Rattle.std.proofs.Common.{◌≡◌, ◌+◌, ◌-◌, ◌≤◌, min, take, List, length, Ok, Err, refl, sym, ap, subst, ◌∙◌, arith, ℕ}
+use Rattle.std.proofs.Common.{◌≡◌, ◌+◌, ◌-◌, min, take, List, length, sym, subst, arith, ℕ}
 use Rattle.std.specs.Prelude.{Option, Result}
-use Rattle.site.specs.State.{State}
 use Rattle.site.specs.declared.outside.Stop.{Stop}
 use Rattle.record_model.specs.State.{Content}
 use Rattle.log_records.specs.Log.{Entry}
 use Rattle.log_records.specs.Unfinished.{left_open}
-use Rattle.log_laws.specs.Analysis.{Unfinished, IsUnfinished}
+use Rattle.log_laws.specs.Analysis.{Unfinished}
 use Rattle.checkpoint.specs.declared.master.Master.{Master}
-use Rattle.redo_laws.specs.Holding.{Represents}
 use Rattle.redo_laws.specs.UndoWorks.{works_of}
 use Rattle.redo_undo.specs.Mirroring.{clrs_for}
 use Rattle.redo_undo.specs.Rollback.{UndoesLast}

@@ -1,4 +1,4 @@
-use Rattle.std.proofs.Common.{◌≡◌, ◌≢◌, ◌⊎◌, ◌+◌, ◌-◌, ◌≤◌, min, take, suc, subst, inl, inr, ⊎_elim, ◌||◌, ℕ, true, true≢false, List, [], ◌∷◌, ◌++◌, length, Option, append-nil, refl, sym, ap, ◌∙◌, arith, rules}
+use Rattle.std.proofs.Common.{◌≡◌, ◌⊎◌, ◌+◌, ◌-◌, ◌≤◌, min, take, suc, subst, inl, inr, ⊎_elim, ◌||◌, ℕ, true, true≢false, List, ◌∷◌, ◌++◌, length, Option, append-nil, refl, sym, ap, ◌∙◌, arith}
 use Rattle.std.proofs.lemmas.List.Elements.{filter_map-append}
 use Rattle.std.proofs.lemmas.Grind.{flat_map-append}
 use Rattle.log_records.specs.declared.log_record.LogRecord.{LogRecord}
@@ -18,11 +18,10 @@ use Rattle.redo_undo.specs.Mirroring.{clrs_for}
 use Rattle.redo_undo.specs.Undoing.{IsAt}
 use Rattle.redo_undo.proofs.Calling.{works_answered, works_nothing, works_then}
 use Rattle.redo_undo.proofs.Rollbacks.{remains, none_remains}
-use Rattle.redo_undo.proofs.UndoCalls.{undoes_answered, undoes_as, undoes_few, undoes_stopped, undoes_then}
+use Rattle.redo_undo.proofs.UndoCalls.{undoes_as, undoes_few, undoes_stopped, undoes_then}
 use Rattle.redo_undo.proofs.UndoneWork.{clrs_are}
 use Rattle.redo_undo.proofs.UndoSoFar.{UndoesSoFar, goes_on_undoing, left_is, logged_few, logged_none, logged_one, passes_on_undoing, starts_undoing}
 use Rattle.redo_undo.proofs.UpTo.{does_up_to, none_left, none_wanted, own_left, passed_few, reads_few, up_to}
-use Rattle.redo_undo.specs.Undoing.{clrs_logged}
 use Rattle.redo_undo.proofs.undo.undo_updates.Given.{Over}
 use Rattle.redo_undo.proofs.undo.undo_updates.Goals.{After-undo_step}
 use Rattle.redo_undo.proofs.undo.undo_updates.Goals as goal

@@ -1,4 +1,4 @@
-use Rattle.std.proofs.Common.{◌≡◌, ◌<◌, ◌≤◌, ◌+◌, ℕ, List, length, Option}
+use Rattle.std.proofs.Common.{◌<◌, ◌≤◌, ◌+◌, ℕ, List, length, Option}
 use Rattle.record_model.specs.State.{Content}
 use Rattle.log_records.specs.Log.{Entry}
 use Rattle.log_laws.specs.Analysis.{Unfinished, IsUnfinished}

@@ -1,6 +1,6 @@
 use Rattle.std.proofs.lemmas.Option.{none-some}
 use Rattle.redo_undo.proofs.UndoCalls.{undoes_few, undoes_as, undoes_then, undoes_stopped, few_taken}
-use Rattle.std.proofs.Common.{◌≢◌, ◌++◌, [], ◌∷◌, refl, drop, sym, subst, arith, ℕ, append-nil, None, ◌+◌, List, ◌≡◌, ◌∙◌, ap, not, reverse, length, nat_eq, Option, Some}
+use Rattle.std.proofs.Common.{◌≢◌, ◌++◌, [], ◌∷◌, refl, drop, sym, subst, arith, ℕ, append-nil, List, ◌≡◌, ◌∙◌, ap, not, reverse, length, nat_eq, Option, Some}
 use Rattle.analysis.specs.Open.{Open, Replaces, TakesOut, LeavesSame, DropsOne, Remains, owed_for, found_in}
 use Rattle.analysis.specs.Table.{listed}
 use Rattle.redo_laws.specs.UndoingAll.{Remain, HasNone, IsUndoing}

@@ -1,4 +1,4 @@
-use Rattle.std.proofs.Common.{arith, inl, rules, subst, ℕ, List, [], ◌∷◌}
+use Rattle.std.proofs.Common.{arith, inl, inr, rules, subst, ℕ, List, [], ◌∷◌}
 use Rattle.site.specs.declared.geometry.Geometry.{Geometry}
 use Rattle.face.specs.TopCall.{LoadContract, NewContract, RunContract}
 use Rattle.command_line.specs.declared.request.Load.{Load}
@@ -6,10 +6,12 @@ use Rattle.command_line.specs.declared.request.Simulation.{Simulation}
 use Rattle.command_line.specs.declared.request.TrialSizes.{TrialSizes}
 use Rattle.face.specs.Trial.{TrialContract}
 use Rattle.trace_report.specs.Contract.{SimulateContract}
-use Rattle.command_line.specs.Words.{IsLoad, IsNew, IsRight, IsSimulate, IsTrial, words_of, IsRun}
+use Rattle.command_line.specs.Words.{IsArchive, IsLoad, IsNew, IsRight, IsSimulate, IsTrial, words_of, IsRun}
 use Rattle.front_end.proofs.Endings.{only_tells}
-use Rattle.command_line.proofs.WordLaws.{one_geometry, one_load, one_pool, one_simulation, one_trial}
+use Rattle.command_line.proofs.WordLaws.{one_from, one_geometry, one_load, one_pool, one_simulation, one_trial}
 use Rattle.front_end.proofs.Firsts.{first_line}
+use Rattle.archive_report.specs.Contract.{ArchiveContract}
+use Rattle.top_call.proofs.Archived.{first_archived, lacked_archive, not_two}
 use Rattle.top_call.proofs.Simulated.{first_simulated}
 use Rattle.top_call.proofs.top.face.Goals as goal
 
@@ -41,6 +43,34 @@ returns-in-Ok-Trial-clause-trial g c t is_trial =
 
 pub returns-in-Ok-Check-clause-check : goal.returns-in-Ok-Check-clause-check
 returns-in-Ok-Check-clause-check g c is_check = c.serve_check.ensures.check
+
+pub returns-in-Ok-Archive-clause-archive : goal.returns-in-Ok-Archive-clause-archive
+returns-in-Ok-Archive-clause-archive g c from is_archive =
+    let found : IsArchive (words_of c.args.words.now) c.in-Ok-Archive.from = search rules in
+    subst (λ (n : ℕ). ArchiveContract n (g.S.Site.state c.args.site.now) (g.S.Site.state c.archive.new.site) c.archive.result) (one_from (words_of c.args.words.now) _ from found is_archive) c.archive.ensures.archive
+
+pub returns-in-Err-Memory-clause-archive : goal.returns-in-Err-Memory-clause-archive
+returns-in-Err-Memory-clause-archive g c from is_archive = lacked_archive from c.lack_memory.result (g.S.Site.state c.args.site.now) (g.S.Site.state c.lack_memory.new.site) c.lack_memory.ensures.lacks
+
+pub returns-in-Ok-Archive-clause-first : goal.returns-in-Ok-Archive-clause-first
+returns-in-Ok-Archive-clause-first g c =
+    first_archived c.archive.result (g.S.Site.state c.args.site.now) (g.S.Site.state c.archive.new.site) c.archive.ensures.first c.archive.ensures.archive.causes.others
+
+pub returns-in-Ok-Archive-clause-words : goal.returns-in-Ok-Archive-clause-words
+returns-in-Ok-Archive-clause-words g c =
+    let found : IsArchive (words_of c.args.words.now) c.in-Ok-Archive.from = search rules in
+    inr (inl (inr (inr (inr (inr (inr (inr (c.in-Ok-Archive.from, found))))))))
+
+pub returns-in-Ok-Archive-clause-wrong : goal.returns-in-Ok-Archive-clause-wrong
+returns-in-Ok-Archive-clause-wrong g c two right = not_two c.archive.result c.archive.ensures.archive.causes.others two
+
+pub returns-in-Ok-Archive-clause-refused : goal.returns-in-Ok-Archive-clause-refused
+returns-in-Ok-Archive-clause-refused g c two = absurd (not_two c.archive.result c.archive.ensures.archive.causes.others two)
+
+pub returns-in-Err-Words-clause-archive : goal.returns-in-Err-Words-clause-archive
+returns-in-Err-Words-clause-archive g c from is_archive =
+    let never : IsRight (words_of c.args.words.now) → ⊥ = search rules in
+    absurd (never (inr (inr (inr (inr (inr (inr (from, is_archive))))))))
 
 pub returns-in-Err-Words-clause-refused : goal.returns-in-Err-Words-clause-refused
 returns-in-Err-Words-clause-refused g c two = only_tells _ (g.S.Site.state c.args.site.now) (g.S.Site.state c.tell_words.new.site) c.tell_words.result c.tell_words.ensures

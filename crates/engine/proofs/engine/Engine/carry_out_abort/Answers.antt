@@ -2,18 +2,19 @@ use Rattle.engine.specs.LogReads.{undo_reads}
 use Rattle.record_model.specs.State.{Session, writes_of}
 use Rattle.record_model.specs.Touches.{write_touch, CacheOp}
 use Rattle.redo_laws.proofs.Asking.{asks_same, asks_ok, asks_err}
-use Rattle.std.proofs.Common.{refl, sym, arith, ap, Option, Some, List, map, reverse, length}
+use Rattle.std.proofs.Common.{rules, refl, sym, arith, ap, Option, Some, List, map, reverse, length}
 use Rattle.site.proofs.Laws.{stays_honest}
 use Rattle.engine.specs.declared.engine.Engine.{Engine}
 use Rattle.txn_table.proofs.Owing.{owes, entry_is}
-use Rattle.engine.proofs.Actives.{some_active}
+use Rattle.engine.proofs.Actives.{ended_was, some_active}
 use Rattle.engine.proofs.Aborts.{aborted_fits}
 use Rattle.engine.proofs.Undoing.{abort_is}
 use Rattle.engine.proofs.Updated.{updated_count}
 use Rattle.log_records.specs.Log.{entries_of}
 use Rattle.ring_machine.proofs.Performing.{performs_answered, performs_as, performs_failed}
-use Rattle.engine.proofs.Calling.{does_of}
-use Rattle.redo_undo.proofs.StoreCalling.{keeps_answered, keeps_failed}
+use Rattle.engine.proofs.Calling.{does_of, serves_of}
+use Rattle.engine.proofs.FootprintChanges.{locked_ended}
+use Rattle.redo_undo.proofs.StoreCalling.{keeps_answered, keeps_failed, works_answered}
 use Rattle.engine.proofs.engine.Engine.carry_out_abort.Goals as goal
 
 pub roll_back-requires-clause-few : goal.roll_back-requires-clause-few
@@ -40,7 +41,7 @@ returns-in-Ok-clause-does g c s fits =
     let mid : Engine = record engine { store = c.roll_back.new.self } in
     does_of (omega (arith, count, ap (λ (o : Option Session). length (writes_of o)) found.is))
     (aborted_fits engine mid _ _ _ s c.args.entry fits c.requires.going.table c.requires.active (stays_honest _ _ c.roll_back.ensures.works.calls.preserves fits.honest) (c.in-Ok.ensures.undone fits.newest fits.records s.table s.commits fits.holds found.session.writes found.under_way.is_active count)
-    refl c.in-Ok.ensures.works.made c.release.ensures c.remove.ensures.entry c.remove.ensures.owed refl refl refl)
+    refl c.in-Ok.ensures.works.made c.release.ensures c.remove.ensures.entry c.remove.ensures.owed refl refl refl c.requires.going.footprints.eight c.end.ensures.gone)
     (keeps_answered (c.in-Ok.ensures.keeps fits.newest fits.records s.table s.commits fits.holds found.session.writes found.under_way.is_active count (omega (arith, fits.sessions.owes, c.owed.ensures, part))))
 
 pub returns-in-Err-clause-does : goal.returns-in-Err-clause-does
@@ -89,3 +90,24 @@ pub returns-in-Err-clause-performs : goal.returns-in-Err-clause-performs
 returns-in-Err-clause-performs g c s fits =
     let found = some_active fits.newest fits.records c.args.self.now.active s fits.sessions c.args.entry.session c.args.entry c.requires.active in
     performs_failed (performs_as (abort_is c.args.self.now (g.S.Site.state c.args.site.now) s c.args.entry fits c.requires.active) (c.in-Err.ensures.performs fits.newest fits.records s.table s.commits fits.holds found.session.writes found.under_way.is_active))
+
+pub end-requires : goal.end-requires
+end-requires g c = (entry_is c.args.self.now.active c.args.entry.session c.args.entry c.requires.going.table c.requires.active).small
+
+pub returns-in-Ok-clause-serves : goal.returns-in-Ok-clause-serves
+returns-in-Ok-clause-serves g c =
+    let small = (entry_is c.args.self.now.active c.args.entry.session c.args.entry c.requires.going.table c.requires.active).small in
+    serves_of (works_answered c.in-Ok.ensures.works) (record {
+      footprints = locked_ended c.args.self.now.footprints _ c.args.self.now.locks _ c.args.entry.session small c.release.ensures c.end.ensures.gone c.requires.going.footprints;
+      store = search rules;
+      going = search rules;
+      cap = search rules;
+      table = search rules;
+      room = search rules;
+      since = search rules;
+      bounded = search rules;
+      budget = search rules;
+      commits = search rules;
+      lasts = λ m other at. let before = c.requires.going.lasts m other (ended_was _ _ c.args.entry.session c.remove.ensures.entry m other at) in (before.0, omega (arith, before.1, c.in-Ok.ensures.works.rises));
+      differ = λ n m a b at_n at_m. c.requires.going.differ n m a b (ended_was _ _ c.args.entry.session c.remove.ensures.entry n a at_n) (ended_was _ _ c.args.entry.session c.remove.ensures.entry m b at_m);
+    })

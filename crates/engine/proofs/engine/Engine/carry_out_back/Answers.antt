@@ -1,18 +1,18 @@
 use Rattle.engine.specs.LogReads.{back_reads}
 use Rattle.record_model.specs.State.{Session, State, session_at, writes_of}
 use Rattle.record_model.specs.Step.{dropped, going_back}
-use Rattle.record_model.specs.Touches.{CacheOp, takes_back_touches}
+use Rattle.record_model.specs.Touches.{takes_back_touches}
 use Rattle.redo_laws.proofs.Asking.{asks_same, asks_ok, asks_err}
-use Rattle.std.proofs.Common.{◌≡◌, ◌+◌, ◌-◌, ◌≤◌, ℕ, refl, sym, arith, ap, Option, Some, List, drop, take, length, ◌∙◌}
+use Rattle.std.proofs.Common.{◌≡◌, ◌+◌, ◌-◌, ◌≤◌, ℕ, refl, sym, arith, ap, Option, Some, drop, length, ◌∙◌}
 use Rattle.std.specs.Prelude.{option_map}
 use Rattle.std.proofs.lemmas.List.{length-drop}
 use Rattle.site.proofs.Laws.{stays_honest}
 use Rattle.log_records.specs.Log.{entries_of}
 use Rattle.txn_table.specs.Entries.{after_undone}
 use Rattle.txn_table.proofs.Owing.{owes, entry_is}
-use Rattle.engine.specs.declared.engine.Engine.{Engine}
 use Rattle.engine.proofs.Actives.{some_active}
 use Rattle.engine.proofs.Backs.{back_fits, still_going}
+use Rattle.engine.proofs.FootprintChanges.{locked_back}
 use Rattle.engine.proofs.Undoing.{back_is}
 use Rattle.engine.proofs.Updated.{updated_count}
 use Rattle.ring_machine.specs.Commands.{goes_back}
@@ -34,8 +34,8 @@ returns-in-Ok-clause-does g c s fits =
     let found = some_active fits.newest fits.records engine.active s fits.sessions entry.session entry c.requires.active in
     let less : entry.writes - stays ≤ length found.session.writes = omega (arith, found.under_way.count) in
     does_of (omega (arith, ap (λ (o : Option Session). length (dropped (Some stays) o)) found.is, length-drop stays found.session.writes, found.under_way.count))
-    (back_fits engine (record engine { store = c.back.new.self; active = c.undone.new.active }) _ _ s entry stays c.in-Ok.last found.session fits c.requires.going.table c.requires.active found.is found.under_way c.requires.stand (stays_honest _ _ c.back.ensures.works.calls.preserves fits.honest)
-    (c.in-Ok.ensures.undone fits.newest fits.records s.table s.commits fits.holds found.session.writes found.under_way.is_active less) c.in-Ok.ensures.works.made c.undone.ensures.entry c.undone.ensures.owed refl refl refl)
+    (back_fits engine (record engine { store = c.back.new.self; footprints = c.take_back.new.footprints; active = c.undone.new.active }) _ _ s entry stays c.in-Ok.last found.session fits c.requires.going.table c.requires.active found.is found.under_way c.requires.stand (stays_honest _ _ c.back.ensures.works.calls.preserves fits.honest)
+    (c.in-Ok.ensures.undone fits.newest fits.records s.table s.commits fits.holds found.session.writes found.under_way.is_active less) c.in-Ok.ensures.works.made c.undone.ensures.entry c.undone.ensures.owed refl refl refl c.take_back.ensures)
     (keeps_answered (c.in-Ok.ensures.keeps fits.newest fits.records s.table s.commits fits.holds found.session.writes found.under_way.is_active less))
 
 pub returns-in-Err-clause-does : goal.returns-in-Err-clause-does
@@ -106,4 +106,7 @@ returns-in-Ok-clause-serves g c =
     let works = c.in-Ok.ensures.works in
     let before = going.lasts entry.session entry c.requires.active in
     let last = c.in-Ok.ensures.last in
-    serves_of (works_answered works) (still_going entry.session (entry.writes - c.args.stays) entry (after_undone entry (entry.writes - c.args.stays) c.in-Ok.last) going c.requires.active c.undone.ensures.entry c.undone.ensures.table refl refl (omega (arith, before.0, last.0)) last.1 c.undone.ensures.owed works.going works.sizes works.kept works.made works.blocks works.rises refl refl refl)
+    serves_of (works_answered works) (still_going entry.session (entry.writes - c.args.stays) entry (after_undone entry (entry.writes - c.args.stays) c.in-Ok.last) going c.requires.active c.undone.ensures.entry c.undone.ensures.table refl refl (omega (arith, before.0, last.0)) last.1 c.undone.ensures.owed works.going works.sizes works.kept works.made works.blocks works.rises refl refl refl (locked_back c.args.self.now.footprints _ _ _ _ c.take_back.ensures going.footprints))
+
+pub take_back-requires-clause-session : goal.take_back-requires-clause-session
+take_back-requires-clause-session g c = (entry_is c.args.self.now.active c.args.entry.session c.args.entry c.requires.going.table c.requires.active).small

@@ -2,10 +2,13 @@ use Rattle.site.specs.declared.outside.Dev.TheVariants.{Log}
 use Rattle.std.proofs.Common.{◌++◌, ◌∷◌, [], None, refl, arith}
 use Rattle.std.proofs.lemmas.Grind.{common_steps}
 use Rattle.site.proofs.Laws.{stays_honest}
-use Rattle.record_model.specs.State.{wrote_of, reads_of}
+use Rattle.record_model.specs.State.{writes_of, wrote_of, reads_of}
 use Rattle.engine.proofs.Meanings.{begins_late, fresh_behind}
 use Rattle.engine.proofs.Settings.{begin_at, may_begin}
 use Rattle.engine.proofs.Actives.{begun, none_active}
+use Rattle.record_model.specs.Step.{effect}
+use Rattle.record_model.specs.declared.words.Command.TheVariants.{Begin}
+use Rattle.engine.proofs.FootprintChanges.{footprints_stay}
 use Rattle.engine.proofs.Locks.{locks_stay, at_set}
 use Rattle.engine.proofs.Calling.{does_of, serves_of, serves_stopped}
 use Rattle.redo_undo.proofs.StoreCalling.{keeps_failed, keeps_answered, works_answered}
@@ -30,9 +33,10 @@ returns-clause-does g c s fits =
       newest = fits.newest;
       records = fits.records ++ begin_at _ ∷ [];
       holds = c.in-Ok.ensures.holds fits.newest fits.records s.table s.commits fits.holds may;
-      counts = record { commits = fits.counts.commits; made = let before = fits.counts.made in omega (arith, c.in-Ok.ensures.works.made, before); cap = fits.counts.cap };
+      counts = record { commits = fits.counts.commits; made = let before = fits.counts.made in omega (arith, c.in-Ok.ensures.works.made, before); cap = fits.counts.cap; fills = fits.counts.fills };
       sessions = begun fits.newest fits.records engine.active c.add.new.active s _ _ engine.store.made _ fits.sessions small c.requires.may.absent c.add.ensures.entry (omega (arith, c.add.ensures.owed)) fresh late refl refl fits.counts.made refl refl;
       locks_are = locks_stay engine.locks s _ (at_set wrote_of s.sessions _ _ None (omega (arith, small, count)) none refl) (at_set reads_of s.sessions _ _ None (omega (arith, small, count)) none refl) fits.locks_are;
+      footprints_are = footprints_stay engine.footprints s (effect s (Begin c.args.session)) refl (at_set writes_of s.sessions _ _ None (omega (arith, small, count)) none refl) fits.footprints_are;
     })
     (keeps_answered (c.in-Ok.ensures.keeps fits.newest fits.records s.table s.commits fits.holds))
 

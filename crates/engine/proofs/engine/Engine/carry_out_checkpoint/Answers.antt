@@ -60,7 +60,7 @@ returns-in-Ok g c =
           let has = subst (λ (n : ℕ). HasCheckpoint c.checkpoint.new.self new fits.records s.table n c.named-named.result) fits.counts.commits made in
           does_of (omega arith)
           (fits_after engine _ old new s c.unwrap_or-first.result fits c.requires.going.table go (stays_honest old new c.checkpoint.ensures.calls.preserves fits.honest)
-          (subst (HasCheckpoint c.checkpoint.new.self new fits.records s.table s.commits) c.named-named.ensures.named has) c.count_from.ensures.entries c.count_from.ensures.owed c.in-Ok.ensures.made refl refl refl)
+          (subst (HasCheckpoint c.checkpoint.new.self new fits.records s.table s.commits) c.named-named.ensures.named has) c.count_from.ensures.entries c.count_from.ensures.owed c.in-Ok.ensures.made refl refl refl refl)
           (keeps_answered (subst (λ (n : ℕ). Keeps {T = Unit {0}} (Ok c.in-Ok.field-0) engine.store c.checkpoint.new.self old new (LeavesTable (sizes_of engine.store) s.table n old.told) 0 1) fits.counts.commits (c.in-Ok.ensures.keeps fits.newest fits.records s.table holds may)));
       serves =
           record {
@@ -68,7 +68,7 @@ returns-in-Ok g c =
               calls = calls_answered c.in-Ok.ensures.calls;
               going = goes_on engine _ old new c.unwrap_or-first.result c.requires.going go c.in-Ok.ensures.going c.requires.going.going refl c.checkpoint.ensures.sizes c.count_from.ensures.table
                   c.count_from.ensures.entries c.count_from.ensures.owed c.in-Ok.ensures.made c.in-Ok.ensures.blocks c.in-Ok.ensures.kept c.in-Ok.ensures.end
-                  refl;
+                  refl c.requires.going.footprints;
               sizes = c.checkpoint.ensures.sizes;
               stops = tt;
               next = λ honest. next_answered (c.in-Ok.ensures.next honest);

@@ -32,7 +32,7 @@ returns-in-Ok g c =
           does_of (omega arith) (touched_fits c.args.self.now c.touch.new.self _ _ s fits (stays_honest _ _ c.touch.ensures.works.calls.preserves fits.honest) holds c.touch.ensures.made)
           (keeps_answered (c.in-Ok.ensures.keeps fits.newest fits.records s.table s.commits fits.holds));
       serves = record {
-        keeps = serves_still c.requires.going (works_answered c.in-Ok.ensures.works) refl refl refl (omega (arith, c.requires.going.budget)) (omega (arith, c.requires.going.commits, c.in-Ok.ensures.works.rises));
+        keeps = serves_still c.requires.going (works_answered c.in-Ok.ensures.works) refl refl refl (omega (arith, c.requires.going.budget)) (omega (arith, c.requires.going.commits, c.in-Ok.ensures.works.rises)) c.requires.going.footprints;
         log_reads = c.touch.ensures.log_reads;
       };
       asks = asks_ok c.in-Ok.field-0 _ (one_touch (c.args.number / 32)) _ _ _ _ c.in-Ok.ensures.asks;

@@ -7,6 +7,7 @@ use Rattle.record_model.specs.State as model
 use Rattle.engine.specs.declared.engine.Engine.{Engine}
 use Rattle.engine.specs.Invariant.{sizes_of}
 use Rattle.engine.specs.Representation.{Matches}
+use Rattle.engine.proofs.FootprintChanges.{locked_read}
 use Rattle.engine.proofs.Meanings.{busy_read_is, seen_is}
 use Rattle.engine.proofs.Replies.{has}
 use Rattle.engine.proofs.Writes.{read_fits, touched_fits}
@@ -36,7 +37,7 @@ returns-in-Ok-add g c =
           does_of (omega arith) (read_fits mid c.add.new.self _ s c.args.session number own.own fits_mid c.requires.going.table own.is c.in-Ok-add.ensures.ok)
           (keeps_answered (c.in-Ok.ensures.keeps fits.newest fits.records s.table s.commits fits.holds));
       serves = record {
-        keeps = serves_still going (works_answered c.in-Ok.ensures.works) refl refl refl (omega (arith, going.budget)) (omega (arith, going.commits, c.in-Ok.ensures.works.rises));
+        keeps = serves_still going (works_answered c.in-Ok.ensures.works) refl refl refl (omega (arith, going.budget)) (omega (arith, going.commits, c.in-Ok.ensures.works.rises)) (locked_read engine.footprints engine.locks _ n number c.in-Ok-add.ensures.ok going.footprints);
         log_reads = c.touch.ensures.log_reads;
       };
       asks = asks_ok c.in-Ok.field-0 _ (one_touch (c.args.number / 32)) _ _ _ _ c.in-Ok.ensures.asks;

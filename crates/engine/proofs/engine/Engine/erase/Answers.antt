@@ -1,11 +1,10 @@
-use Rattle.std.proofs.Common.{subst, sym, Some, ap, ◌∙◌, refl, arith, ℕ, None}
+use Rattle.std.proofs.Common.{subst, sym, Some, ap, ◌∙◌, refl, ℕ, None}
 use Rattle.engine.specs.Permits.{MayWrite}
 use Rattle.txn_table.specs.Entries.{entry_of}
 use Rattle.txn_table.proofs.Owing.{entry_is}
-use Rattle.engine.proofs.Calling.{answered, written, does_nothing, does_failed, asks_rest, still}
+use Rattle.engine.proofs.Calling.{answered, answered_tested, as_written, contract_ended, does_nothing, asks_rest, still}
 use Rattle.engine.proofs.engine.Engine.erase.Goals as goal
-use Rattle.record_model.specs.State.{seen}
-use Rattle.ring_machine.specs.Commands.{writes}
+use Rattle.engine.specs.PageTests.{work_by, write_by}
 use Rattle.ring_machine.proofs.Performing.{performs_as}
 use Rattle.engine.proofs.Performing.{performs_rest}
 
@@ -25,23 +24,23 @@ returns-in-Some-clause-answers g c s fits =
 
 pub returns-in-Ok-clause-answers : goal.returns-in-Ok-clause-answers
 returns-in-Ok-clause-answers g c s fits =
-    answered (c.in_default.ensures.accepted s (g.S.Site.state c.args.site.now) fits)
-    (written c.args.number (entry_is c.args.self.now.active c.args.session c.entry-entry.result c.requires.going.table c.entry-entry.ensures).session refl (c.in-Ok.ensures.does s fits)) c.in-Ok.ensures.done c.in-Ok.ensures.asks
+    answered_tested (c.in_default.ensures.accepted s (g.S.Site.state c.args.site.now) fits)
+    (as_written {x = None} c.args.number (entry_is c.args.self.now.active c.args.session c.entry-entry.result c.requires.going.table c.entry-entry.ensures).session refl (c.in-Ok.ensures.answers s fits))
 
 pub returns-in-Err-clause-answers : goal.returns-in-Err-clause-answers
 returns-in-Err-clause-answers g c s fits =
-    answered (c.in_default.ensures.accepted s (g.S.Site.state c.args.site.now) fits)
-    (does_failed (omega arith) (written c.args.number (entry_is c.args.self.now.active c.args.session c.entry-entry.result c.requires.going.table c.entry-entry.ensures).session refl (c.in-Err.ensures.does s fits))) tt c.in-Err.ensures.asks
+    answered_tested (c.in_default.ensures.accepted s (g.S.Site.state c.args.site.now) fits)
+    (contract_ended (as_written {x = None} c.args.number (entry_is c.args.self.now.active c.args.session c.entry-entry.result c.requires.going.table c.entry-entry.ensures).session refl (c.in-Err.ensures.answers s fits)))
 
 pub returns-in-Some-clause-performs : goal.returns-in-Some-clause-performs
 returns-in-Some-clause-performs g c s fits = performs_rest (c.in-Some.ensures.refused s (g.S.Site.state c.args.site.now) fits).1.1
 
 pub returns-in-Ok-clause-performs : goal.returns-in-Ok-clause-performs
 returns-in-Ok-clause-performs g c s fits =
-    performs_as ((c.in_default.ensures.accepted s (g.S.Site.state c.args.site.now) fits).1.1 ∙ ap (λ (n : ℕ). writes c.args.number (seen s n c.args.number) None) (sym (entry_is c.args.self.now.active c.args.session c.entry-entry.result c.requires.going.table c.entry-entry.ensures).session))
+    performs_as ((c.in_default.ensures.accepted s (g.S.Site.state c.args.site.now) fits).1.1 ∙ (λ i. work_by s (write_by (sym (entry_is c.args.self.now.active c.args.session c.entry-entry.result c.requires.going.table c.entry-entry.ensures).session i) c.args.number None) None))
     (c.in-Ok.ensures.performs s fits)
 
 pub returns-in-Err-clause-performs : goal.returns-in-Err-clause-performs
 returns-in-Err-clause-performs g c s fits =
-    performs_as ((c.in_default.ensures.accepted s (g.S.Site.state c.args.site.now) fits).1.1 ∙ ap (λ (n : ℕ). writes c.args.number (seen s n c.args.number) None) (sym (entry_is c.args.self.now.active c.args.session c.entry-entry.result c.requires.going.table c.entry-entry.ensures).session))
+    performs_as ((c.in_default.ensures.accepted s (g.S.Site.state c.args.site.now) fits).1.1 ∙ (λ i. work_by s (write_by (sym (entry_is c.args.self.now.active c.args.session c.entry-entry.result c.requires.going.table c.entry-entry.ensures).session i) c.args.number None) None))
     (c.in-Err.ensures.performs s fits)

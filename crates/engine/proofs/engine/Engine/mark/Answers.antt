@@ -1,4 +1,4 @@
-use Rattle.std.proofs.Common.{Some, None, ◌∙◌, sym, ap, subst, refl, arith}
+use Rattle.std.proofs.Common.{Some, ◌∙◌, sym, ap, subst, refl, arith}
 use Rattle.record_model.specs.Step.{Outcome}
 use Rattle.record_model.specs.declared.words.Command.TheVariants.{Mark}
 use Rattle.txn_table.specs.Entries.{ChangesOnly, after_mark, entry_of}
@@ -36,4 +36,4 @@ returns-clause-going c site going =
     let own = (entry_is engine.active c.args.session c.in-Some.entry c.find.ensures.table at).session in
     let there = ap (λ n. entry_of engine.active n) own ∙ at in
     let last = going.lasts c.in-Some.entry.session c.in-Some.entry there in
-    still_going c.in-Some.entry.session 0 c.in-Some.entry (after_mark c.in-Some.entry) going there c.mark.ensures.entry c.mark.ensures.table refl refl last.0 last.1 (omega (arith, c.mark.ensures.owed)) going.store refl refl (omega arith) (omega arith) (omega arith) refl refl refl
+    still_going c.in-Some.entry.session 0 c.in-Some.entry (after_mark c.in-Some.entry) going there c.mark.ensures.entry c.mark.ensures.table refl refl last.0 last.1 (omega (arith, c.mark.ensures.owed)) going.store refl refl (omega arith) (omega arith) (omega arith) refl refl refl going.footprints

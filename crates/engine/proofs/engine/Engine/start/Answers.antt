@@ -3,7 +3,7 @@ use Rattle.std.proofs.Common.{◌∙◌, refl, ap, rules}
 use Rattle.site.proofs.Laws.{stays_honest}
 use Rattle.site.specs.declared.geometry.Geometry.{Geometry}
 use Rattle.redo_laws.proofs.Endings.{ends_failed, ends_answered, ends_no_memory}
-use Rattle.engine.proofs.Starts.{started}
+use Rattle.engine.proofs.Starts.{started, unheld}
 use Rattle.engine.proofs.RestartedUnits.{next_as, next_at_end, next_no_memory}
 use Rattle.engine.proofs.RingCounts.{restart_again, restart_stopped, restart_answered}
 use Rattle.ring_machine.proofs.Performing.{performs_answered, performs_failed, performs_refused}
@@ -15,7 +15,7 @@ returns-clause-opens g c honest k s opening =
     let old = g.S.Site.state c.args.site.now in
     let done = c.in-Ok.ensures.opens honest k opening.newest opening.blocks s.table s.commits opening.sound opening.means in
     let blocks = c.in-Ok.ensures.restarts.blocks ∙ ap (λ (x : Geometry). x.blocks) done.1 in
-    (started k old.image _ s c.in-Ok.restarted _ (stays_honest old _ c.restart.ensures.restarts.calls.preserves honest) opening done.0 blocks refl refl refl (search rules) (search rules), done.1)
+    (started k old.image _ s c.in-Ok.restarted _ (stays_honest old _ c.restart.ensures.restarts.calls.preserves honest) opening done.0 blocks refl refl refl (search rules) (search rules) (search rules), done.1)
 
 pub returns-in-Err-clause-ends : goal.returns-in-Err-clause-ends
 returns-in-Err-clause-ends g c honest k table commits stands = ends_failed (c.in-Err.ensures.ends honest k table commits stands)
@@ -58,3 +58,19 @@ returns-in-Err-new-clause-performs g c honest k newest blocks sound = performs_r
 
 pub returns-clause-performs : goal.returns-clause-performs
 returns-clause-performs g c honest k newest blocks sound = performs_answered (c.in-Ok.ensures.performs honest k newest blocks sound)
+
+pub returns-clause-going : goal.returns-clause-going
+returns-clause-going g c = record {
+  footprints = unheld _ _ (search rules);
+  store = search rules;
+  going = search rules;
+  cap = search rules;
+  table = search rules;
+  room = search rules;
+  since = search rules;
+  bounded = search rules;
+  budget = search rules;
+  commits = search rules;
+  lasts = search rules;
+  differ = search rules;
+}

@@ -1,8 +1,7 @@
 use Rattle.std.proofs.Common.{[], ◌∷◌, Some, rules, refl}
 use Rattle.record_model.specs.declared.words.Command.TheVariants.{Write}
 use Rattle.record_model.specs.Step.{first_refusal, may_write, wants_record, wants_short}
-use Rattle.engine.proofs.NeverFull.{never_full}
-use Rattle.engine.proofs.Replies.{refused, full_refused, carried_out, has_room, has_record, lacks_record, idle_session, is_short, is_long, is_active, may_write_is}
+use Rattle.engine.proofs.Replies.{refused, full_refused, tested_last, has_room, has_record, lacks_record, idle_session, is_short, is_long, is_active, may_write_is}
 use Rattle.engine.proofs.engine.Engine.write_refusal.Goals as goal
 
 pub returns-then-lacks-clause-refused : goal.returns-then-lacks-clause-refused
@@ -37,9 +36,9 @@ pub returns-clause-accepted : goal.returns-clause-accepted
 returns-clause-accepted c s site fits =
     let there = has_record c.args.number fits (search rules) in
     let free = may_write_is (Some c.args.session) c.args.number fits c.write_busy.ensures c.in_default.is in
-    carried_out s (Write c.args.session c.args.number c.args.value.now) refl
+    tested_last s (Write c.args.session c.args.number c.args.value.now) refl
     (λ i. first_refusal ((is_active c.args.session fits (search rules)) i ∷ there i ∷ (is_short c.args.value.now (search rules)) i ∷ free i ∷ []))
-    (has_room 2 fits c.find.ensures.table c.in_default-full.ensures.room) (never_full fits c.args.number c.args.value.now (search rules))
+    (has_room 2 fits c.find.ensures.table c.in_default-full.ensures.room)
 
 pub returns-then-is_none-clause-refused : goal.returns-then-is_none-clause-refused
 returns-then-is_none-clause-refused c s site fits =

@@ -1,5 +1,5 @@
 use Rattle.std.specs.Prelude.{Ok, IsTrue, Option, Result, map, reverse, length}
-use Rattle.std.proofs.Common.{rules, ◌+◌, ◌-◌, take, drop, refl, arith, sym, ℕ, List, ◌≡◌, ◌≤◌}
+use Rattle.std.proofs.Common.{rules, ◌+◌, ◌-◌, take, drop, refl, arith, sym, ℕ, List, ◌≤◌}
 use Rattle.site.specs.declared.outside.Stop.{Stop}
 use Rattle.site.specs.State.{State}
 use Rattle.record_model.specs.Touches.{write_touch}
@@ -16,12 +16,10 @@ use Rattle.redo_laws.specs.MachineSteps.{StepsMachine}
 use Rattle.redo_laws.specs.UndoWorks.{works_of}
 use Rattle.redo_laws.proofs.Asking.{asks_same, asks_err, asks_ok}
 use Rattle.redo_laws.proofs.UndoneWrites.{last_are_undone_by}
-use Rattle.ring_machine.proofs.Performing.{performs_answered, performs_failed}
+use Rattle.ring_machine.proofs.Performing.{performs_answered}
 use Rattle.redo_undo.specs.declared.store.TransactionStore.{TransactionStore}
 use Rattle.redo_undo.specs.Stores.{Represents}
 use Rattle.redo_undo.specs.StoreCalls.{KeepsNext}
-use Rattle.redo_undo.specs.StoreRollback.{GoesBack}
-use Rattle.redo_undo.specs.UndoCalls.{UndoesWork}
 use Rattle.redo_undo.proofs.Calling.{keeps_failed, keeps_answered}
 use Rattle.redo_undo.proofs.MirroringStores.{store_performs, clrs_save_none}
 use Rattle.redo_undo.proofs.NextUnits.{store_next, next_answered}

@@ -26,7 +26,7 @@ use Rattle.log_store.proofs.NextBlocks as blocks
 use Rattle.page_store.proofs.NextUnits.{next_logged}
 use Rattle.redo_undo.specs.StoreCalls.{KeepsNext}
 use Rattle.redo_undo.proofs.NextUnits.{store_next}
-use Rattle.redo_laws.proofs.Committed.{leaves_either, rings_then, sealed_then, commit_holds, before_only, either_after}
+use Rattle.redo_laws.proofs.Committed.{leaves_either, commit_holds, before_only, either_after}
 use Rattle.redo_laws.proofs.Forced.{seals_only}
 use Rattle.redo_laws.proofs.LeftNumbers.{log_skips, log_calls, ready_next, same_at_most}
 use Rattle.redo_laws.proofs.Orderlies.{ends_orderly}
@@ -132,10 +132,7 @@ returns-in-Ok-force-clause-holds g c newest records table commits held may =
     ring_kept log.geometry Masters (changes_if (has_tail log) list) mid.image new.image (seals_only (has_tail log) list) reaches in
     record {
       both = commit_holds log pages mid newest records table commits c.args.txn c.args.number _ m sizes some may log' new changes c.force.ensures.seals.preserves
-          (rings_then log pages mid newest records table commits c.args.txn c.args.number _ m sizes some may new reaches)
-          (sealed_then log pages mid newest records table commits c.args.txn c.args.number _ m sizes some may log' new
-          changes c.force.ensures.seals.geometry finds' c.force.ensures.seals.at_most_one.0)
-          finds' holds next c.force.ensures.seals.kept c.in-Ok-force.ensures.empty c.log_record.ensures.works.log_going.high
+          reaches c.force.ensures.seals.geometry finds' holds next c.force.ensures.seals.kept c.in-Ok-force.ensures.empty c.log_record.ensures.works.log_going.high
           (ap (nat_lt 2) c.in-Ok-force.ensures.empty);
       orderly = ends_orderly k log pages mid newest records table commits (Commit c.args.txn c.args.number) _ (versions_on k old.image)
           m (c.log_record.ensures.pages pages newest records table commits held.both).versions

@@ -1,0 +1,6 @@
+mod LiveBlocks
+mod Told
+mod UpTo
+mod WholeAnswer
+mod Synced
+mod Ending

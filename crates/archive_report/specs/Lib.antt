@@ -1,0 +1,4 @@
+pub mod Archives
+pub mod Halts
+pub mod Telling
+pub mod Contract

@@ -1,0 +1,5 @@
+//! Tests of `archive_report`.
+#![tactic(auto)]
+
+#[cfg(test)]
+mod tests;

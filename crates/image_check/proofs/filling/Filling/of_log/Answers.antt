@@ -1,0 +1,107 @@
+use Rattle.std.proofs.Common.{arith, rules, ◌≡◌, ◌+◌, ◌≤◌, ◌++◌, ◌∷◌, [], ℕ, Ok, Err, true≢false, refl, sym, ◌∙◌, subst}
+use Rattle.std.specs.Prelude.{IfSome, ◌↔◌, IsTrue}
+use Rattle.std.proofs.lemmas.Result.{err_from_is_err_and}
+use Rattle.site.specs.State.{State, Image}
+use Rattle.site.specs.Work.{OnlyReads}
+use Rattle.site.proofs.Working.{looks_then, looks_answered, looks_failed}
+use Rattle.log_records.specs.Log.{Entry, number_of}
+use Rattle.image_meaning.specs.Meaning.{versions_on}
+use Rattle.image_form.specs.Octets.{AreVersions}
+use Rattle.image_form.specs.Verdict.{logical_image_of}
+use Rattle.image_form.specs.Walking.{unread}
+use Rattle.image_check.specs.Filling.{FitsAt, HearsLog, filled}
+use Rattle.image_check.specs.Judging.{reading_of, records_of}
+use Rattle.image_check.proofs.FilledOnes.{below_it, first_room, fits_there, rooms_more, rule_redone}
+use Rattle.image_check.proofs.ShownOnes.{versions_later}
+use Rattle.image_check.proofs.Walking.{in_order, may_later, walk_begins, walk_goes_on, judged_at, judged_end}
+use Rattle.image_check.proofs.filling.Filling.of_log.Goals as goal
+
+pub loop-filling-init : goal.loop-filling-init
+loop-filling-init g c =
+    let geometry = c.args.found.now.log.geometry in
+    let image = (g.S.Site.state c.args.site.now).image in
+    walk_begins c.requires.may c.start-walk.ensures.walk c.start-walk.ensures.first c.start-walk.ensures.stands _ (λ blocks sees finds versions begun left. record {
+      heard = c.new-filling.ensures (records_of c.args.found.now blocks) (versions_on geometry image);
+      rooms = λ lsn. first_room geometry image versions;
+    }) (search rules)
+
+pub hear-requires-clause-may : goal.hear-requires-clause-may
+hear-requires-clause-may g c = may_later c.in_ok-lsn.ensures.reads c.loop-filling.invariant.may
+
+pub loop-filling-preserved : goal.loop-filling-preserved
+loop-filling-preserved g c =
+    let old : State = g.S.Site.state c.args.site.now in
+    let now : State = g.S.Site.state c.loop-filling.site in
+    let mid : State = g.S.Site.state c.next.new.site in
+    let next : State = g.S.Site.state c.hear.new.site in
+    let found = c.args.found.now in
+    let geometry = found.log.geometry in
+    let answer = c.in_ok-lsn.field-0 in
+    let reads = c.loop-filling.invariant.reads in
+    let e : Entry = record { lsn = c.in-Some.lsn; rec = c.in-Some.rec } in
+    let few = subst (λ (n : ℕ). IfSome answer (λ f. n + unread found.log c.next.new.self ≤ now.log_reads + unread found.log c.loop-filling.walk)) (sym c.in-Ok-true.ensures.log) c.in_ok-lsn.ensures.few in
+    walk_goes_on c.loop-filling.invariant answer c.next.new.self c.in_ok-lsn.ensures.next c.in-Some.lsn c.in-Some.rec c.in-Some.is c.in_ok-lsn.ensures.walk
+    (looks_then answer (Ok answer) now mid next c.in_ok-lsn.ensures.reads (looks_answered c.in-Ok-true.field-0 answer mid next c.in-Ok-true.ensures.reads)) few _
+    (λ blocks sees at finds versions begun left.
+    let log = records_of found blocks in
+    let so_far = at.holds finds versions begun left in
+    let to_now : OnlyReads {T = Unit {0}} (Ok tt) old mid = looks_then tt _ old now mid reads (looks_answered answer tt now mid c.in_ok-lsn.ensures.reads) in
+    let same : mid.image ≡ old.image = (to_now.same finds.honest).image in
+    let heard = subst (λ (image : Image). HearsLog log (versions_on geometry image) at.front c.loop-filling.filling → HearsLog log (versions_on geometry image) (at.front ++ e ∷ []) c.hear.new.self
+    × (IsTrue c.in-Ok-true.field-0 ↔ FitsAt (versions_on geometry image) (filled (versions_on geometry image) (at.front ++ e ∷ [])) (number_of e.rec))) same
+    (c.in-Ok-true.ensures.heard log at.front (versions_later to_now finds) (subst (AreVersions geometry) (sym same) versions) (record { back = at.back; is = at.is; from = _; to = _; in_order = in_order sees; begun = begun }) left) so_far.heard in
+    record {
+      heard = heard.0;
+      rooms = rooms_more (versions_on geometry old.image) at.front e (below_it log at.front e at.back _ _ at.is (in_order sees)) so_far.rooms (heard.1.0 c.in-Ok-true.field-0-test);
+    })
+
+pub returns-in-Ok-false : goal.returns-in-Ok-false
+returns-in-Ok-false g c =
+    let old : State = g.S.Site.state c.args.site.now in
+    let now : State = g.S.Site.state c.loop-filling.site in
+    let mid : State = g.S.Site.state c.next.new.site in
+    let next : State = g.S.Site.state c.hear.new.site in
+    let found = c.args.found.now in
+    let geometry = found.log.geometry in
+    let answer = c.in_ok-lsn.field-0 in
+    let reads = c.loop-filling.invariant.reads in
+    let e : Entry = record { lsn = c.in-Some.lsn; rec = c.in-Some.rec } in
+    let ends = c.in_ok-lsn.ensures.ends in
+    let log' = c.in-Ok-false.ensures.log in
+    judged_at c.loop-filling.invariant answer c.next.new.self c.in_ok-lsn.ensures.next c.in-Some.lsn c.in-Some.rec c.in-Some.is (Err c.page_of-place.result) _
+    (looks_then answer (Ok answer) now mid next c.in_ok-lsn.ensures.reads (looks_answered c.in-Ok-false.field-0 answer mid next c.in-Ok-false.ensures.reads)) (omega (arith, ends, log'))
+    (λ blocks sees at finds versions begun left fit.
+    let log = records_of found blocks in
+    let p = logical_image_of (reading_of found blocks) old.image in
+    let so_far = at.holds finds versions begun left in
+    let to_now : OnlyReads {T = Unit {0}} (Ok tt) old mid = looks_then tt _ old now mid reads (looks_answered answer tt now mid c.in_ok-lsn.ensures.reads) in
+    let same : mid.image ≡ old.image = (to_now.same finds.honest).image in
+    let heard = subst (λ (image : Image). HearsLog log (versions_on geometry image) at.front c.loop-filling.filling → HearsLog log (versions_on geometry image) (at.front ++ e ∷ []) c.hear.new.self
+    × (IsTrue c.in-Ok-false.field-0 ↔ FitsAt (versions_on geometry image) (filled (versions_on geometry image) (at.front ++ e ∷ [])) (number_of e.rec))) same
+    (c.in-Ok-false.ensures.heard log at.front (versions_later to_now finds) (subst (AreVersions geometry) (sym same) versions) (record { back = at.back; is = at.is; from = _; to = _; in_order = in_order sees; begun = begun }) left) so_far.heard in (
+      (λ wrong. absurd (true≢false (sym wrong)), λ rule. absurd (true≢false (sym (heard.1.1 (fits_there p _ _ (in_order sees) fit at.front e at.back at.is so_far.rooms rule)) ∙ c.in-Ok-false.field-0-test))),
+      tt,
+    ))
+
+pub returns : goal.returns
+returns g c =
+    judged_end c.loop-filling.invariant c.in_ok-lsn.field-0 c.next.new.self c.in_ok-lsn.ensures.next (Ok c.loop-filling.filling) _ c.in_default.is c.in_ok-lsn.ensures.reads c.in_ok-lsn.ensures.ends (λ blocks sees heard finds versions begun left fit.
+    let p = logical_image_of (reading_of c.args.found.now blocks) (g.S.Site.state c.args.site.now).image in
+    let so_far = heard finds versions begun left in
+    ((λ yes. rule_redone p _ _ (in_order sees) fit so_far.rooms, λ rule. refl), so_far.heard))
+
+pub returns-in-Err : goal.returns-in-Err
+returns-in-Err g c =
+    let now : State = g.S.Site.state c.loop-filling.site in
+    let mid : State = g.S.Site.state c.next.new.site in
+    let next : State = g.S.Site.state c.hear.new.site in
+    let before = c.loop-filling.invariant.few in
+    let ends = c.in_ok-lsn.ensures.ends in
+    let log' = c.in-Err.ensures.log in
+    record { says = tt; reads = looks_then tt _ _ now next c.loop-filling.invariant.reads (looks_then c.in_ok-lsn.field-0 _ now mid next c.in_ok-lsn.ensures.reads (looks_failed c.in-Err.stop mid next c.in-Err.ensures.reads)); few = omega (arith, before, ends, log') }
+
+pub returns-in_err-lsn : goal.returns-in_err-lsn
+returns-in_err-lsn g c =
+    let p = err_from_is_err_and c.from_residual.result c.from_residual.ensures.1 in
+    let now = g.S.Site.state c.loop-filling.site in
+    record { says = search rules; reads = rw (p.1, p.2) (looks_then tt _ _ now _ c.loop-filling.invariant.reads (looks_failed c.in_err-lsn.field-0.0 now _ c.in_err-lsn.ensures.reads)); few = let before = c.loop-filling.invariant.few in let ends = c.in_err-lsn.ensures.ends in omega (arith, before, ends) }

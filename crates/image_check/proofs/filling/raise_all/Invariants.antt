@@ -1,0 +1,30 @@
+use Rattle.std.proofs.Common.{◌≡◌, ◌++◌, ◌≤◌, List, length, take, reverse}
+use Rattle.std.specs.Prelude.{Ok}
+use Rattle.site.specs.Work.{OnlyReads}
+use Rattle.log_records.specs.declared.log_record.LogRecord.{LogRecord}
+use Rattle.log_records.specs.Log.{Entry}
+use Rattle.image_meaning.specs.Meaning.{versions_on}
+use Rattle.image_form.specs.Octets.{AreVersions}
+use Rattle.image_check.specs.Filling.{AreKept, HaveRoom, opened}
+use Rattle.image_check.specs.Judging.{MayBeJudged}
+use Rattle.image_check.specs.Showing.{FindsVersions}
+use Rattle.image_check.proofs.FilledOnes.{Leaving}
+use Rattle.image_check.proofs.filling.raise_all.Given as goal
+
+abbrev pub invariant-loop-left : goal.invariant-loop-left
+invariant-loop-left g l =
+    let old = g.S.Site.state l.fn.site in
+    let now = g.S.Site.state l.site in
+    let geometry = l.found.log.geometry in
+    record {
+      may : MayBeJudged l.found now;
+      leaving : (log : List Entry) (before : List LogRecord) → FindsVersions l.found l.frames old → AreVersions geometry old.image → AreKept (versions_on geometry old.image) (opened log (versions_on geometry old.image) before) l.fn.lengths.pages →
+          HaveRoom (versions_on geometry old.image) (opened log (versions_on geometry old.image) before) →
+          Leaving log (versions_on geometry old.image) (before ++ reverse l.updates) (reverse (take l.left l.updates)) l.lengths.pages;
+      few : l.left ≤ length l.updates;
+      log : now.log_reads ≡ old.log_reads;
+      reads : OnlyReads {T = Unit {0}} (Ok tt) old now;
+    }
+
+abbrev pub decreases-loop-left : goal.decreases-loop-left
+decreases-loop-left g l = l.left

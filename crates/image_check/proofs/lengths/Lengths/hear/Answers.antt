@@ -1,0 +1,39 @@
+use Rattle.std.proofs.Common.{rules, ◌≡◌, ◌%◌, ◌/◌, ◌++◌, ◌∷◌, [], ℕ, Some, None, cond, length, refl, sym, ap, ◌∙◌, subst, slice_set}
+use Rattle.std.specs.Prelude.{nat_lt}
+use Rattle.log_records.specs.Log.{Entry, number_of}
+use Rattle.image_meaning.specs.Meaning.{versions_on}
+use Rattle.image_form.proofs.FirstRule.{answers_as}
+use Rattle.image_check.specs.declared.lengths.PageLengths.{PageLengths}
+use Rattle.image_check.specs.Filling.{AreOn, KnownOn, filled}
+use Rattle.image_check.proofs.FilledOnes.{after_on, filled_off, fills_on, fills_none, fills_past, off_number}
+use Rattle.image_check.proofs.lengths.Lengths.hear.Goals as goal
+
+pub returns-in_default-clause-heard : goal.returns-in_default-clause-heard
+returns-in_default-clause-heard g c records finds versions kept =
+    let pages = versions_on c.args.found.now.log.geometry (g.S.Site.state c.args.site.now).image in
+    let e : Entry = record { lsn = c.args.lsn; rec = c.args.rec.now } in
+    let none : number_of c.args.rec.now ≡ None = sym c.number_of.ensures ∙ c.in_default.is in
+    fills_none pages (filled pages records) _ (number_of c.args.rec.now) c.args.self.now.pages none (λ m off. filled_off pages records e m off) kept
+
+pub returns-in-Ok-None-clause-heard : goal.returns-in-Ok-None-clause-heard
+returns-in-Ok-None-clause-heard g c records finds versions kept =
+    let pages = versions_on c.args.found.now.log.geometry (g.S.Site.state c.args.site.now).image in
+    let e : Entry = record { lsn = c.args.lsn; rec = c.args.rec.now } in
+    let on : number_of c.args.rec.now ≡ Some c.in-Some.number = sym c.number_of.ensures ∙ c.in-Some.is in
+    let past = subst (KnownOn pages (filled pages records) (c.in-Some.number / 32)) c.in-Ok-None.field-0-is (c.in-Ok-None.ensures.lengths (filled pages records) finds versions kept) in
+    fills_past pages (filled pages records) _ (number_of c.args.rec.now) c.in-Some.number c.args.self.now.pages on past (λ m off. filled_off pages records e m off) kept
+
+pub returns-clause-heard : goal.returns-clause-heard
+returns-clause-heard g c records finds versions kept =
+    let pages = versions_on c.args.found.now.log.geometry (g.S.Site.state c.args.site.now).image in
+    let e : Entry = record { lsn = c.args.lsn; rec = c.args.rec.now } in
+    let on : PageLengths = c.in-Ok-Some.lengths in
+    let n : ℕ = c.in-Some.number in
+    let is : number_of c.args.rec.now ≡ Some n = sym c.number_of.ensures ∙ c.in-Some.is in
+    let known = subst (KnownOn pages (filled pages records) (n / 32)) c.in-Ok-Some.field-0-is (c.in-Ok-Some.ensures.lengths (filled pages records) finds versions kept) in
+    let size : length on.lengths ≡ 32 = search rules in
+    let now : c.after-after.result ≡ cond (nat_lt on.lsn c.args.lsn) (record { lsn = on.lsn; lengths = slice_set on.lengths (n % 32) c.length_after.result }) on = c.after-after.ensures in
+    let same = subst (λ (k : ℕ). c.after-after.result ≡ cond (nat_lt on.lsn c.args.lsn) (record { lsn = on.lsn; lengths = slice_set on.lengths (n % 32) k }) on) c.length_after.ensures now in
+    let after = subst (AreOn pages (filled pages (records ++ e ∷ [])) (n / 32)) (sym same) (after_on pages records e (n / 32) n on is refl size known.1) in
+    answers_as c.put.result _ _ (λ fits says. fills_on pages (filled pages (records ++ e ∷ [])) (number_of c.args.rec.now) n c.put.new.self.pages fits is known.0 (says pages (filled pages records) (filled pages (records ++ e ∷ [])) kept after
+    (λ m other. filled_off pages records e m (off_number (number_of c.args.rec.now) m n is (λ here. other (ap (λ (k : ℕ). k / 32) here)))))) c.put.ensures.done

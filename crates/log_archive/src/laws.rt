@@ -1,0 +1,19 @@
+// Laws on streams of blocks. They do nothing when called.
+ghost use Rattle.log_archive.specs.Laws.{ArchivesJoin, FollowersAreAccepted};
+ghost use Rattle.log_archive.specs.Rows.{OfThreeBlocks, OfWrongBlocks};
+
+/// Law: of streams by hand, which are accepted, and which tables they lead to.
+pub fn streams_by_hand()
+    ensures follow { OfThreeBlocks }
+    ensures wrong { OfWrongBlocks }
+{}
+
+/// Law: archives one behind the other are one, where the second goes on from the stream behind the first.
+pub fn archives_join()
+    ensures { ArchivesJoin }
+{}
+
+/// Law: blocks whose records follow are accepted as they are told, with their end line.
+pub fn followers_are_accepted()
+    ensures { FollowersAreAccepted }
+{}

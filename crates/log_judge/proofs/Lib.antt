@@ -1,0 +1,8 @@
+pub mod Outcomes
+pub mod OpenOnes
+pub mod LeftOnes
+pub mod Numbering
+pub mod ChainOnes
+pub mod ChainSteps
+pub mod Judged
+pub mod Sound

@@ -1,0 +1,23 @@
+use Rattle.std.proofs.Common.{◌∷◌, ◌++◌, [], ◌==◌, false, cond, None, nat_eq, sym, ap, subst, ◌∙◌}
+use Rattle.indexmap.specs.IndexMap.{get}
+use Rattle.indexmap.specs.IndexSet.{contains}
+use Rattle.log_records.specs.declared.log_record.LogRecord.{LogRecord}
+use Rattle.log_judge.specs.Chaining.{AreChains}
+use Rattle.log_judge.proofs.OpenOnes.{begin_only}
+use Rattle.log_judge.proofs.ChainSteps.{chains_closed}
+use Rattle.log_judge.proofs.Outcomes.{goes_well, memory_as}
+use Rattle.log_judge.proofs.chains.Chains.hear.Goals as goal
+
+pub returns-then-begins : goal.returns-then-begins
+returns-then-begins c = memory_as c.begin.result (λ x begun records fresh is.
+    subst (λ (r : LogRecord). AreChains (records ++ record { lsn = c.args.lsn; rec = r } ∷ []) c.begin.new.self) (sym (begin_only c.args.rec.now (sym c.begins.ensures ∙ c.if-begins.true)))
+    (begun records fresh is)) c.begin.ensures
+
+pub returns-then-closes : goal.returns-then-closes
+returns-then-closes c = goes_well (λ records fresh is.
+    chains_closed records (record { lsn = c.args.lsn; rec = c.args.rec.now }) c.args.self.now c.close.new.self (sym c.closes.ensures ∙ c.if-closes.true)
+    (λ t. c.close.ensures.chains t ∙ ap (λ n. cond (n == t) None (get nat_eq c.args.self.now.chains t)) c.txn_of-txn.ensures)
+    (λ t. c.close.ensures.broken t ∙ ap (λ n. cond (n == t) false (contains nat_eq c.args.self.now.broken t)) c.txn_of-txn.ensures) is)
+
+pub returns : goal.returns
+returns c = memory_as c.go_on.result (λ x went records fresh is. went records c.txn_of-txn.ensures (sym c.begins.ensures ∙ c.if-begins.false) (sym c.closes.ensures ∙ c.if-closes.false) is) c.go_on.ensures

@@ -1,0 +1,28 @@
+use Rattle.std.proofs.Common.{◌≡◌, ◌*◌, ◌≤◌, ◌==◌, true, false, cond, ℕ, nat_le, nat_eq, sym, ap, ◌∙◌, arith}
+use Rattle.std.proofs.lemmas.Bool.Decides.{nat_tests}
+use Rattle.indexmap.specs.IndexSet.{contains}
+use Rattle.log_records.specs.Log.{Entry, is_closing}
+use Rattle.log_records.specs.Unfinished.{is_begin}
+use Rattle.log_judge.proofs.Outcomes.{goes_well, memory_as}
+use Rattle.log_judge.proofs.OpenOnes.{open_more, open_without, begins_go_on}
+use Rattle.log_records.proofs.Entries.{closing_is_no_begin}
+use Rattle.log_judge.proofs.txns.OpenTxns.hear.Goals as goal
+
+pub returns-then-closes : goal.returns-then-closes
+returns-then-closes c =
+    let old = c.args.self.now.txns in
+    let closing : is_closing c.args.rec.now ≡ true = sym c.closes.ensures ∙ c.if-closes.true in
+    goes_well (λ m records redo is fresh.
+    let e : Entry = record { lsn = c.args.lsn; rec = c.args.rec.now } in
+    open_without m records e old c.close.new.self.txns closing (closing_is_no_begin c.args.rec.now closing)
+    (λ t. c.close.ensures t ∙ ap (λ (n : ℕ). cond (n == t) false (contains nat_eq old t)) c.txn_of.ensures) is)
+
+pub returns : goal.returns
+returns c =
+    let begins : is_begin c.args.rec.now ≡ true = sym c.begins.ensures ∙ c.if-not-begins.false in
+    let behind = c.if-lsn-redo.false in
+    memory_as c.begin.result (λ x pushed m records redo is fresh.
+    let e : Entry = record { lsn = c.args.lsn; rec = c.args.rec.now } in
+    let after : 512 * m.redo ≤ c.args.lsn = omega (arith, behind, redo) in
+    let late : nat_le (512 * m.redo) c.args.lsn ≡ true = grind (arith, nat_tests, after) in
+    open_more m records e c.args.self.now.txns c.begin.new.self.txns (begins_go_on c.args.rec.now begins) begins late fresh pushed is) c.begin.ensures

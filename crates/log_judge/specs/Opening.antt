@@ -1,0 +1,15 @@
+-- The open transactions, record by record.
+use Rattle.std.specs.Prelude.{◌≡◌, ℕ, ◌≤◌, nat_eq, not, ◌&&◌, List}
+use Rattle.indexmap.specs.IndexSet.{IndexSet, contains}
+use Rattle.log_records.specs.Log.{Entry, txn_of, is_closed}
+use Rattle.log_records.specs.Sound.{Master, IsOfOpenTransaction, is_known, from_block}
+
+-- these are the transactions that are known from the redo block on and that none of these records closes
+pub record AreOpen {S : Type 0} (m : Master) (records : List Entry) (txns : IndexSet ℕ S) : Type 0 where
+  pub are : (t : ℕ) → contains nat_eq txns t ≡
+      (is_known m.active (from_block m.redo records) t && not (is_closed records t))
+
+-- what the third rule says of a record behind these
+pub record MayStand (m : Master) (earlier : List Entry) (e : Entry) : Type 0 where
+  pub begun : txn_of e ≤ e.lsn
+  pub of_open : IsOfOpenTransaction m earlier e
