@@ -63,6 +63,11 @@ class File:
             names |= set(re.findall(r"(?m)^\s*(?:\|\s*)?(?:pub\s+)?([^\s:({|]+)", constructors))
         return names
 
+    @property
+    def handed_on(self):
+        """The names that it hands on, each as a module and a name, from where and as what."""
+        return [((self.module, here), (module, of)) for _, module, group, on in self.imports if on for of, here in group]
+
     @functools.cached_property
     def words(self):
         found, name, in_module = collections.defaultdict(set), None, False
@@ -79,8 +84,8 @@ class File:
         return set(self.words) - NO_NAMES
 
     def cites(self, files):
-        """What it cites, each as a module and a name."""
-        found = {(module, of) for _, module, group, handed_on in self.imports if handed_on for of, _ in group}
+        """What it cites, each as a module and a name. What it hands on it cites where another file takes it from here: `handed_on`."""
+        found = set()
         taken = {here: (module, of) for _, module, group, _ in self.imports for of, here in group}
         whole = {module for _, module, group, _ in self.imports if not group} & set(files)
         for name, words in self.words.items():

@@ -1,5 +1,5 @@
 -- A line is carried out: a command of the database, one that asks for nothing, and one whose reply is told.
-use Rattle.face.proofs.Names.{◌≡◌, inl, inr, ⊎_elim, ℕ, ◌+◌, ◌++◌, ◌≤◌, true, false, List, [], IsTrue, IfErr, OnOk, IsErrOf, refl, sym, ◌∙◌, ap, subst, arith, ◌≢◌, Result, Ok, Err, Some, None, ⊤, Dev, Log, Failed, Stop, Device, Memory, Worn, Foreign, Geometry, Rose, faults_in, with_output_fault, Site, Image, Moment, Snapshot, IsQuiet, EachMoment, LeavesOnly, each_both, each_weaker, goes_in_sequence, goes_nowhere, holds_now, in_sequence, leaves_weaker, rose_since, stays_honest, TellsPart, CacheLine, Command, Cache, Mark, Quit, Stat, Listing, Reply, State, Outcome, is_accepted, is_page_full, Line, is_cache, CacheOp, line_touches, MirrorsStore, AreNext, TransactionStore, Performs, line_work, performs_answered, performs_as, cache_of, rules, Engine, Matches, Invariant, sizes_of, LeavesEither, LeavesTable, listing_of, CallsForUnits, reply_lines, reply_text, Halt, RunFaults, hands_as, CarriesOut, CarriesUntold, DoesLine, HandsReply, TellsAnswer, AnswerFailsBy, IsAsked, StandsFor, line_checkpoints, line_log_reads, step, LeavesAnswer}
+use Rattle.face.proofs.Names.{◌≡◌, inl, inr, ⊎_elim, ℕ, ◌+◌, ◌++◌, ◌≤◌, true, false, List, [], IsTrue, IfErr, OnOk, IsErrOf, refl, sym, ◌∙◌, ap, subst, arith, ◌≢◌, Result, Ok, Err, Some, None, ⊤, Dev, Log, Failed, Stop, Device, Memory, Worn, Foreign, Geometry, Rose, faults_in, with_output_fault, Site, Image, Moment, Snapshot, IsQuiet, EachMoment, LeavesOnly, each_both, each_weaker, goes_in_sequence, goes_nowhere, holds_now, in_sequence, leaves_weaker, rose_since, stays_honest, TellsPart, CacheLine, Command, Cache, Mark, Quit, Stat, Listing, Reply, State, Outcome, Line, is_cache, CacheOp, line_touches, MirrorsStore, AreNext, TransactionStore, Performs, line_work, performs_answered, performs_as, cache_of, rules, Engine, Matches, Invariant, sizes_of, LeavesEither, LeavesTable, listing_of, CallsForUnits, reply_lines, reply_text, Halt, RunFaults, hands_as, CarriesOut, CarriesUntold, DoesLine, HandsReply, TellsAnswer, AnswerFailsBy, IsAsked, StandsFor, line_checkpoints, line_log_reads, step, LeavesAnswer}
 use Rattle.std.proofs.Common.{IfOk}
 use Rattle.site.specs.Faults.{WorkFaults}
 use Rattle.site.proofs.Laws.{stays_quiet}
@@ -120,12 +120,7 @@ pub record IsIdle (line : Line) : Type 0 where
   pub made : (s : State) → s.made ≤ (step s line []).after.made
 
 pub mark_idles : (n : ℕ) → IsIdle (Some (Mark n))
-mark_idles n = record {
-  touches = λ s. neither (is_accepted s (Mark n)) (is_page_full s (Mark n));
-  work = mark_work n;
-  checkpoints = λ s. refl;
-  made = λ s. run_makes s (Mark n);
-}
+mark_idles n = grind (arith, neither, mark_work, run_makes)
 
 module _ (line : Line) (idle : IsIdle line) (old new : Engine) (site : Site) (same : new.store ≡ old.store) (going : Invariant old site) (goes : Invariant new site) (fits_after : (s : State) → Matches old site s → Matches new site (step s line []).after) where
   does_nothing : {T : Type 0} (h : Result T Halt) → ((dev : Dev) → IsErrOf h (halt.Stop (Worn dev)) → ⊥) → (s : State) → Matches old site s → DoesLine h s line old new site site
@@ -194,10 +189,7 @@ pub record IsStill (line : Line) : Type 0 where
   pub idle : IsIdle line
 
 stays_still : (line : Line) → ((s : State) → (step s line []).after ≡ s) → ((s : State) → line_touches s line ≡ []) → ((s : State) → line_work s line ≡ []) → ((s : State) → line_checkpoints s line ≡ 0) → IsStill line
-stays_still line after touches work checkpoints = record {
-  after = after;
-  idle = record { touches = touches; work = work; checkpoints = checkpoints; made = λ s. let is = ap (λ (a : State). a.made) (after s) in omega (arith, is) };
-}
+stays_still line after touches work checkpoints = grind arith
 
 pub none_idles : IsStill None
 none_idles = stays_still None (λ s. refl) (λ s. refl) (λ s. refl) (λ s. refl)
@@ -219,8 +211,7 @@ carries_idle line other is idles result engine site going stops reply =
 
 -- the listing of the cache, which may want memory
 pub listing_is : (line : Line) → is_cache line ≡ true → (result : Result Reply Stop) (engine : Engine) (s : State) (listing : List CacheLine) → IsAsked line (listing_of engine) listing → IfOk result (λ reply. reply ≡ Listing (listing_of engine)) → IfOk (halted result) (λ reply. reply ≡ (step s line listing).reply)
-listing_is line asks (Ok x) engine s listing asked is = is ∙ ap Listing (sym (asked asks)) ∙ sym (ap (λ (l : Line). (step s l listing).reply) (cache_line line asks))
-listing_is line asks (Err stop) engine s listing asked is = tt
+listing_is line asks x2 engine s listing asked is = grind (arith, cache_line)
 
 -- What it answers is told.
 

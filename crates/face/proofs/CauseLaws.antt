@@ -1,5 +1,5 @@
 -- When each status comes.
-use Rattle.face.proofs.Names.{◌≡◌, inl, inr, ◌⊎◌, IsTrue, ℕ, length, refl, sym, ap, subst, arith, Dev, Log, Flash, Disk, Device, Memory, Worn, Foreign, Input, faults_of, Preserves, rose_then, SameDevices, IsWorn, IsLogWorn, IsSpent, Halt, status_of, HasCause, HasCauses}
+use Rattle.face.proofs.Names.{◌≡◌, inl, inr, ◌⊎◌, IsTrue, ℕ, length, sym, ap, subst, arith, Dev, Log, Flash, Disk, Device, Memory, Worn, Foreign, Input, faults_of, Preserves, rose_then, SameDevices, IsWorn, IsLogWorn, IsSpent, Halt, status_of, HasCause, HasCauses}
 use Rattle.site.specs.State.{State}
 use Rattle.front_end.specs.declared.halt.Halt.TheVariants as halt
 use Rattle.face.specs.Causes.{IsWornOut}
@@ -26,13 +26,13 @@ worn_causes Disk a b cause = absurd cause
 
 -- by the status
 pub status_causes : (h : Halt) (status : ℕ) (a b : State) → status ≡ status_of h → HasCause h a b → HasCauses status a b
-status_causes (halt.Stop (Device dev)) status a b is cause = record { device = λ e. (dev, cause); input = λ e. absurd (omega (arith, is, e)); output = λ e. absurd (omega (arith, is, e)); limit = λ e. absurd (omega (arith, is, e)); worn = λ e. absurd (omega (arith, is, e)); foreign = λ e. absurd (omega (arith, is, e)); others = inr (inl is) }
-status_causes (halt.Stop Memory) status a b is cause = record { device = λ e. absurd (omega (arith, is, e)); input = λ e. absurd (omega (arith, is, e)); output = λ e. absurd (omega (arith, is, e)); limit = λ e. absurd (omega (arith, is, e)); worn = λ e. absurd (omega (arith, is, e)); foreign = λ e. absurd (omega (arith, is, e)); others = inr (inr (inl is)) }
-status_causes (halt.Stop (Worn dev)) status a b is cause = record { device = λ e. absurd (omega (arith, is, e)); input = λ e. absurd (omega (arith, is, e)); output = λ e. absurd (omega (arith, is, e)); limit = λ e. absurd (omega (arith, is, e)); worn = λ e. worn_causes dev a b cause; foreign = λ e. absurd (omega (arith, is, e)); others = inr (inr (inr (inr (inr (inr (inl is)))))) }
-status_causes (halt.Stop Foreign) status a b is cause = record { device = λ e. absurd (omega (arith, is, e)); input = λ e. absurd (omega (arith, is, e)); output = λ e. absurd (omega (arith, is, e)); limit = λ e. absurd (omega (arith, is, e)); worn = λ e. absurd (omega (arith, is, e)); foreign = λ e. cause; others = inr (inr (inr (inr (inr (inr (inr is)))))) }
-status_causes halt.Input status a b is cause = record { device = λ e. absurd (omega (arith, is, e)); input = λ e. cause; output = λ e. absurd (omega (arith, is, e)); limit = λ e. absurd (omega (arith, is, e)); worn = λ e. absurd (omega (arith, is, e)); foreign = λ e. absurd (omega (arith, is, e)); others = inr (inr (inr (inl is))) }
-status_causes halt.Output status a b is cause = record { device = λ e. absurd (omega (arith, is, e)); input = λ e. absurd (omega (arith, is, e)); output = λ e. cause; limit = λ e. absurd (omega (arith, is, e)); worn = λ e. absurd (omega (arith, is, e)); foreign = λ e. absurd (omega (arith, is, e)); others = inr (inr (inr (inr (inl is)))) }
-status_causes halt.Limit status a b is cause = record { device = λ e. absurd (omega (arith, is, e)); input = λ e. absurd (omega (arith, is, e)); output = λ e. absurd (omega (arith, is, e)); limit = λ e. cause; worn = λ e. absurd (omega (arith, is, e)); foreign = λ e. absurd (omega (arith, is, e)); others = inr (inr (inr (inr (inr (inl is))))) }
+status_causes (halt.Stop (Device dev)) status a b is cause = grind arith
+status_causes (halt.Stop Memory) status a b is cause = grind arith
+status_causes (halt.Stop (Worn dev)) status a b is cause = grind (arith, worn_causes)
+status_causes (halt.Stop Foreign) status a b is cause = grind arith
+status_causes halt.Input status a b is cause = grind arith
+status_causes halt.Output status a b is cause = grind arith
+status_causes halt.Limit status a b is cause = grind arith
 
 pub no_causes : (a b : State) → HasCauses 0 a b
-no_causes a b = record { device = λ e. absurd (omega (arith, e)); input = λ e. absurd (omega (arith, e)); output = λ e. absurd (omega (arith, e)); limit = λ e. absurd (omega (arith, e)); worn = λ e. absurd (omega (arith, e)); foreign = λ e. absurd (omega (arith, e)); others = inl refl }
+no_causes a b = grind arith

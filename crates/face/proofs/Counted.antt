@@ -1,5 +1,6 @@
 -- How many numbers a run gives to the rings on the log's device, line by line.
-use Rattle.face.proofs.Names.{◌≡◌, ℕ, suc, ◌+◌, ◌≤◌, Bool, true, false, List, [], ◌∷◌, drop, refl, sym, ◌∙◌, ap, subst, arith, Result, Ok, Err, OnOk, Some, None, if◌then◌else◌, Geometry, Stop, Site, Image, IsQuiet, holds_now, in_sequence, unchanged, ok_as, EachMoment, Leaves, LeavesOnly, TellsPart, hi_of, CallsForUnits, master_shape, calls_then, CacheLine, State, Line, Turn, is_quit, later_listings, next_listing, turn, turns, Entry, LogStore, HasNumbers, TransactionStore, Engine, Matches, Invariant, sizes_of, log_under, up_to_quit, GivesNumbers, SkipsNoNumber, made_by, Run, after_lines, answered, checkpoints_of, first_lines, line_checkpoints, listing_at, state_at, step, turns_of, checkpoints_in, makes_one}
+use Rattle.std.proofs.lemmas.Grind.{common_steps}
+use Rattle.face.proofs.Names.{◌≡◌, ℕ, suc, ◌+◌, ◌≤◌, List, [], ◌∷◌, drop, refl, sym, ◌∙◌, ap, subst, arith, Result, Ok, Err, OnOk, Some, None, if◌then◌else◌, Geometry, Stop, Site, Image, IsQuiet, holds_now, in_sequence, unchanged, ok_as, EachMoment, Leaves, LeavesOnly, TellsPart, hi_of, CallsForUnits, master_shape, calls_then, CacheLine, State, Line, later_listings, next_listing, turns, Entry, LogStore, HasNumbers, TransactionStore, Engine, Matches, Invariant, sizes_of, log_under, up_to_quit, GivesNumbers, SkipsNoNumber, made_by, Run, after_lines, answered, checkpoints_of, first_lines, line_checkpoints, listing_at, state_at, step, turns_of, checkpoints_in, makes_one}
 use Rattle.std_lemmas.proofs.Results.{on_ok}
 use Rattle.record_model.specs.declared.words.Reply.TheVariants as reply
 use Rattle.redo_laws.specs.Holding.{blocks_to}
@@ -20,11 +21,7 @@ use Rattle.engine.proofs.RingCounts.{count_nothing}
 
 -- a call that was Ok, and another answer of its caller
 pub counts_as : {A B E F : Type 0} (x : A) (r : Result B F) (old new : Engine) (before now : Site) (s after : State) (n : ℕ) → CountsOn {T = A} {E = E} (Ok x) old new before now s after n → CountsOn r old new before now s after n
-counts_as x r old new before now s after n c = record {
-  records = c.records;
-  made = c.made;
-  skips = record { log = on_ok r _ c.log; any_moment = c.any_moment; device_calls = on_ok r _ c.device_calls };
-}
+counts_as x r old new before now s after n c = grind (arith, on_ok)
 
 -- behind which something is told
 pub counts_told : {A B E F : Type 0} (x : A) (r : Result B F) (old new : Engine) (piece : List ℕ) (before mid now : Site) (s after : State) (n : ℕ) → EachMoment mid now (TellsPart piece mid) → OnOk r (CallsForUnits (sizes_of old.store) mid now) → CountsOn {T = A} {E = E} (Ok x) old new before mid s after n →
@@ -41,11 +38,7 @@ counts_told x r old new piece before mid now s after n tells calls c = record {
 
 -- the error of a call is one of its caller
 pub counts_err : {A B E F : Type 0} (e : E) (f : F) (old new : Engine) (before now : Site) (s after : State) (n : ℕ) → CountsOn {T = A} {E = E} (Err e) old new before now s after n → CountsOn {T = B} {E = F} (Err f) old new before now s after n
-counts_err e f old new before now s after n c = record {
-  records = c.records;
-  made = c.made;
-  skips = record { log = tt; any_moment = c.any_moment; device_calls = tt };
-}
+counts_err e f old new before now s after n c = grind arith
 
 -- a line that asks for no call, and leaves log and pages as they are
 pub counts_idle : {T F : Type 0} (r : Result T F) (line : Line) (old new : Engine) (site : Site) (s : State) → new.store ≡ old.store → Matches old site s → Invariant old site → IsQuiet site → s.made ≤ (step s line []).after.made → line_checkpoints s line ≡ 0 →
@@ -73,18 +66,8 @@ one_makes s None = refl
 one_makes s (Some command) = refl
 
 pub turns_make : (s : State) (lines : List Line) (listings : List (List CacheLine)) → checkpoints_in (turns s lines listings) ≡ checkpoints_of s (up_to_quit lines)
-turns_make s [] listings = refl
-turns_make s (line ∷ lines) listings =
-    let more : List Turn = if is_quit line then [] else turns (step s line (next_listing listings)).after lines (later_listings line listings) in
-    let one : checkpoints_in (turn s line (next_listing listings) ∷ []) ≡ line_checkpoints s line = count_one (λ t. makes_one t.before t.line) (turn s line (next_listing listings)) ∙ one_makes s line in
-    let rest : checkpoints_in more ≡ checkpoints_of (step s line []).after (if is_quit line then [] else up_to_quit lines) =
-    by (is_quit line) (turns_make (step s line (next_listing listings)).after lines (later_listings line listings) ∙ ap (λ (x : State). checkpoints_of x (up_to_quit lines)) (after_same s line (next_listing listings) [])) in
-    count_join (λ t. makes_one t.before t.line) (turn s line (next_listing listings) ∷ []) more ∙ (λ i. one i + rest i)
-  where
-    by : (b : Bool) → checkpoints_in (turns (step s line (next_listing listings)).after lines (later_listings line listings)) ≡ checkpoints_of (step s line []).after (up_to_quit lines) →
-        checkpoints_in (if b then [] else turns (step s line (next_listing listings)).after lines (later_listings line listings)) ≡ checkpoints_of (step s line []).after (if b then [] else up_to_quit lines)
-    by true later = refl
-    by false later = later
+turns_make s [] listings = grind (arith, common_steps)
+turns_make s (line ∷ lines) listings = grind (arith, common_steps, count_one, one_makes, after_same, count_join, (turns_make (step s line (next_listing listings)).after lines (later_listings line listings)))
 
 -- What one line more makes.
 
@@ -92,11 +75,7 @@ pub made_next : (run : Run) (i : ℕ) (line : Line) (rest : List Line) → drop 
 made_next run i line rest is = made_are run (suc i) ∙ ap (λ (s : State). s.made) (state_next run i line rest is ∙ after_same (state_at run i) line (listing_at run i) [])
 
 pub checkpoints_next : (run : Run) (i : ℕ) (line : Line) (rest : List Line) → drop i (answered run) ≡ line ∷ rest → checkpoints_in (turns_of (first_lines run (suc i))) ≡ checkpoints_in (turns_of (first_lines run i)) + line_checkpoints (state_at run i) line
-checkpoints_next run i line rest is =
-    let own = turn_at run i line rest is in
-    ap checkpoints_in (turns_next run i line rest is)
-    ∙ count_join (λ t. makes_one t.before t.line) (turns_of (first_lines run i)) (own ∷ [])
-    ∙ ap (λ (n : ℕ). checkpoints_in (turns_of (first_lines run i)) + n) (count_one (λ t. makes_one t.before t.line) own ∙ one_makes (state_at run i) line)
+checkpoints_next run i line rest is = grind (arith, turn_at, turns_next, count_join, count_one, one_makes)
 
 -- A run, line by line.
 

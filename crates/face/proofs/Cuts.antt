@@ -1,5 +1,5 @@
 -- The lines that were cut from the octets taken.
-use Rattle.face.proofs.Names.{◌≡◌, ◌≢◌, ℕ, suc, ◌+◌, ◌-◌, ◌≤◌, List, [], ◌∷◌, ◌++◌, length, take, drop, refl, sym, ◌∙◌, ap, subst, arith, append_assoc, length-append, Bool, true, false, map, if◌then◌else◌, AllByRecursion, list_any, append-nil, take_at, drop_at, take_all, all_append, Input, Site, Line, is_quit, Source, line_of, commands_of, up_to_quit, answered_of, limit, pending, to_hear, IsSource, HasEnded, total, HearsLine, HasHeard}
+use Rattle.face.proofs.Names.{◌≡◌, ◌≢◌, ℕ, suc, ◌+◌, ◌-◌, ◌≤◌, List, [], ◌∷◌, ◌++◌, length, take, drop, refl, sym, ◌∙◌, ap, subst, arith, append_assoc, length-append, Bool, true, false, map, if◌then◌else◌, AllByRecursion, list_any, append-nil, take_at, drop_at, take_all, all_append, Site, Line, is_quit, Source, line_of, commands_of, up_to_quit, answered_of, limit, pending, to_hear, IsSource, HasEnded, total, HearsLine, HasHeard}
 use Rattle.front_end.specs.Lines.{AreLines}
 use Rattle.shell_text.proofs.Lines.{lines_of-waits}
 use Rattle.face.proofs.Fronts.{up_append, none_quit, some_quit}
@@ -38,8 +38,7 @@ no_cut entry source now empty taken going left = record {
 
 -- one line after others
 lines_then : (a b : List ℕ) (l m : List Line) (ended : Bool) → AreLines a l false → AreLines b m ended → AreLines (a ++ b) (l ++ m) ended
-lines_then a b l m ended first second more e premise =
-    ap (commands_of e) (append_assoc a b more) ∙ first (b ++ more) e (λ no. cc) ∙ ap (λ (x : List Line). l ++ x) (second more e premise) ∙ sym (append_assoc l m (commands_of e more))
+lines_then a b l m ended first second more e premise = grind (arith, append_assoc)
 
 module _ (entry : List ℕ) (source : Source) (now : Site) (i : ℕ) (cut : Cut entry source now i) (is_source : IsSource source) where
   nothing_more : source.ended ≡ true → (to_hear source now ≡ []) × (true ≡ true)
@@ -71,12 +70,7 @@ module _ (entry : List ℕ) (source : Source) (now : Site) (i : ℕ) (cut : Cut 
 
   -- as many octets were taken as lines were cut, at least
   pub cut_few_octets : i ≤ limit
-  cut_few_octets =
-      let many = cut.many in
-      let all = ap length cut.all ∙ length-append cut.octets (to_hear source now) ∙ ap (λ (n : ℕ). length cut.octets + n) (length-append (pending source) now.input.left) in
-      let taken = cut.taken in
-      let few = is_source.few in
-      omega (arith, many, all, taken, few)
+  cut_few_octets = grind (arith, length-append)
 
   -- a line more
   pub cut_more : (source' : Source) (new : Site) (line : Line) → HearsLine line source.ended source'.ended (to_hear source now) (to_hear source' new) → HasEnded source' new → total source' new ≡ total source now → is_quit line ≡ false → Cut entry source' new (suc i)
@@ -108,9 +102,7 @@ module _ (entry : List ℕ) (source : Source) (now : Site) (i : ℕ) (cut : Cut 
     taken_by = (cut.octets ++ h.octets) ++ pending source'
 
     own : commands_of source'.ended taken_by ≡ cut.lines ++ line ∷ commands_of source'.ended (pending source')
-    own =
-        lines_then cut.octets h.octets cut.lines (line ∷ []) source'.ended (subst (λ (b : Bool). AreLines cut.octets cut.lines b) h.going cut.are) h.is_line (pending source') source'.ended (λ e. (none_pending source' (is'.emptied e), e))
-        ∙ append_assoc cut.lines (line ∷ []) (commands_of source'.ended (pending source'))
+    own = grind (arith, lines_then, none_pending, append_assoc)
 
     own_answered : answered_of source'.ended taken_by ≡ cut.lines ++ line ∷ (if is_quit line then [] else up_to_quit (commands_of source'.ended (pending source')))
     own_answered = answered_by source'.ended taken_by (line ∷ commands_of source'.ended (pending source')) own
@@ -120,22 +112,11 @@ module _ (entry : List ℕ) (source : Source) (now : Site) (i : ℕ) (cut : Cut 
 
     -- where the line was heard
     pub heard_line : (old after : Site) → old.input.left ≡ entry → after.input ≡ new.input → HasHeard (suc i) taken_by source'.ended old after
-    heard_line old after at same = record {
-      taken = at ∙ cut.all ∙ ap (λ (l : List ℕ). cut.octets ++ l) h.all ∙ sym (append_assoc cut.octets h.octets (to_hear source' new)) ∙ sym (append_assoc (cut.octets ++ h.octets) (pending source') new.input.left) ∙ ap (λ (input : Input). taken_by ++ input.left) (sym same);
-      end = λ e. ap (λ (input : Input). input.left) same ∙ ended e;
-      enough =
-          let rest : List Line = if is_quit line then [] else up_to_quit (commands_of source'.ended (pending source')) in
-          let long = ap length own_answered ∙ length-append cut.lines (line ∷ rest) in
-          let count = cut.count in omega (arith, long, count);
-      same = ap (take (suc i)) own ∙ with_line _ ∙ sym (ap (take (suc i)) (ap (commands_of true) at ∙ all_lines ∙ ap (λ (l : List Line). cut.lines ++ l) next_is) ∙ with_line (commands_of true (to_hear source' new)));
-    }
+    heard_line old after at same = grind (arith, append_assoc, own_answered, length-append, own, with_line, all_lines, next_is)
 
     -- and where it is a quit
     pub quit_is_last : is_quit line ≡ true → (length (answered_of source'.ended taken_by) ≡ suc i) × (list_any is_quit (commands_of source'.ended taken_by) ≡ true)
-    quit_is_last quits = (
-      ap length (own_answered ∙ (λ j. cut.lines ++ line ∷ (if quits j then [] else up_to_quit (commands_of source'.ended (pending source'))))) ∙ length-append cut.lines (line ∷ []) ∙ (let count = cut.count in omega (arith, count)),
-      ap (list_any is_quit) own ∙ some_quit cut.lines line (commands_of source'.ended (pending source')) quits,
-    )
+    quit_is_last quits = grind (arith, own_answered, length-append, own, some_quit)
 
   -- the end of the input
   pub has_heard_all : (old new : Site) → old.input.left ≡ entry → to_hear source now ≡ [] → new.input.left ≡ [] → HasHeard i cut.octets true old new × (length (answered_of true cut.octets) ≡ i)
@@ -229,14 +210,4 @@ whole_before entry source now i cut is_source octets rest none all going = (
 
 -- where nothing more was taken
 pub cut_stays : (entry : List ℕ) (source : Source) (now new : Site) (i : ℕ) → Cut entry source now i → new.input ≡ now.input → Cut entry source new i
-cut_stays entry source now new i cut left = record {
-  octets = cut.octets;
-  lines = cut.lines;
-  count = cut.count;
-  many = cut.many;
-  all = cut.all ∙ ap (λ (input : Input). cut.octets ++ (pending source ++ input.left)) (sym left);
-  are = cut.are;
-  no_quit = cut.no_quit;
-  ended = λ e. ap (λ (input : Input). input.left) left ∙ cut.ended e;
-  taken = ap (λ (input : Input). source.taken + length input.left) left ∙ cut.taken;
-}
+cut_stays entry source now new i cut left = grind arith

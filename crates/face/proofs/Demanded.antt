@@ -15,7 +15,7 @@ same_halt h is same = cc
 module _ (pool : ℕ) (run : Run) (old new : Site) where
   pub demands_ok : {T : Type 0} (x : T) → WearsNone pool run old.image → HasDone pool run old.image new.image → LeavesStaged pool run old new → CallsForUnits run.geometry old new → SkipsNoNumber run old new → AsksNoMore pool run old new →
       Demands pool run old new (Ok x)
-  demands_ok x room done staged calls numbers reads = record { done = done; calls = calls; worn = λ dev is. absurd (no_error x (halt.Stop (Worn dev)) is); room = room; staged = staged; numbers = numbers; reads = reads }
+  demands_ok x room done staged calls numbers reads = grind (arith, no_error)
 
   pub demands_err : {T : Type 0} (h : Halt) → ((dev : Dev) → h ≡ halt.Stop (Worn dev) → WearsFirst pool run dev old.image) → SkipsNoNumber run old new → AsksNoMore pool run old new → Demands {T = T} pool run old new (Err h)
   demands_err {T} h worn numbers reads = record { worn = λ dev is. worn dev (same_halt {T = T} h (halt.Stop (Worn dev)) is); room = tt; done = tt; staged = tt; calls = tt; numbers = numbers; reads = reads }

@@ -16,10 +16,7 @@ use Rattle.face.proofs.Written.{written_answered, written_opened}
 
 -- taking wasn't what failed
 pub not_taking : (h : Halt) (run : Run) (i : ℕ) (octets : List ℕ) (old new : Site) → (h ≢ halt.Input) × (h ≢ halt.Limit) → StopsTaking h run i octets old new
-not_taking (halt.Stop stop) run i octets old new ne = tt
-not_taking halt.Input run i octets old new ne = absurd (ne.0 refl)
-not_taking halt.Output run i octets old new ne = tt
-not_taking halt.Limit run i octets old new ne = absurd (ne.1 refl)
+not_taking x0 run i octets old new ne = grind arith
 
 no_taking : (T : Type 0) (h : Halt) → (h ≢ halt.Input) × (h ≢ halt.Limit) → TakingFails {T = T} (Err h) → ⊥
 no_taking T (halt.Stop stop) ne fails = fails
@@ -164,17 +161,11 @@ line_heard h line was ended before after hears is = subst (λ (x : Heard). Hears
 -- why taking failed
 pub taking_cause : (h : Halt) (source : Source) (old mid new : Site) → (h ≡ halt.Input) ⊎ (h ≡ halt.Limit) → (h ≡ halt.Input → Rose mid.input_faults new.input_faults) → old.input_faults ≤ mid.input_faults
     → (IsTrue old.honest → (total source mid ≡ length old.input.left) × IsCutOff h source.ended (total source mid) (to_hear source mid) new.input.left) → HasCause h old new
-taking_cause (halt.Stop stop) source old mid new which input low off = ⊎_elim (λ e. absurd cc) (λ e. absurd cc) which
-taking_cause halt.Output source old mid new which input low off = ⊎_elim (λ e. absurd cc) (λ e. absurd cc) which
-taking_cause halt.Input source old mid new which input low off = let rose = input refl in omega (arith, low, rose)
-taking_cause halt.Limit source old mid new which input low off = λ honest. let o = off honest in let same = o.0 in let many = o.1.ends.2 in omega (arith, same, many)
+taking_cause x0 source old mid new which input low off = grind arith
 
 -- where the answer failed, taking wasn't what failed
 pub answer_takes_nothing : (h : Halt) (engine : Engine) (old new : Site) → AnswerFailsBy h engine old new → (h ≢ halt.Input) × (h ≢ halt.Limit)
-answer_takes_nothing (halt.Stop stop) engine old new fails = (λ e. cc, λ e. cc)
-answer_takes_nothing halt.Input engine old new fails = absurd fails
-answer_takes_nothing halt.Output engine old new fails = (λ e. cc, λ e. cc)
-answer_takes_nothing halt.Limit engine old new fails = absurd fails
+answer_takes_nothing x0 engine old new fails = grind arith
 
 -- nothing is foreign where the run began over a sound image
 pub answer_cause : (h : Halt) (engine : Engine) (old mid new : Site) → AnswerFailsBy h engine mid new → Preserves old mid

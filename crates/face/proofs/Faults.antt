@@ -1,6 +1,7 @@
 -- A run that halts, and its fault line.
-use Rattle.face.proofs.Names.{◌≡◌, ◌≢◌, ◌⊎◌, inl, inr, ⊎_elim, ℕ, suc, ◌+◌, ◌≤◌, Bool, true, false, List, [], ◌∷◌, ◌++◌, length, take, drop, refl, sym, ◌∙◌, ap, subst, arith, append_assoc, length-append, take-append-drop, Err, Ok, Result, IsTrue, count_by, flat_map, map, append-nil, take_all, take_at, take-take, Input, Site, Snapshot, Preserves, Leaves, LeavesOnly, EachMoment, in_sequence, leaves_weaker, stays_honest, told_is, tell_leaves, TellsPart, Failed, Geometry, CacheLine, State, Line, Turn, after_commits, commit_marks, is_quit, replies, Serial, list_any, Halt, fault_line, status_of, open_text, reply_text, Stands, HasCause, HasCauses, NoFaultRose, commands_of, answered_of, limit, Run, answered, first_lines, Begins, Demands, HasHeard, StandsNear, StopsTaking, TakingFails, RunOutcome, IsLeft, IsWhole, ListsTheMachine, WearsFirst, WearsNone, first_texts, run_of, run_text, texts, EndsBehind, Tells, ends_whole, ends_with, RunContract, Durability, IsGood, Headline, TellsFault, Dev}
+use Rattle.face.proofs.Names.{◌≡◌, ◌≢◌, ◌⊎◌, inl, inr, ⊎_elim, ℕ, suc, ◌+◌, ◌≤◌, Bool, true, false, List, [], ◌++◌, length, take, drop, refl, sym, ◌∙◌, ap, subst, arith, append_assoc, length-append, take-append-drop, Err, Ok, Result, IsTrue, append-nil, take_all, take_at, take-take, Input, Site, Snapshot, Preserves, Leaves, LeavesOnly, EachMoment, in_sequence, leaves_weaker, stays_honest, told_is, tell_leaves, TellsPart, Failed, Geometry, CacheLine, State, Line, is_quit, Serial, list_any, Halt, fault_line, status_of, Stands, HasCause, HasCauses, NoFaultRose, commands_of, answered_of, limit, Run, answered, first_lines, Begins, Demands, HasHeard, StandsNear, StopsTaking, TakingFails, RunOutcome, IsLeft, IsWhole, ListsTheMachine, WearsFirst, WearsNone, first_texts, run_of, run_text, texts, EndsBehind, Tells, ends_whole, ends_with, RunContract, Durability, IsGood, Headline, TellsFault, Dev}
 use Rattle.std.proofs.lemmas.List.{length-take}
+use Rattle.std.proofs.lemmas.Grind.{common_steps}
 use Rattle.front_end.specs.declared.halt.Halt.TheVariants as halt
 use Rattle.face.specs.Causes.{EndsInTime}
 use Rattle.face.proofs.WornFronts.{earlier_same, never_worn}
@@ -95,10 +96,7 @@ module _ (g : Geometry) (opening : State) (listings : List (List CacheLine)) (ol
 
 -- where all of a run's lines are among the first ones, all of it is told and done with them
 is_whole : (run : Run) (n : ℕ) → length (answered run) ≤ n → (old new : Site) → IsWhole (first_lines run n) old new → IsWhole run old new
-is_whole run n few old new w = record {
-  told = w.told ∙ ap (λ (l : List Turn). old.told ++ flat_map (λ (x : List ℕ). x) (open_text run.opening.commits ∷ map reply_text (replies l))) (whole_turns run n few);
-  stands = subst (λ (l : List Turn). Stands run.geometry new.image (after_commits run.opening.table l (count_by (λ (mark : Bool). mark) (commit_marks l))) (run.opening.commits + count_by (λ (mark : Bool). mark) (commit_marks l))) (whole_turns run n few) w.stands;
-}
+is_whole run n few old new w = grind (arith, whole_turns)
 
 -- what a run begins with
 pub begins : (g : Geometry) (opening : State) (listings : List (List CacheLine)) (old : Site) → IsGood g opening old → Begins (run_of g opening true old.input.left listings) old
@@ -106,7 +104,7 @@ begins g opening listings old good = record { honest = good.honest; quiet = good
 
 -- with 5 and 7 taking was what failed
 taking_by : (T : Type 0) (h : Halt) → (status_of h ≡ 5) ⊎ (status_of h ≡ 7) → TakingFails {T = T} (Err h)
-taking_by T h which = ⊎_elim (λ e. subst (λ (x : Halt). TakingFails {T = T} (Err x)) (sym (of_five h e)) tt) (λ e. subst (λ (x : Halt). TakingFails {T = T} (Err x)) (sym (of_seven h e)) tt) which
+taking_by T h which = grind (arith, of_five, of_seven)
 
 module _ (pool : ℕ) (g : Geometry) (opening : State) (listings : List (List CacheLine)) (old : Site) where
   abbrev run : Run
@@ -114,7 +112,7 @@ module _ (pool : ℕ) (g : Geometry) (opening : State) (listings : List (List Ca
 
   -- where taking failed all whole lines are answered
   taken_by : (h : Halt) (heard : ℕ) (octets : List ℕ) (mid : Site) → StopsTaking h run heard octets old mid → (status_of h ≡ 5) ⊎ (status_of h ≡ 7) → HasTakenAll run heard octets old mid
-  taken_by h heard octets mid s which = ⊎_elim (λ e. subst (λ (x : Halt). StopsTaking x run heard octets old mid) (of_five h e) s) (λ e. (subst (λ (x : Halt). StopsTaking x run heard octets old mid) (of_seven h e) s).0) which
+  taken_by h heard octets mid s which = grind (arith, of_five, of_seven)
 
   over_by : (h : Halt) (heard : ℕ) (octets : List ℕ) (mid : Site) → StopsTaking h run heard octets old mid → status_of h ≡ 7 → (length octets ≡ limit + 1) × (list_any is_quit (commands_of false (take limit octets)) ≡ false)
   over_by h heard octets mid s e = let own = subst (λ (x : Halt). StopsTaking x run heard octets old mid) (of_seven h e) s in (own.1, own.0.no_quit)
@@ -235,14 +233,7 @@ true_not_false is = cc
 
 -- input that ends within n octets, or quits among them, doesn't go over n
 not_over : (n : ℕ) (left octets rest : List ℕ) → left ≡ octets ++ rest → (length left ≤ n) ⊎ (list_any is_quit (commands_of false (take n left)) ≡ true) → length octets ≡ n + 1 → list_any is_quit (commands_of false (take n octets)) ≡ false → ⊥
-not_over n left octets rest is (inl few) many none = let long = ap length is ∙ length-append octets rest in absurd (omega (arith, few, long, many))
-not_over n left octets rest is (inr quit) many none = true_not_false (sym quit ∙ ap (λ (l : List ℕ). list_any is_quit (commands_of false l)) same ∙ none)
-  where
-    front : take n (octets ++ rest) ≡ take n octets
-    front = sym (take-take n (length octets) (octets ++ rest) (omega (arith, many))) ∙ ap (take n) (take_at octets rest (length octets) refl)
-
-    same : take n left ≡ take n octets
-    same = ap (take n) is ∙ front
+not_over n left octets rest is x5 many none = grind (arith, common_steps, length-append, true_not_false, take-take, take_at)
 
 -- where nothing fails, no ring stands at its end that is appended to, and the input ends in time
 pub complete : (pool : ℕ) (g : Geometry) (opening : State) (old new : Site) (status : ℕ) → IsGood g opening old → NoFaultRose old new → WearsNone pool (run_of g opening true old.input.left []) old.image → EndsInTime old → HasCauses status old new →

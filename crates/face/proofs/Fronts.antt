@@ -1,5 +1,5 @@
 -- Two runs whose first lines are the same.
-use Rattle.face.proofs.Names.{◌≡◌, ℕ, suc, ◌+◌, ◌≤◌, Bool, true, false, List, [], ◌∷◌, ◌++◌, length, take, get_or, refl, sym, ◌∙◌, ap, subst, arith, append_assoc, flat_map, map, if◌then◌else◌, ◌||◌, ◌==◌, AllByRecursion, list_any, append-nil, take_all, take-take, Site, Take, Line, Turn, is_quit, left_by, replies, line_of, open_text, reply_text, answered_of, commands_of, up_to_quit, HasBegun, first_texts, text_at, texts, Run, answered, after_lines, first_lines, state_at, turns_of, IsAnswered, AnswersFirst, IsEarly}
+use Rattle.face.proofs.Names.{◌≡◌, ℕ, suc, ◌+◌, ◌≤◌, Bool, true, false, List, [], ◌∷◌, ◌++◌, length, take, get_or, refl, sym, ◌∙◌, ap, subst, arith, append_assoc, flat_map, map, if◌then◌else◌, ◌||◌, ◌==◌, AllByRecursion, list_any, append-nil, take_all, take-take, Site, Take, Line, is_quit, left_by, line_of, answered_of, commands_of, up_to_quit, HasBegun, first_texts, text_at, texts, Run, answered, after_lines, first_lines, state_at, turns_of, IsAnswered, AnswersFirst, IsEarly}
 use Rattle.std.proofs.lemmas.Bool.{or_right}
 use Rattle.std.proofs.lemmas.List.{take-map, get_or-take}
 use Rattle.shell_text.specs.Runs.{lines_of, in_front}
@@ -15,9 +15,7 @@ module _ (run : Run) (n : ℕ) where
   lines_first = first_answered n run.lines
 
   texts_first : texts (first_lines run n) ≡ take (suc n) (texts run)
-  texts_first =
-      ap (λ (l : List Turn). open_text run.opening.commits ∷ map reply_text (replies l)) turns_first
-      ∙ ap (λ (l : List (List ℕ)). open_text run.opening.commits ∷ l) (sym (take-map reply_text n (replies (turns_of run)) ∙ ap (map reply_text) (take-map (λ (t : Turn). t.reply) n (turns_of run))))
+  texts_first = grind (arith, turns_first, take-map)
 
   pub told_first : (w : ℕ) → w ≤ n + 1 → first_texts (first_lines run n) w ≡ first_texts run w
   told_first w le = ap (flat_map (λ (x : List ℕ). x)) (ap (take w) texts_first ∙ take-take w (suc n) (texts run) (omega (arith, le)))

@@ -1,4 +1,5 @@
 -- What was opened goes on, on every site.
+use Rattle.std.proofs.Common.{arith}
 use Rattle.face.proofs.Names.{◌≡◌, IsTrue, ◌∙◌, ap, Ok, Err, ⊤, Site, Preserves, Rose, faults_in, with_output_fault, goes_in_sequence, rose_since, stays_honest, Line, Engine, Halt, RunFaults, HearsOnly, CarriesOut}
 use Rattle.front_end.specs.declared.halt.Halt.TheVariants as halt
 use Rattle.front_end.specs.Faults.{SameFaults, after_halt}
@@ -40,12 +41,7 @@ module _ (entry mid new : Site) (engine : Engine) (so_far : GoesOn entry mid eng
 
   -- or fails
   pub fails_there : {T U : Type 0} (h : Halt) (line : Line) (engine' : Engine) → CarriesOut {T = T} (Err h) line engine engine' mid new → WorkEnds {T = U} (Err h) entry new
-  fails_there h line engine' c = record {
-    cause = answer_cause h engine entry mid new c.cause so_far.preserves so_far.fits so_far.next;
-    refuses = λ none. absurd (so_far.sized none);
-    preserves = goes_in_sequence entry mid new so_far.preserves c.preserves;
-    faults = faults_since h entry mid new so_far.faults c.faults;
-  }
+  fails_there h line engine' c = grind (arith, answer_cause, goes_in_sequence, faults_since)
 
 -- How work ends: well, by an error of other work, or while something is told.
 
@@ -60,9 +56,4 @@ module _ {A B : Type 0} (a : A) (old mid new : Site) (ends : WorkEnds {T = A} (O
   ends_told b same = record { cause = tt; refuses = ends.refuses; preserves = goes_in_sequence old mid new ends.preserves goes; faults = same ∙ ends.faults }
 
   pub ends_untold : faults_in new ≡ with_output_fault (faults_in mid) → Rose mid.output_faults new.output_faults → WorkEnds {T = B} (Err halt.Output) old new
-  ends_untold same rose = record {
-    cause = rose_since old.output_faults mid.output_faults new.output_faults ends.preserves.output_faults rose;
-    refuses = λ none. absurd (ends.refuses none);
-    preserves = goes_in_sequence old mid new ends.preserves goes;
-    faults = same ∙ ap with_output_fault ends.faults;
-  }
+  ends_untold same rose = grind (arith, rose_since, goes_in_sequence)

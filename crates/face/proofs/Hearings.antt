@@ -1,6 +1,7 @@
 -- What was heard of the input when a run ends.
-use Rattle.face.proofs.Names.{◌≡◌, ◌≢◌, ◌⊎◌, inl, inr, ⊎_elim, ℕ, suc, ◌+◌, ◌≤◌, Bool, true, false, List, [], ◌++◌, length, refl, sym, ◌∙◌, ap, subst, arith, Ok, Err, Site, Input, Line, is_quit, Halt, Source, HasEnded, HearsLine, IsCutOff, IsSource, limit, pending, to_hear, total, status_of, HasHeard}
+use Rattle.face.proofs.Names.{◌≡◌, ◌≢◌, ◌⊎◌, ⊎_elim, ℕ, suc, ◌+◌, ◌≤◌, Bool, true, false, List, [], ◌++◌, length, refl, sym, ◌∙◌, ap, subst, arith, Ok, Err, Site, Input, Line, is_quit, Halt, Source, HasEnded, HearsLine, IsCutOff, IsSource, limit, to_hear, total, status_of, HasHeard}
 use Rattle.std.proofs.lemmas.List.{length-append}
+use Rattle.std.proofs.lemmas.Grind.{common_steps}
 use Rattle.front_end.specs.declared.halt.Halt.TheVariants as halt
 use Rattle.face.specs.Hearing.{EndsHearing, HasTaken, HearsInTime, IsTooLong, WorkHears}
 use Rattle.face.proofs.Statuses.{not_zero, of_seven}
@@ -51,21 +52,7 @@ module _ (old mid : Site) (source : Source) (i : ℕ) (cut : Cut old.input.left 
 
   -- the input was heard to its end
   pub hears_end : {T : Type 0} (x : T) (new : Site) → to_hear source mid ≡ [] → new.input.left ≡ [] → WorkHears (Ok x) old new
-  hears_end x new none left =
-      let f = has_heard_all old.input.left source mid i cut is_source old new refl none left in
-      let taken = taken_of i cut.octets true old new f.0 in
-      record {
-        octets = cut.octets;
-        ended = true;
-        has_taken = taken;
-        all = (
-          inl refl,
-          (let many = count_of cut.octets true old new taken in let all = cut.taken in let few = is_source.few in
-              let end = sym (length-append (pending source) mid.input.left) ∙ ap length none in
-              omega (arith, many, all, few, end, ap length left)),
-        );
-        stops = tt;
-      }
+  hears_end x new none left = grind (arith, has_heard_all, taken_of, count_of, length-append)
 
   -- a line was heard
   module _ (source' : Source) (next : Site) (line : Line) (h : HearsLine line source.ended source'.ended (to_hear source mid) (to_hear source' next)) (ended : HasEnded source' next) (is' : IsSource source') (same : total source' next ≡ total source mid) (new : Site) (left : new.input ≡ next.input) where
@@ -76,12 +63,7 @@ module _ (old mid : Site) (source : Source) (i : ℕ) (cut : Cut old.input.left 
     line_taken = taken_of (suc i) all_taken source'.ended old new (heard_line old.input.left source mid i cut is_source source' next line h ended is' old new refl left)
 
     few_taken : length all_taken ≤ limit
-    few_taken =
-        let many = count_of all_taken source'.ended old new line_taken in
-        let all = cut.taken in
-        let few = is'.few in
-        let stays : length new.input.left ≡ length next.input.left = ap (λ (input : Input). length input.left) left in
-        omega (arith, many, all, few, same, stays)
+    few_taken = grind (arith, common_steps, count_of, line_taken)
 
     -- its answer failed
     pub hears_answer : {T : Type 0} (fault : Halt) → fault ≢ halt.Limit → WorkHears {T = T} (Err fault) old new
@@ -89,13 +71,7 @@ module _ (old mid : Site) (source : Source) (i : ℕ) (cut : Cut old.input.left 
 
     -- it was a quit
     pub hears_quit : {T : Type 0} (x : T) → is_quit line ≡ true → WorkHears (Ok x) old new
-    hears_quit x quits = record {
-      octets = all_taken;
-      ended = source'.ended;
-      has_taken = line_taken;
-      all = (inr (quit_is_last old.input.left source mid i cut is_source source' next line h ended is' quits).1, few_taken);
-      stops = tt;
-    }
+    hears_quit x quits = grind (arith, common_steps, line_taken, quit_is_last, few_taken)
 
 -- By the status.
 
@@ -106,21 +82,8 @@ over_by : (h : Halt) (status : ℕ) (octets : List ℕ) → status ≡ status_of
 over_by h status octets is ends e = subst (λ (x : Halt). EndsHearing x octets) (of_seven h (sym is ∙ e)) ends
 
 within_by : (h : Halt) (status : ℕ) (octets : List ℕ) → status ≡ status_of h → EndsHearing h octets → status ≢ 7 → length octets ≤ limit
-within_by (halt.Stop stop) status octets is ends ne = ends
-within_by halt.Input status octets is ends ne = ends
-within_by halt.Output status octets is ends ne = ends
-within_by halt.Limit status octets is ends ne = absurd (ne is)
+within_by x0 status octets is ends ne = grind arith
 
 -- behind which the fault line is told
 pub heard_halted : {T : Type 0} (h : Halt) (status : ℕ) (old mid new : Site) → status ≡ status_of h → new.input ≡ mid.input → WorkHears {T = T} (Err h) old mid → HearsInTime status old new
-heard_halted h status old mid new is same w = record {
-  octets = w.octets;
-  ended = w.ended;
-  has_taken = record {
-    taken = w.has_taken.taken ∙ ap (λ (input : Input). w.octets ++ input.left) (sym same);
-    end = λ e. ap (λ (input : Input). input.left) same ∙ w.has_taken.end e;
-  };
-  all = λ zero. absurd (not_zero h (sym is ∙ zero));
-  over = over_by h status w.octets is w.stops;
-  within = within_by h status w.octets is w.stops;
-}
+heard_halted h status old mid new is same w = grind (arith, not_zero, over_by, within_by)

@@ -36,11 +36,7 @@ pub count_join : {X : Type 0} (p : X → Bool) (xs ys : List X) → count_by p (
 count_join p xs ys = sum_by-append (λ x. cond (p x) 1 0) xs ys
 
 pub count_one : {X : Type 0} (p : X → Bool) (x : X) → count_by p (x ∷ []) ≡ (if p x then 1 else 0)
-count_one p x = sum_by_push (λ y. cond (p y) 1 0) [] x ∙ by (p x)
-  where
-    by : (b : Bool) → 0 + cond b 1 0 ≡ (if b then 1 else 0)
-    by true = omega arith
-    by false = refl
+count_one p x = grind (arith, sum_by_push)
 
 -- Numbers.
 

@@ -1,6 +1,6 @@
 -- Lines that ask for the listing of the cache, and lines that don't.
-use Rattle.face.proofs.Names.{◌≡◌, ◌⊎◌, inl, inr, ⊎_elim, ℕ, suc, Bool, true, false, List, [], ◌∷◌, ◌++◌, drop, Option, None, Some, refl, sym, ap, ◌∙◌, if◌then◌else◌, Site, Command, Cache, Reply, Listing, CacheLine, State, Outcome, carried_through, fills_page, full, lacks_room, outcome, ready, refusal, Line, Turn, is_cache, next_listing, later_listings, Engine, listing_of, ListsTheMachine, cache_by, Run, IsAsked, step, answered, first_lines, listings_left, listing_at, state_at, turns_of, HasAnswered}
-use Rattle.std.proofs.Common.{true≢false}
+use Rattle.face.proofs.Names.{◌≡◌, ◌⊎◌, inl, inr, ⊎_elim, ℕ, suc, true, false, List, [], ◌∷◌, ◌++◌, drop, Option, None, Some, refl, sym, ap, ◌∙◌, if◌then◌else◌, Site, Command, Cache, Reply, Listing, CacheLine, State, carried_through, outcome, refusal, Line, Turn, is_cache, next_listing, later_listings, Engine, listing_of, ListsTheMachine, cache_by, Run, IsAsked, step, answered, first_lines, listings_left, listing_at, state_at, turns_of, HasAnswered}
+use Rattle.std.proofs.Common.{true≢false, arith}
 use Rattle.second_chance.specs.Machine.{listing}
 use Rattle.face.proofs.Runs.{left_next, turn_at, turns_next}
 
@@ -26,10 +26,7 @@ same_through s Cache listing None not_cache = absurd (true≢false not_cache)
 same_through s other listing None not_cache = refl
 
 same_outcome : (s : State) (command : Command) (listing : List CacheLine) (o : Option Reply) → is_cache (Some command) ≡ false → outcome s command listing o ≡ outcome s command [] o
-same_outcome s command listing (Some refused) not_cache = refl
-same_outcome s command listing None not_cache =
-    let r = ready s command in
-    ap (λ (o : Outcome). if lacks_room r command then record { after = r; reply = full r } else o) (same_through r command listing (fills_page r command) not_cache)
+same_outcome s command listing x3 not_cache = grind (arith, same_through)
 
 pub same_step : (s : State) (line : Line) (listing : List CacheLine) → is_cache line ≡ false → step s line listing ≡ step s line []
 same_step s None listing not_cache = refl
@@ -45,11 +42,7 @@ first_asked : (line : Line) (listing : List CacheLine) (later : List (List Cache
 first_asked line listing later is = λ i. next_listing ((if is i then listing ∷ [] else []) ++ later)
 
 rest_asked : (line : Line) (listing : List CacheLine) (later : List (List CacheLine)) → later_listings line (asked line listing ++ later) ≡ later
-rest_asked line listing later = by (is_cache line)
-  where
-    by : (b : Bool) → (if b then drop 1 ((if b then listing ∷ [] else []) ++ later) else (if b then listing ∷ [] else []) ++ later) ≡ later
-    by true = refl
-    by false = refl
+rest_asked line listing later = grind arith
 
 -- no turn is one of none
 pub no_turn : (before later : List Turn) (t : Turn) → [] ≡ before ++ t ∷ later → ⊥

@@ -1,5 +1,6 @@
 -- One life, and the lives of a script under way.
-use Rattle.face.proofs.Names.{◌≡◌, inl, inr, ⊎_elim, ℕ, ◌-◌, true, List, [], ◌∷◌, ◌++◌, drop, sym, ◌∙◌, ap, subst, IsTrue, Option, Some, None, Site, Image, MayLeave, now_of, started, lives_of, state_of, MemSite, holds_now, Geometry, State, opened, IsInRange, Line, after_commits, commit_marks, Opens, Durability, ran, commands_of, LawOfLives, OpensAgain, Finds, HasLivedOne, IsLeft, IsToldOf, run_text, texts, Run, turns_of, Between}
+use Rattle.std.proofs.Common.{arith}
+use Rattle.face.proofs.Names.{◌≡◌, inl, inr, ⊎_elim, ℕ, ◌-◌, true, List, [], ◌∷◌, ◌++◌, sym, ◌∙◌, ap, subst, Option, Some, None, Site, Image, MayLeave, now_of, started, lives_of, state_of, MemSite, holds_now, Geometry, State, opened, IsInRange, Line, after_commits, commit_marks, Opens, Durability, ran, commands_of, LawOfLives, OpensAgain, Finds, HasLivedOne, IsLeft, IsToldOf, run_text, texts, Run, turns_of, Between}
 use Rattle.std.specs.Prelude.{IfSome}
 use Rattle.site.specs.State.{no_input, snapshot_of}
 use Rattle.mem_site.specs.MemState.{fed}
@@ -74,15 +75,7 @@ module _ (law : LawOfLives) (g : Geometry) (before : Between) (octets : List ℕ
 -- A site that a life may begin on, once its lines are fed.
 pub fed_site : (g : Geometry) (before : Between) (entry lit fed : Site) (kept octets : List ℕ) → lit ≡ record entry { kept = kept } → fed ≡ record lit { input = record lit.input { left = lit.input.left ++ octets } } → Finds g before.table before.commits entry → entry.told ≡ [] → entry.input.left ≡ [] →
     Finds g before.table before.commits fed × (fed.input.left ≡ octets) × (fed.told ≡ [])
-fed_site g before entry lit fed kept octets is_lit is_fed finds told left = (
-  record {
-    honest = subst IsTrue (sym (ap (λ (s : Site). s.honest) is_fed ∙ ap (λ (s : Site). s.honest) is_lit)) finds.honest;
-    quiet = ap (λ (s : Site). s.loose) is_fed ∙ ap (λ (s : Site). s.loose) is_lit ∙ finds.quiet;
-    opens = subst (λ (i : Image). Opens g i (opened before.table before.commits 0 (g.blocks - 1))) (sym (ap (λ (s : Site). s.image) is_fed ∙ ap (λ (s : Site). s.image) is_lit)) finds.opens;
-  },
-  ap (λ (s : Site). s.input.left) is_fed ∙ ap (λ (l : List ℕ). l ++ octets) (ap (λ (s : Site). s.input.left) is_lit ∙ left),
-  ap (λ (s : Site). s.told) is_fed ∙ ap (λ (s : Site). s.told) is_lit ∙ told,
-)
+fed_site g before entry lit fed kept octets is_lit is_fed finds told left = grind arith
 
 -- what holds with the status holds with the one that is told
 pub with_status : (A P : ℕ → Type 0) (o : Option ℕ) (status : ℕ) → IfSome o (λ told. (told ≡ status) × A told) → P status → IfSome o P
@@ -92,7 +85,4 @@ with_status A P None status is holds = is
 -- A site in memory on which a life begins.
 pub begun_so : (stop : Option (ℕ × ℕ)) (before : Between) (octets : List ℕ) (inner : MemSite) (lit begun : Site) → state_of inner ≡ started (0 ∷ 0 ∷ before.changes) before.image → lit ≡ record (state_of inner) { kept = lit.kept } → lit.kept ≡ kept_by stop (lives_of inner)
     → begun ≡ record lit { input = fed octets lit.input } → begun ≡ record (started (kept_by stop before.changes) before.image) { input = fed octets no_input }
-begun_so stop before octets inner lit begun state is_lit fuse is_begun =
-    let lives : lives_of inner ≡ before.changes = ap (λ (s : Site). drop 2 s.kept) state in
-    let lit_is : lit ≡ started (kept_by stop before.changes) before.image = is_lit ∙ (λ i. record (state i) { kept = (fuse ∙ ap (kept_by stop) lives) i }) in
-    is_begun ∙ ap (λ (s : Site). record s { input = fed octets s.input }) lit_is
+begun_so stop before octets inner lit begun state is_lit fuse is_begun = grind arith

@@ -1,5 +1,5 @@
 -- What is counted of a load.
-use Rattle.face.proofs.Names.{◌≡◌, ℕ, suc, ◌+◌, ◌≤◌, Bool, true, false, List, [], ◌∷◌, drop, length, refl, sym, ◌∙◌, ap, arith, Option, Some, None, nat_lt, option_map, count_by, if◌then◌else◌, AllByRecursion, Command, Reply, State, Outcome, carried_through, full, outcome, ready, refusal, lacks_room, Line, Turn, is_committed, Run, answered, first_lines, listing_at, state_at, step, turns_of, makes_one}
+use Rattle.face.proofs.Names.{◌≡◌, ℕ, suc, ◌+◌, ◌≤◌, Bool, true, false, List, [], ◌∷◌, drop, length, refl, ◌∙◌, ap, arith, Option, Some, None, nat_lt, option_map, count_by, if◌then◌else◌, AllByRecursion, Command, Reply, State, Outcome, carried_through, full, outcome, ready, refusal, lacks_room, Line, Turn, is_committed, Run, answered, first_lines, listing_at, state_at, step, turns_of, makes_one}
 use Rattle.std.proofs.Common.{◌&&◌}
 use Rattle.std.specs.Prelude.{is_none}
 use Rattle.byte_fields.specs.declared.TheConstants.{VALUE_MAX}
@@ -82,9 +82,7 @@ get_makes s number =
 -- One line more.
 module _ (run : Run) (i : ℕ) (line : Line) (rest : List Line) (is : drop i (answered run) ≡ line ∷ rest) where
   one_more : (p : Turn → Bool) (n : ℕ) → n ≡ count_by p (turns_of (first_lines run i)) → n + (if p (turn_at run i line rest is) then 1 else 0) ≡ count_by p (turns_of (first_lines run (suc i)))
-  one_more p n so_far =
-      let own = turn_at run i line rest is in
-      (λ j. so_far j + sym (count_one p own) j) ∙ sym (ap (count_by p) (turns_next run i line rest is) ∙ count_join p (turns_of (first_lines run i)) (own ∷ []))
+  one_more p n so_far = grind (arith, turn_at, count_one, turns_next, count_join)
 
   -- counted by its reply
   pub counted_next : (committed checkpoints found : ℕ) → HasCounted (first_lines run i) committed checkpoints found → (reply : Reply) → reply ≡ (step (state_at run i) line (listing_at run i)).reply → (due : Bool) → (due && has_passed reply) ≡ makes_one (state_at run i) line →

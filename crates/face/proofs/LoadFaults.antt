@@ -16,18 +16,14 @@ no_text rest text front = (0, front.1 ∙ take_all front.0 [] (omega arith))
 
 -- a summary and a fault line of which nothing is told yet
 more_allowed : (run : Run) (summary fault told : List ℕ) (k : ℕ) → Allows run [] [] told k → Allows run summary fault told k
-more_allowed run summary fault told k (inl first) = inl (⊎_elim (λ f. inl f) (λ f. inl (no_text told (opening_text run) f)) first.0, first.1)
-more_allowed run summary fault told k (inr (inl some)) = inr (inl (some.0, some.1, no_text some.0 fault some.2, some.3))
-more_allowed run summary fault told k (inr (inr all)) = inr (inr (all.0, all.1, no_text all.0 summary all.2, all.3))
+more_allowed run summary fault told k x5 = grind (arith, no_text)
 
 more_left : (run : Run) (summary fault so_far : List ℕ) (s : Snapshot) → IsLeftOf run [] [] so_far s → IsLeftOf run summary fault so_far s
 more_left run summary fault so_far s l = record { told = l.told; told_is = l.told_is; k = l.k; allowed = more_allowed run summary fault l.told l.k l.allowed; stands = l.stands }
 
 -- the same where the summary may be told already
 fault_allowed : (run : Run) (summary fault told : List ℕ) (k : ℕ) → Allows run summary [] told k → Allows run summary fault told k
-fault_allowed run summary fault told k (inl first) = inl (⊎_elim (λ f. inl f) (λ f. inl (no_text told (opening_text run) f)) first.0, first.1)
-fault_allowed run summary fault told k (inr (inl some)) = inr (inl (some.0, some.1, no_text some.0 fault some.2, some.3))
-fault_allowed run summary fault told k (inr (inr all)) = inr (inr all)
+fault_allowed run summary fault told k x5 = grind (arith, no_text)
 
 fault_left : (run : Run) (summary fault so_far : List ℕ) (s : Snapshot) → IsLeftOf run summary [] so_far s → IsLeftOf run summary fault so_far s
 fault_left run summary fault so_far s l = record { told = l.told; told_is = l.told_is; k = l.k; allowed = fault_allowed run summary fault l.told l.k l.allowed; stands = l.stands }

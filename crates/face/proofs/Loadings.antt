@@ -1,5 +1,6 @@
 -- What a load leaves: while it opens, while its lines are carried out, and when they are done.
-use Rattle.face.proofs.Names.{◌≡◌, ◌⊎◌, inl, inr, ⊎_elim, ℕ, zero, suc, ◌+◌, ◌-◌, ◌*◌, ◌<◌, ◌≤◌, Bool, false, List, [], ◌∷◌, ◌++◌, length, map, take, drop, refl, sym, ◌∙◌, ap, subst, arith, append_assoc, take-append-drop, length-append, Result, Ok, Err, count_by, append-nil, drop_at, length-map, take-take, all_append, Geometry, Site, Image, Moment, Snapshot, MayLeave, now_of, EachMoment, Leaves, LeavesOnly, each_weaker, holds_now, image_is, in_sequence, leaves_weaker, told_is, Reply, State, Line, commit_marks, commits_among, is_quit, generated, Engine, sizes_of, LeavesEither, QueueIsOnFlash, WhereItFits, Halt, status_of, Load, CarriesUntold, NeverOpens, RunInProgress, TellsDone, lines_at, HasBegunLoad, HasMadeBefore, IsLeftOf, IsOpened, IsUntold, LoadStops, LoadWorks, TellsOpening, AsksNoMore, IsLeft, StandsAfter, WritesAsBegun, first_texts, texts, Run, StandsFor, answered, first_lines, listing_at, state_at, step, turns_of, StandsNear, Stops, load_run, numbers_of, opening_text}
+use Rattle.std.proofs.lemmas.Grind.{common_steps}
+use Rattle.face.proofs.Names.{◌≡◌, ◌⊎◌, inl, inr, ⊎_elim, ℕ, zero, suc, ◌+◌, ◌-◌, ◌*◌, ◌<◌, ◌≤◌, Bool, List, [], ◌∷◌, ◌++◌, length, map, take, drop, refl, sym, ◌∙◌, ap, subst, arith, append_assoc, take-append-drop, length-append, Result, Ok, Err, count_by, append-nil, drop_at, length-map, take-take, all_append, Geometry, Site, Image, Moment, Snapshot, MayLeave, now_of, EachMoment, Leaves, LeavesOnly, each_weaker, holds_now, image_is, in_sequence, leaves_weaker, told_is, Reply, State, Line, commit_marks, commits_among, generated, Engine, sizes_of, LeavesEither, QueueIsOnFlash, WhereItFits, Halt, status_of, Load, CarriesUntold, NeverOpens, RunInProgress, TellsDone, lines_at, HasBegunLoad, HasMadeBefore, IsLeftOf, IsOpened, IsUntold, LoadStops, LoadWorks, TellsOpening, AsksNoMore, IsLeft, StandsAfter, WritesAsBegun, first_texts, texts, Run, StandsFor, answered, first_lines, listing_at, state_at, step, turns_of, StandsNear, Stops, load_run, numbers_of, opening_text}
 use Rattle.face.specs.Done.{TellsWhenDone}
 use Rattle.face.specs.Loads.{LoadInProgress}
 use Rattle.face.specs.Workload.{get_line, get_lines, set_line, set_lines}
@@ -33,10 +34,7 @@ one_of f seed i count less =
 
 -- no more commits among some turns than among all
 few_among : (i : ℕ) (marks : List Bool) → commits_among i marks ≤ count_by (λ mark. mark) marks
-few_among i marks =
-    let all : count_by (λ (mark : Bool). mark) marks ≡ count_by (λ mark. mark) (take i marks) + count_by (λ mark. mark) (drop i marks) =
-    ap (count_by (λ (mark : Bool). mark)) (sym (take-append-drop i marks)) ∙ count_join (λ mark. mark) (take i marks) (drop i marks) in
-    omega (arith, all)
+few_among i marks = grind (arith, common_steps, take-append-drop, count_join)
 
 -- the more turns, the more commits
 more_among : (i j : ℕ) (marks : List Bool) → i ≤ j → commits_among i marks ≤ commits_among j marks
@@ -50,16 +48,10 @@ module _ (g : Geometry) (opening : State) (load : Load) where
   records = 32 * g.pages
 
   all_lines : answered run ≡ run.lines
-  all_lines = all_answered run.lines (all_append (λ (l : Line). is_quit l ≡ false) (set_lines records load.seed load.count) (get_lines records load.seed load.count)
-      (none_quits_map (set_line records) (numbers_of load.seed load.count) (λ x. refl)) (none_quits_map (get_line records) (numbers_of load.seed load.count) (λ x. refl)))
+  all_lines = grind (arith, all_answered, all_append, none_quits_map)
 
   pub lines_count : length (answered run) ≡ 2 * load.count
-  lines_count =
-      let sets = length_lines (set_line records) load.seed load.count in
-      let gets = length_lines (get_line records) load.seed load.count in
-      let both = length-append (set_lines records load.seed load.count) (get_lines records load.seed load.count) in
-      let all = ap length all_lines in
-      omega (arith, sets, gets, both, all)
+  lines_count = grind (arith, length_lines, length-append, all_lines)
 
   -- at each place
   pub set_at : (i : ℕ) → i < load.count → (rest : List Line) × (drop i (answered run) ≡ set_line records (generated load.seed (suc i)) ∷ rest)
@@ -167,12 +159,7 @@ module _ (g : Geometry) (opening : State) (load : Load) where
 
     -- so many lines were begun where all but one of them, or all, count
     made_before : (n k : ℕ) (s : Snapshot) → s.told ≡ old.told ++ opening_text run → n ≤ k + 1 → StandsAfter run (commits_among k marks) s.image → HasMadeBefore run old.told n s
-    made_before n k s told most stands = record {
-      opened = λ any. ([], told ∙ ap (λ (l : List ℕ). old.told ++ l) (sym (append-nil (opening_text run))));
-      k = commits_among k marks;
-      made = more_among (n - 1) k marks (omega (arith, most));
-      stands = stands;
-    }
+    made_before n k s told most stands = grind (arith, append-nil, more_among)
 
     has_begun : (n : ℕ) (now : Site) → n ≤ length (answered run) → Leaves (HasMadeBefore run old.told n) (now_of now) → HasBegunLoad run n old now
     has_begun n now few by = record { few = let count = turns_count opening run.lines [] in omega (arith, count, few); by = by }

@@ -1,6 +1,6 @@
 -- A run over the first lines, beside the run over all of them.
-use Rattle.face.proofs.Names.{◌≡◌, ◌⊎◌, inl, inr, ⊎_elim, ℕ, zero, suc, ◌+◌, ◌-◌, ◌≤◌, ◌<◌, Bool, true, false, List, [], ◌∷◌, ◌++◌, length, map, take, drop, get_or, refl, sym, ◌∙◌, ap, subst, arith, append_assoc, length-append, take-append-drop, flat_map, count_by, nat_eq, if◌then◌else◌, ◌||◌, list_any, starts_with, append-nil, length-map, length-take-le, map-append, take_all, take_at, flat_map-append, cases_lt, Snapshot, Geometry, CacheLine, Content, State, IsInRange, Line, Turn, after_commits, commit_marks, commits_among, is_committed, is_quit, later_listings, next_listing, replies, turn, turns, whole_texts, Stands, open_text, reply_text, HeardAll, commands_of, IsLeft, IsToldOf, first_texts, run_of, run_text, texts, IsFront, Run, turns_of}
-use Rattle.std.specs.Prelude.{filter, slice_index_or}
+use Rattle.face.proofs.Names.{◌≡◌, ◌⊎◌, inl, inr, ⊎_elim, ℕ, zero, suc, ◌+◌, ◌-◌, ◌≤◌, ◌<◌, Bool, true, false, List, [], ◌∷◌, ◌++◌, length, map, take, drop, get_or, refl, sym, ◌∙◌, ap, subst, arith, append_assoc, length-append, take-append-drop, flat_map, nat_eq, if◌then◌else◌, ◌||◌, list_any, starts_with, append-nil, length-map, length-take-le, map-append, take_all, take_at, flat_map-append, cases_lt, Snapshot, Geometry, CacheLine, Content, State, IsInRange, Line, Turn, after_commits, commit_marks, commits_among, is_committed, is_quit, later_listings, next_listing, replies, turn, turns, whole_texts, Stands, open_text, reply_text, HeardAll, commands_of, IsLeft, IsToldOf, first_texts, run_of, run_text, texts, IsFront, Run, turns_of}
+use Rattle.std.specs.Prelude.{filter}
 use Rattle.std.proofs.lemmas.List.{get_or_append_left, get_or-append_right, take-append-le}
 use Rattle.std.proofs.lemmas.List.Elements.{filter-append}
 use Rattle.std.proofs.lemmas.List.Sums.{length-filter}
@@ -58,12 +58,8 @@ among_all (suc w) (true ∷ a) = let few = among_all w a in omega (arith, few)
 among_all (suc w) (false ∷ a) = among_all w a
 
 marks_count : (ts : List Turn) → marked (commit_marks ts) ≡ length (filter (λ (t : Turn). is_committed t.reply) ts)
-marks_count [] = refl
-marks_count (t ∷ ts) = by (is_committed t.reply) (commit_marks ts) (filter (λ (u : Turn). is_committed u.reply) ts) (marks_count ts)
-  where
-    by : (b : Bool) (marks : List Bool) (ys : List Turn) → marked marks ≡ length ys → marked (b ∷ marks) ≡ length (if b then t ∷ ys else ys)
-    by true marks ys same = ap suc same
-    by false marks ys same = same
+marks_count [] = grind arith
+marks_count (t ∷ ts) = grind (arith, (marks_count ts))
 
 -- Texts.
 
@@ -86,11 +82,9 @@ record FrontParts (xs : List (List ℕ)) (told : List ℕ) : Type 0 where
   behind : whole ≡ length xs → rest ≡ []
 
 take_behind : (x rest : List ℕ) (k : ℕ) → length x ≤ k → take k (x ++ rest) ≡ x ++ take (k - length x) rest
-take_behind [] rest k le = ap (λ (n : ℕ). take n rest) (let same : k ≡ k - 0 = omega arith in same)
-take_behind (y ∷ x) rest zero le = absurd (omega (arith, le))
-take_behind (y ∷ x) rest (suc k) le =
-    let same : k - length x ≡ suc k - suc (length x) = omega arith in
-    ap (λ (l : List ℕ). y ∷ l) (take_behind x rest k (omega (arith, le)) ∙ ap (λ (n : ℕ). x ++ take n rest) same)
+take_behind [] rest k le = grind arith
+take_behind (y ∷ x) rest zero le = grind arith
+take_behind (y ∷ x) rest (suc k) le = grind (arith, (take_behind x rest k (omega (arith, le))))
 
 front_parts : (xs : List (List ℕ)) (k : ℕ) → FrontParts xs (take k (flat_map (λ (x : List ℕ). x) xs))
 front_parts [] k = record { whole = 0; few = omega arith; rest = []; told_is = take_all k [] (omega arith); within = λ less. absurd (omega (arith, less)); behind = λ e. refl }
@@ -121,10 +115,7 @@ short rest text more part e =
     let less = part.1 in omega (arith, one, two, less)
 
 nothing_begins : (text more : List ℕ) → Plain text → [] ≡ text ++ more → ⊥
-nothing_begins text more p e = never p.first p.second (p.more ++ more) (e ∙ ap (λ (l : List ℕ). l ++ more) p.is)
-  where
-    never : (a b : ℕ) (more : List ℕ) → [] ≡ a ∷ b ∷ more → ⊥
-    never a b more e = cc
+nothing_begins text more p e = grind (arith, p)
 
 -- what was told of a run has such parts
 parts : (run : Run) (fault told : List ℕ) → IsFault fault → IsToldOf run fault told → Parts (texts run) told
@@ -181,18 +172,13 @@ module _ (g : Geometry) (opening : State) (listings : List (List CacheLine)) (xs
   split = (turns_front opening xs more listings).1
 
   texts_split : texts all ≡ texts first ++ map reply_text (replies later)
-  texts_split =
-      ap (λ (l : List Turn). open_text opening.commits ∷ map reply_text (replies l)) split
-      ∙ ap (λ (l : List (List ℕ)). open_text opening.commits ∷ l) (ap (map reply_text) (map-append (λ (t : Turn). t.reply) (turns_of first) later) ∙ map-append reply_text (replies (turns_of first)) (replies later))
+  texts_split = grind (arith, split, map-append)
 
   marks_split : commit_marks (turns_of all) ≡ commit_marks (turns_of first) ++ commit_marks later
   marks_split = ap commit_marks split ∙ map-append (λ (t : Turn). is_committed t.reply) (turns_of first) later
 
   tables_split : committed_tables (turns_of all) ≡ committed_tables (turns_of first) ++ committed_tables later
-  tables_split =
-      ap committed_tables split
-      ∙ ap (map (λ (t : Turn). t.after.table)) (filter-append (λ (t : Turn). is_committed t.reply) (turns_of first) later)
-      ∙ map-append (λ (t : Turn). t.after.table) (filter (λ (t : Turn). is_committed t.reply) (turns_of first)) (filter (λ (t : Turn). is_committed t.reply) later)
+  tables_split = grind (arith, split, filter-append, map-append)
 
   text_split : run_text all ≡ run_text first ++ flat_map (λ (x : List ℕ). x) (map reply_text (replies later))
   text_split = ap (flat_map (λ (x : List ℕ). x)) texts_split ∙ flat_map-append (λ (x : List ℕ). x) (texts first) (map reply_text (replies later))
@@ -216,40 +202,16 @@ module _ (g : Geometry) (opening : State) (listings : List (List CacheLine)) (xs
     two = ap (whole_texts told) texts_split ∙ counted_more (texts first) (map reply_text (replies later)) told p (plain_replies later)
 
     long : length (texts first) ≡ suc (length (commit_marks (turns_of first)))
-    long = ap suc (length-map (replies (turns_of first)) reply_text ∙ length-map (turns_of first) (λ (t : Turn). t.reply) ∙ sym (length-map (turns_of first) (λ (t : Turn). is_committed t.reply)))
+    long = grind (arith, length-map)
 
     before : (p.whole - 1) ≤ length (commit_marks (turns_of first))
     before = let few = p.few in omega (arith, few, long)
 
     pub range_all : (k : ℕ) → IsInRange told (texts first) (commit_marks (turns_of first)) k → IsInRange told (texts all) (commit_marks (turns_of all)) k
-    range_all k r =
-        let marks = commit_marks (turns_of first) in
-        let others = commit_marks later in
-        let low : commits_among (p.whole - 1) marks ≤ k = subst (λ (n : ℕ). commits_among (n - 1) marks ≤ k) one r.at_least in
-        let high : k ≤ commits_among p.whole marks = subst (λ (n : ℕ). k ≤ commits_among n marks) one r.at_most in
-        let same : commits_among (p.whole - 1) (commit_marks (turns_of all)) ≡ commits_among (p.whole - 1) marks =
-        ap (λ (l : List Bool). count_by (λ (mark : Bool). mark) (take (p.whole - 1) l)) marks_split ∙ ap (count_by (λ (mark : Bool). mark)) (take-append-le (p.whole - 1) marks others before) in
-        let up : commits_among p.whole marks ≤ commits_among p.whole (commit_marks (turns_of all)) =
-        let fewer = among_more p.whole marks others in
-        let here = among_is p.whole marks in
-        let there = among_is p.whole (marks ++ others) in
-        let split = ap (commits_among p.whole) marks_split in
-        omega (arith, fewer, here, there, split) in
-        record {
-          at_least = subst (λ (n : ℕ). commits_among (n - 1) (commit_marks (turns_of all)) ≤ k) (sym two) (omega (arith, low, same));
-          at_most = subst (λ (n : ℕ). k ≤ commits_among n (commit_marks (turns_of all))) (sym two) (omega (arith, high, up));
-        }
+    range_all k r = grind (arith, p, one, marks_split, take-append-le, before, among_more, among_is, split, two)
 
     pub table_all : (k : ℕ) → IsInRange told (texts first) (commit_marks (turns_of first)) k → after_commits opening.table (turns_of first) k ≡ after_commits opening.table (turns_of all) k
-    table_all k r =
-        let marks = commit_marks (turns_of first) in
-        let high : k ≤ commits_among p.whole marks = subst (λ (n : ℕ). k ≤ commits_among n marks) one r.at_most in
-        let among = among_is p.whole marks in
-        let few = among_all p.whole marks in
-        let count = marks_count (turns_of first) in
-        let tables = length-map (filter (λ (t : Turn). is_committed t.reply) (turns_of first)) (λ (t : Turn). t.after.table) in
-        sym (ap (λ (l : List (List Content)). slice_index_or (opening.table ∷ l) k opening.table) tables_split
-        ∙ get_or_append_left (opening.table ∷ committed_tables (turns_of first)) (committed_tables later) opening.table k (omega (arith, high, among, few, count, tables)))
+    table_all k r = grind (arith, p, one, among_is, among_all, marks_count, length-map, tables_split, get_or_append_left)
 
   -- what is left of the first lines is left of all
   pub left_all : (so_far fault : List ℕ) (s : Snapshot) → IsFault fault → IsLeft first so_far fault s → IsLeft all so_far fault s

@@ -1,5 +1,6 @@
 -- What an image stands for.
-use Rattle.face.proofs.Names.{◌-◌, refl, sym, ◌∙◌, None, Geometry, Image, State, opened, Stands, Opens, BlankLaw}
+use Rattle.std.proofs.Common.{arith}
+use Rattle.face.proofs.Names.{◌-◌, refl, sym, ◌∙◌, Geometry, Image, State, opened, Stands, Opens, BlankLaw}
 use Rattle.image_meaning.specs.Laws.{BlankStands}
 use Rattle.face.specs.Image.{OneMeaning, OneOpening, OpensWhereItStands}
 
@@ -22,8 +23,4 @@ opens_where_it_stands g image table commits stands = (
 
 -- blank devices have no master
 pub blank_stands : BlankStands → BlankLaw
-blank_stands blank g limits =
-    let stands = blank g limits in (
-      record { newest = None; stands = stands },
-      record { newest = None; blocks = stands.blocks; sound = stands.sound; means = stands.means; state = refl },
-    )
+blank_stands blank g limits = grind arith

@@ -1,5 +1,5 @@
 -- Where memory is wanted before anything is done.
-use Rattle.face.proofs.Names.{◌≡◌, inl, inr, ℕ, [], refl, sym, subst, arith, true, Err, Result, Memory, Geometry, Site, Leaves, LeavesOnly, Failed, State, Serial, Halt, LoadContract, RunContract, IsGood, Headline, Tells, Run, first_lines, RunOutcome, numbers_rise, NeverOpens, run_of, Load, LoadHeadline, LoadTellsDone, LoadWorks, load_run, summary_text, Stands, LeavesTable, goes_nowhere, no_call, told_is, image_is, Image, now_of}
+use Rattle.face.proofs.Names.{inl, ℕ, [], refl, sym, subst, arith, true, Err, Result, Memory, Geometry, Site, Leaves, LeavesOnly, Failed, State, Serial, Halt, LoadContract, RunContract, IsGood, Headline, Tells, Run, first_lines, RunOutcome, numbers_rise, NeverOpens, run_of, Load, LoadHeadline, LoadTellsDone, LoadWorks, load_run, summary_text, Stands, LeavesTable, goes_nowhere, no_call, told_is, image_is, Image, now_of}
 use Rattle.front_end.specs.declared.halt.Halt.TheVariants as halt
 use Rattle.face.specs.TopCall.{NewContract}
 use Rattle.face.proofs.Pagings.{none_read}
@@ -63,33 +63,11 @@ lacked_load_run load old new result tells = load_contract load old new 4
     (status_causes lacks 4 old new refl tt) (λ e. omega (arith, e), λ e. omega (arith, e)) (λ honest. tells_fault lacks 4 old old new result refl tt (goes_nowhere old) honest tells)
 
 module _ (status : ℕ) (old new : Site) (l : LacksMemory status old new) where
-  abbrev is : status ≡ 4
-  is = l.0
-
   pub lacked_new : (g : Geometry) → New g old new status
-  lacked_new g = record {
-    line = memory_fault;
-    answer = inr (inr (inr (is, refl)));
-    any_moment = l.1.any_moment;
-    hands = l.1.hands;
-    devices = l.1.devices;
-    unread = λ none. l.1.reads;
-    few = λ dev. let same = l.1.reads dev in omega (arith, same);
-    ends = l.1.ends;
-    ready = λ honest zero. absurd (omega (arith, zero, is));
-  }
+  lacked_new g = grind arith
 
   pub lacked_new_causes : (g : Geometry) → NewCauses g old new status
-  lacked_new_causes g = record {
-    others = inr (inr (inl is));
-    device = λ e. absurd (omega (arith, e, is));
-    output = λ e. absurd (omega (arith, e, is));
-    foreign = λ e. absurd (omega (arith, e, is));
-    lengths = λ no. inr is;
-    notblank = λ honest e. absurd (omega (arith, e, is));
-    blank = λ honest lengths not_blank. inr (inr is);
-    complete = λ honest lengths blank none. inr is;
-  }
+  lacked_new_causes g = grind arith
 
   pub lacked_contract : (g : Geometry) → NewContract g old new status
   lacked_contract g = record { does = lacked_new g; causes = lacked_new_causes g }

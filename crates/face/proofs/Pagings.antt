@@ -1,6 +1,6 @@
 -- What a run asks of the page cache, line by line.
 use Rattle.engine.specs.LogReads.{restart_log_reads}
-use Rattle.face.proofs.Names.{start_reads, ◌≡◌, ℕ, suc, ◌+◌, ◌≤◌, Bool, true, false, List, [], ◌∷◌, ◌++◌, length, drop, arith, refl, sym, ap, subst, ◌∙◌, append_assoc, ◌-◌, Result, Ok, Option, Some, None, if◌then◌else◌, append-nil, SameReads, Flash, Disk, Log, Stop, Site, Image, State, Line, Turn, is_quit, left_by, turns, next_listing, later_listings, Outcome, refusal, outcome, ready, carried_through, fills_page, full, lacks_room, CacheLine, Reply, Command, CacheOp, line_touches, run_touches, LogRecord, Master, logical_image_under, Rules, rules_of, after_works, PageStore, EachMoment, TellsPart, unchanged, IsQuiet, HearsOnly, ReadsFor, Engine, Matches, sizes_of, QueueIsOnFlash, WhereItFits, WritesFrom, restart_works, cache_on, commands_of, up_to_quit, Geometry, IsPaged, HasLastStaged, cache_by, staged_by_run, LeavesStaged, Run, answered, first_lines, step, after_lines, state_at, works_of, AsksFew, turns_of, line_log_reads, asked_after, log_reads_after}
+use Rattle.face.proofs.Names.{start_reads, ◌≡◌, ℕ, suc, ◌+◌, ◌≤◌, Bool, true, false, List, [], ◌∷◌, ◌++◌, length, drop, arith, refl, sym, ap, subst, ◌∙◌, append_assoc, ◌-◌, Result, Ok, Option, if◌then◌else◌, append-nil, SameReads, Flash, Disk, Log, Stop, Site, Image, State, Line, Turn, is_quit, left_by, turns, next_listing, later_listings, CacheLine, CacheOp, line_touches, run_touches, LogRecord, Master, logical_image_under, Rules, rules_of, after_works, PageStore, EachMoment, TellsPart, unchanged, IsQuiet, HearsOnly, ReadsFor, Engine, Matches, sizes_of, QueueIsOnFlash, WhereItFits, WritesFrom, restart_works, cache_on, commands_of, up_to_quit, Geometry, IsPaged, cache_by, LeavesStaged, Run, answered, first_lines, step, after_lines, state_at, works_of, AsksFew, turns_of, line_log_reads, asked_after, log_reads_after}
 use Rattle.second_chance.specs.Machine.{Cache, opened}
 use Rattle.engine.proofs.Asking.{still_writes}
 use Rattle.face.proofs.Writings.{writes_told, writes_heard}
@@ -17,22 +17,8 @@ plain_after : State → List Line → State
 plain_after s [] = s
 plain_after s (line ∷ lines) = plain_after (step s line []).after lines
 
--- what a line leaves doesn't
-abbrev chosen : State → Command → List CacheLine → Bool → Option Reply → Outcome
-chosen s command listing lacks fills = if lacks then record { after = s; reply = full s } else carried_through s command listing fills
-
 pub after_same : (s : State) (line : Line) (listing other : List CacheLine) → (step s line listing).after ≡ (step s line other).after
-after_same s None listing other = refl
-after_same s (Some command) listing other = by (refusal s command)
-  where
-    way : (b : Bool) (o : Option Reply) → (chosen (ready s command) command listing b o).after ≡ (chosen (ready s command) command other b o).after
-    way true o = refl
-    way false (Some refused) = refl
-    way false None = refl
-
-    by : (o : Option Reply) → (outcome s command listing o).after ≡ (outcome s command other o).after
-    by (Some refused) = refl
-    by None = way (lacks_room (ready s command) command) (fills_page (ready s command) command)
+after_same s x1 listing other = grind arith
 
 plain_is : (s : State) (lines : List Line) (listings : List (List CacheLine)) → plain_after s lines ≡ after_lines s lines listings
 unfolding plain_after
@@ -45,20 +31,13 @@ same_after s lines listings other = sym (plain_is s lines listings) ∙ plain_is
 
 -- the work of some turns and of those behind them
 touches_join : (first later : List Turn) → run_touches (first ++ later) ≡ run_touches first ++ run_touches later
-touches_join [] later = refl
-touches_join (t ∷ first) later =
-    ap (λ (w : List CacheOp). line_touches t.before t.line ++ w) (touches_join first later) ∙ sym (append_assoc (line_touches t.before t.line) (run_touches first) (run_touches later))
+touches_join [] later = grind arith
+touches_join (t ∷ first) later = grind (arith, append_assoc, (touches_join first later))
 
 -- the turns of a run ask for what its lines do
 pub turns_ask : (s : State) (lines : List Line) (listings : List (List CacheLine)) → run_touches (turns s lines listings) ≡ works_of s (up_to_quit lines)
-turns_ask s [] listings = refl
-turns_ask s (line ∷ lines) listings =
-    by (is_quit line) (turns_ask (step s line (next_listing listings)).after lines (later_listings line listings) ∙ ap (λ (x : State). works_of x (up_to_quit lines)) (after_same s line (next_listing listings) []))
-  where
-    by : (b : Bool) → run_touches (turns (step s line (next_listing listings)).after lines (later_listings line listings)) ≡ works_of (step s line []).after (up_to_quit lines) →
-        line_touches s line ++ run_touches (if b then [] else turns (step s line (next_listing listings)).after lines (later_listings line listings)) ≡ line_touches s line ++ works_of (step s line []).after (if b then [] else up_to_quit lines)
-    by true later = refl
-    by false later = ap (λ (w : List CacheOp). line_touches s line ++ w) later
+turns_ask s [] listings = grind arith
+turns_ask s (line ∷ lines) listings = grind (arith, after_same, (turns_ask (step s line (next_listing listings)).after lines (later_listings line listings)))
 
 -- a line more asks for its own work behind that of the others
 pub asked_next : (run : Run) (newest : Option Master) (image : Image) (blocks : List (List LogRecord)) (i : ℕ) (line : Line) (rest : List Line) → drop i (answered run) ≡ line ∷ rest →
@@ -81,11 +60,7 @@ log_reads_join (t ∷ first) later = let rest = log_reads_join first later in om
 -- a line more
 pub log_reads_next : (run : Run) (newest : Option Master) (blocks : List (List LogRecord)) (i : ℕ) (line : Line) (rest : List Line) → drop i (answered run) ≡ line ∷ rest →
     log_reads_after run newest blocks (suc i) ≡ log_reads_after run newest blocks i + line_log_reads (state_at run i) line
-log_reads_next run newest blocks i line rest is =
-    let first = turns_of (first_lines run i) in
-    let all : log_reads_in (turns_of (first_lines run (suc i))) ≡ log_reads_in first + (line_log_reads (state_at run i) line + 0) =
-    ap log_reads_in (turns_next run i line rest is) ∙ log_reads_join first (turn_at run i line rest is ∷ []) in
-    omega (arith, all)
+log_reads_next run newest blocks i line rest is = grind (arith, turns_next, log_reads_join, turn_at)
 
 -- Reads.
 
@@ -116,10 +91,7 @@ few_heard pool g works n old mid now same few = record {
 }
 
 none_read_there : (r : Rules) (works : List CacheOp) (cache : Cache) (extra : ℕ) (site : Site) → NumbersRise → 1 ≤ r.groups → ReadsFor r works cache (record site { flash_reads = site.flash_reads + extra }) site
-none_read_there r works cache extra site rise some = record {
-  flash = let more = rise r works cache some in omega (arith, more);
-  disk = omega arith;
-}
+none_read_there r works cache extra site rise some = grind arith
 
 pub none_read : (pool : ℕ) (g : Geometry) (works : List CacheOp) (n : ℕ) (site : Site) → NumbersRise → 1 ≤ g.groups - 1 → IsQuiet site → AsksFew pool g works n site site
 none_read pool g works n site rise some quiet = record {
@@ -137,10 +109,7 @@ module _ (pool : ℕ) (run : Run) (newest : Option Master) (image : Image) (bloc
   -- the restart
   pub first_paged : (engine : Engine) (scanned : ℕ) (old new : Site) → AsksFrom {T = Engine} (Ok engine) (λ e. e.store.pages) r (restart_works (logical_image_under newest run.geometry image blocks)) (cache_on run.geometry image) scanned old new →
       IsPaged pool run newest image blocks engine 0
-  first_paged engine scanned old new asks = record {
-    machine = asks.machine.0 ∙ ap (λ (w : List CacheOp). after_works r w (cache_on run.geometry image)) (sym (append-nil (restart_works (logical_image_under newest run.geometry image blocks))));
-    rules_are = asks.machine.1;
-  }
+  first_paged engine scanned old new asks = grind (arith, append-nil)
 
   pub first_reads : {T : Type 0} (result : Result T Stop) (pages : T → PageStore) (old mid new : Site) → SameReads mid new → WritesFrom run.geometry r (restart_works (logical_image_under newest run.geometry image blocks)) (cache_on run.geometry old.image) old new → AsksFrom result pages r (restart_works (logical_image_under newest run.geometry image blocks)) (cache_on run.geometry old.image) (start_reads run.geometry) old mid →
       mid.log_reads ≤ old.log_reads + restart_log_reads run.geometry newest blocks → AsksFew pool run.geometry (asked_after run newest image blocks 0) (log_reads_after run newest blocks 0) old new
@@ -159,10 +128,7 @@ module _ (pool : ℕ) (run : Run) (newest : Option Master) (image : Image) (bloc
   -- and the versions show what is seen
   pub paged_versions : WhereItFits → (engine : Engine) (site : Site) (i : ℕ) → Matches engine site (state_at run i) → sizes_of engine.store ≡ run.geometry → IsPaged pool run newest image blocks engine i →
       VersionsAreSeen run.geometry (after_works r (asked_after run newest image blocks i) (cache_on run.geometry image)).pool site.image (left_by run.opening (turns_of (first_lines run i)))
-  paged_versions law engine site i fits sizes paged =
-      subst (VersionsAreSeen run.geometry (after_works r (asked_after run newest image blocks i) (cache_on run.geometry image)).pool site.image) (state_by_turns run i)
-      (subst (λ (g : Geometry). VersionsAreSeen g (after_works r (asked_after run newest image blocks i) (cache_on run.geometry image)).pool site.image (state_at run i)) sizes
-      (subst (λ (c : Cache). VersionsAreSeen (sizes_of engine.store) c.pool site.image (state_at run i)) paged.machine (law engine site (state_at run i) fits)))
+  paged_versions law engine site i fits sizes paged = grind (arith, state_by_turns)
 
 -- Whole runs.
 
@@ -187,8 +153,7 @@ taken_first false left octets rest is none =
     (front.0, ap (λ (l : List ℕ). up_to_quit (commands_of true l)) is ∙ ap up_to_quit first.1 ∙ front.1)
 
 pub leaves_staged : (pool : ℕ) (run : Run) (n : ℕ) → length (answered run) ≤ n → (old new : Site) → LeavesStaged pool (first_lines run n) old new → LeavesStaged pool run old new
-leaves_staged pool run n few old new last newest blocks sound =
-    subst (λ (l : List Turn). HasLastStaged run.geometry (staged_by_run pool run l newest old.image blocks) old new) (whole_turns run n few) (last newest blocks sound)
+leaves_staged pool run n few old new last newest blocks sound = grind (arith, whole_turns)
 
 -- Where all of a run's lines are among the first ones, what holds of these holds of it.
 module _ (pool : ℕ) (run : Run) (n : ℕ) (few : length (answered run) ≤ n) (image : Image) where

@@ -1,6 +1,7 @@
 -- What was told whole, counted; and the commits that it allows.
-use Rattle.face.proofs.Names.{◌≡◌, ◌⊎◌, inl, inr, ⊎_elim, ℕ, zero, suc, ◌+◌, ◌-◌, ◌≤◌, ◌<◌, Bool, true, false, List, [], ◌∷◌, ◌++◌, length, take, drop, get_or, refl, sym, ◌∙◌, ap, subst, arith, append_assoc, length-append, take-append-drop, flat_map, map, count_by, nat_eq, if◌then◌else◌, starts_with, drop_at, length-take-le, take_all, take_at, Snapshot, Image, Device, Memory, Worn, Foreign, Content, State, Outcome, Line, Turn, replies, next_listing, later_listings, whole_texts, is_committed, commit_marks, commits_among, after_commits, CacheLine, Reply, Halt, Stands, open_text, reply_text, fault_line, Run, answered, step, after_lines, state_at, StandsAt, IsFront, turns_of, texts, text_at, first_texts, run_text, all_commits, StandsAfter, IsToldOf, IsLeft, StandsNear}
+use Rattle.face.proofs.Names.{◌≡◌, ◌⊎◌, inl, inr, ⊎_elim, ℕ, zero, suc, ◌+◌, ◌-◌, ◌≤◌, ◌<◌, Bool, true, false, List, [], ◌∷◌, ◌++◌, length, take, drop, get_or, refl, sym, ◌∙◌, ap, arith, append_assoc, length-append, take-append-drop, flat_map, map, count_by, nat_eq, starts_with, drop_at, length-take-le, take_all, take_at, Snapshot, Image, State, Outcome, Line, Turn, replies, next_listing, later_listings, whole_texts, is_committed, commit_marks, commits_among, after_commits, CacheLine, Reply, Halt, open_text, reply_text, fault_line, Run, answered, step, after_lines, state_at, StandsAt, IsFront, turns_of, texts, text_at, first_texts, run_text, all_commits, StandsAfter, IsToldOf, IsLeft, StandsNear}
 use Rattle.std.proofs.lemmas.Slice.Eq.{starts_is}
+use Rattle.std.proofs.lemmas.Grind.{common_steps}
 use Rattle.std.proofs.lemmas.Bool.Decides.{Decides-eqb}
 use Rattle.std.proofs.lemmas.Bool.{false_from_ne_true}
 use Rattle.record_model.specs.Laws.{IsCountedIn, IsCountedAt}
@@ -8,7 +9,6 @@ use Rattle.record_model.proofs.StepLaws.{commits_once}
 use Rattle.record_model.proofs.RunLaws.{commits_make_the_table}
 use Rattle.record_model.specs.declared.words.Reply.TheVariants as reply
 use Rattle.record_model.specs.declared.words.CacheLine.TheVariants.{Frame, Pool}
-use Rattle.front_end.specs.declared.halt.Halt.TheVariants as halt
 use Rattle.face.proofs.Turns.{states_are, turns_count}
 use Rattle.face.proofs.Runs.{texts_count}
 
@@ -29,17 +29,10 @@ begins_not told text none = false_from_ne_true (starts_with nat_eq told text) (�
 
 -- the whole texts are counted
 pub counts : (xs : List (List ℕ)) (w : ℕ) (rest : List ℕ) → w ≤ length xs → (w < length xs → starts_with nat_eq rest (get_or xs w []) ≡ false) → whole_texts (flat_map (λ (x : List ℕ). x) (take w xs) ++ rest) xs ≡ w
-counts [] zero rest le un = refl
-counts [] (suc w) rest le un = absurd (omega (arith, le))
-counts (x ∷ xs) zero rest le un = λ i. if un (omega arith) i then 1 + whole_texts (drop (length x) rest) xs else 0
-counts (x ∷ xs) (suc w) rest le un =
-    let told = flat_map (λ (x : List ℕ). x) (take w xs) ++ rest in
-    let same : flat_map (λ (x : List ℕ). x) (take (suc w) (x ∷ xs)) ++ rest ≡ x ++ told = append_assoc x (flat_map (λ (x : List ℕ). x) (take w xs)) rest in
-    let one : 1 + w ≡ suc w = omega arith in
-    ap (λ (l : List ℕ). whole_texts l (x ∷ xs)) same
-    ∙ (λ i. if begins x told i then 1 + whole_texts (drop (length x) (x ++ told)) xs else 0)
-    ∙ ap (λ (l : List ℕ). 1 + whole_texts l xs) (drop_at x told (length x) refl)
-    ∙ ap (λ (n : ℕ). 1 + n) (counts xs w rest (omega (arith, le)) (λ less. un (omega (arith, less)))) ∙ one
+counts [] zero rest le un = grind arith
+counts [] (suc w) rest le un = grind arith
+counts (x ∷ xs) zero rest le un = grind arith
+counts (x ∷ xs) (suc w) rest le un = grind (arith, append_assoc, begins, drop_at, (counts xs w rest (omega (arith, le)) (λ less. un (omega (arith, less)))))
 
 -- the first two octets of a text aren't those of a fault line
 pub record Plain (text : List ℕ) : Type 0 where
@@ -50,24 +43,24 @@ pub record Plain (text : List ℕ) : Type 0 where
   pub other : (first ≡ 102) → (second ≡ 97) → ⊥
 
 pub plain_text : (r : Reply) → Plain (reply_text r)
-plain_text (reply.Value value) = record { first = 118; second = 97; more = _; is = refl; other = λ a b. omega (arith, a) }
-plain_text reply.Nothing = record { first = 110; second = 111; more = _; is = refl; other = λ a b. omega (arith, a) }
-plain_text (reply.Committed count) = record { first = 99; second = 111; more = _; is = refl; other = λ a b. omega (arith, a) }
-plain_text reply.Done = record { first = 111; second = 107; more = _; is = refl; other = λ a b. omega (arith, a) }
-plain_text reply.Aborted = record { first = 97; second = 98; more = _; is = refl; other = λ a b. omega (arith, a) }
-plain_text (reply.Back count) = record { first = 98; second = 97; more = _; is = refl; other = λ a b. omega (arith, a) }
-plain_text reply.Checked = record { first = 99; second = 104; more = _; is = refl; other = λ a b. omega (arith, a) }
-plain_text (reply.Items []) = record { first = 101; second = 110; more = _; is = refl; other = λ a b. omega (arith, a) }
-plain_text (reply.Items (item ∷ items)) = record { first = 105; second = 116; more = _; is = refl; other = λ a b. omega (arith, a) }
-plain_text (reply.Listing []) = record { first = 101; second = 110; more = _; is = refl; other = λ a b. omega (arith, a) }
-plain_text (reply.Listing (Frame group index page valid dirty referenced ∷ lines)) = record { first = 102; second = 114; more = _; is = refl; other = λ a b. omega (arith, b) }
-plain_text (reply.Listing (Pool page changed ∷ lines)) = record { first = 112; second = 111; more = _; is = refl; other = λ a b. omega (arith, a) }
-plain_text (reply.Stat stat) = record { first = 115; second = 116; more = _; is = refl; other = λ a b. omega (arith, a) }
-plain_text reply.Bye = record { first = 98; second = 121; more = _; is = refl; other = λ a b. omega (arith, a) }
-plain_text (reply.Busy session) = record { first = 98; second = 117; more = _; is = refl; other = λ a b. omega (arith, a) }
-plain_text (reply.Full used owed cap) = record { first = 102; second = 117; more = _; is = refl; other = λ a b. omega (arith, b) }
-plain_text (reply.PageFull page need) = record { first = 102; second = 117; more = _; is = refl; other = λ a b. omega (arith, b) }
-plain_text (reply.Refused why) = record { first = 114; second = 101; more = _; is = refl; other = λ a b. omega (arith, a) }
+plain_text (reply.Value value) = grind arith
+plain_text reply.Nothing = grind arith
+plain_text (reply.Committed count) = grind arith
+plain_text reply.Done = grind arith
+plain_text reply.Aborted = grind arith
+plain_text (reply.Back count) = grind arith
+plain_text reply.Checked = grind arith
+plain_text (reply.Items []) = grind arith
+plain_text (reply.Items (item ∷ items)) = grind arith
+plain_text (reply.Listing []) = grind arith
+plain_text (reply.Listing (Frame group index page valid dirty referenced ∷ lines)) = grind arith
+plain_text (reply.Listing (Pool page changed ∷ lines)) = grind arith
+plain_text (reply.Stat stat) = grind arith
+plain_text reply.Bye = grind arith
+plain_text (reply.Busy session) = grind arith
+plain_text (reply.Full used owed cap) = grind arith
+plain_text (reply.PageFull page need) = grind arith
+plain_text (reply.Refused why) = grind arith
 
 pub plain_opening : (n : ℕ) → Plain (open_text n)
 plain_opening n = record { first = 111; second = 112; more = _; is = refl; other = λ a b. omega (arith, a) }
@@ -84,13 +77,7 @@ plain_texts run (suc i) less = plain_replies (turns_of run) i (omega (arith, les
 
 -- a fault line is none, or begins with fa
 fault_begins : (h : Halt) → (fault_line h ≡ []) ⊎ ((more : List ℕ) × (fault_line h ≡ 102 ∷ 97 ∷ more))
-fault_begins (halt.Stop (Device dev)) = inr (_, refl)
-fault_begins (halt.Stop Memory) = inr (_, refl)
-fault_begins (halt.Stop (Worn dev)) = inr (_, refl)
-fault_begins (halt.Stop Foreign) = inr (_, refl)
-fault_begins halt.Input = inr (_, refl)
-fault_begins halt.Output = inl refl
-fault_begins halt.Limit = inr (_, refl)
+fault_begins x0 = grind arith
 
 no_front : (a b : ℕ) (more rest more' : List ℕ) (k : ℕ) → take k (102 ∷ 97 ∷ more') ≡ (a ∷ b ∷ more) ++ rest → (a ≡ 102) × (b ≡ 97)
 no_front a b more rest more' zero is = cc
@@ -102,11 +89,7 @@ not_empty a b more rest zero is = cc
 not_empty a b more rest (suc k) is = cc
 
 pub not_in_fault : (text fault rest : List ℕ) → Plain text → IsFault fault → IsFront rest fault → (more : List ℕ) → rest ≡ text ++ more → ⊥
-not_in_fault text fault rest p is front more e =
-    let front_is : take front.0 fault ≡ (p.first ∷ p.second ∷ p.more) ++ more = sym front.1 ∙ e ∙ ap (λ (l : List ℕ). l ++ more) p.is in
-    let none : fault ≡ [] → ⊥ = λ empty. not_empty p.first p.second p.more more front.0 (ap (take front.0) (sym empty) ∙ front_is) in
-    ⊎_elim none (λ line. ⊎_elim (λ empty. none (line.1 ∙ empty)) (λ begins.
-    let both = no_front p.first p.second p.more more begins.0 front.0 (ap (take front.0) (sym (line.1 ∙ begins.1)) ∙ front_is) in p.other both.0 both.1) (fault_begins line.0)) is
+not_in_fault text fault rest p is front more e = grind (arith, not_empty, begins, no_front, fault_begins)
 
 -- commits never fall
 
@@ -138,32 +121,23 @@ module _ (run : Run) where
 
   -- the table after some lines is the one after some commits
   pub stands_after : (i : ℕ) (image : Image) → StandsAt run i image → StandsAfter run (commits_among i marks) image
-  stands_after i image stands =
-      subst (λ (n : ℕ). Stands run.geometry image (after_commits run.opening.table (turns_of run) (commits_among i marks)) n) (commits_are i)
-      (subst (λ (t : List Content). Stands run.geometry image t (state_at run i).commits) (table_is i) stands)
+  stands_after i image stands = grind (arith, commits_are, table_is)
 
   among_up : (i : ℕ) → commits_among i marks ≤ commits_among (suc i) marks
   among_up i = let up = one_up run.opening (answered run) run.listings i in let one = commits_are i in let two = commits_are (suc i) in omega (arith, up, one, two)
 
   near_up : (whole : ℕ) → commits_among (whole - 1) marks ≤ commits_among whole marks
-  near_up zero = omega arith
-  near_up (suc i) = let before : suc i - 1 ≡ i = omega arith in let same = ap (λ (n : ℕ). commits_among n marks) before in let up = among_up i in omega (arith, same, up)
+  near_up x0 = grind (arith, among_up)
 
   length-marks : length marks ≡ length (answered run)
-  length-marks = length-map-marks (turns_of run) ∙ turns_count run.opening run.lines run.listings
-    where
-      length-map-marks : (ts : List Turn) → length (commit_marks ts) ≡ length ts
-      length-map-marks [] = refl
-      length-map-marks (t ∷ ts) = ap suc (length-map-marks ts)
+  length-marks = grind (arith, common_steps, turns_count)
 
   -- after all lines all commits are made
   pub all_among : commits_among (length (answered run)) marks ≡ all_commits run
   all_among = ap (count_by (λ (mark : Bool). mark)) (take_all (length (answered run)) marks (let same = length-marks in omega (arith, same)))
 
   pub all_text : first_texts run (length (answered run) + 1) ≡ run_text run
-  all_text =
-      let long = texts_count run in
-      ap (flat_map (λ (x : List ℕ). x)) (take_all (length (answered run) + 1) (texts run) (omega (arith, long)))
+  all_text = grind (arith, texts_count, take_all)
 
   -- what is told of the texts, as a front of all of them
   text_split : (xs : List (List ℕ)) (w : ℕ) → w < length xs → flat_map (λ (x : List ℕ). x) xs ≡ flat_map (λ (x : List ℕ). x) (take w xs) ++ (get_or xs w [] ++ flat_map (λ (x : List ℕ). x) (drop (suc w) xs))
@@ -215,14 +189,4 @@ module _ (run : Run) where
 
     -- what is left then is in the range of what was told
     pub is_left : s.told ≡ so_far ++ (first_texts run whole ++ rest) → StandsNear run whole s.image → IsLeft run so_far fault s
-    is_left is stands = record {
-      told = told;
-      told_is = is;
-      is_told = is_told;
-      k = stands.0;
-      in_range = record {
-        at_least = subst (λ (w : ℕ). commits_among (w - 1) marks ≤ stands.0) (sym whole_is) stands.1;
-        at_most = subst (λ (w : ℕ). stands.0 ≤ commits_among w marks) (sym whole_is) stands.2;
-      };
-      stands = stands.3;
-    }
+    is_left is stands = grind (arith, is_told, whole_is)

@@ -1,8 +1,7 @@
 -- The numbers of the rings, life after life.
-use Rattle.face.proofs.Names.{◌≡◌, ◌⊎◌, inl, inr, ℕ, zero, suc, ◌+◌, ◌*◌, ◌≤◌, List, [], ◌++◌, true, refl, sym, ap, subst, arith, Option, Site, Image, Moment, Snapshot, now_of, HasLimits, Leaves, LeavesOnly, since, Geometry, hi_of, group_shape, log_shape, master_shape, CacheLine, State, Line, run_touches, LogRecord, Master, logical_image_under, rules_of, groups_add_up, IsSound, log_under, cache_on, restart_works, next_group, HasNumbers, WritesOnly, IsGood, AsksNoMore, GivesNumbers, SkipsNoNumber, cache_by, made_by, run_of, staged_by_run, Run, turns_of, load_run, WearsNone}
-use Rattle.std.specs.Prelude.{Contains}
+use Rattle.face.proofs.Names.{◌≡◌, ℕ, zero, suc, ◌+◌, ◌*◌, ◌≤◌, List, [], true, refl, sym, ap, subst, arith, Option, Site, Image, Snapshot, HasLimits, LeavesOnly, Geometry, hi_of, group_shape, log_shape, master_shape, CacheLine, State, Line, LogRecord, Master, groups_add_up, IsSound, log_under, next_group, HasNumbers, WritesOnly, IsGood, AsksNoMore, GivesNumbers, SkipsNoNumber, cache_by, made_by, run_of, staged_by_run, Run, turns_of, load_run, WearsNone}
+use Rattle.std.proofs.lemmas.Grind.{common_steps}
 use Rattle.std.proofs.Math.Nat.{suc-mul}
-use Rattle.std.proofs.lemmas.List.Elements.{All-contains, All-from_recursion}
 use Rattle.site.specs.Geometry.{blank_image}
 use Rattle.sealed_ring.specs.Laws.{BlankIsRing}
 use Rattle.image_changes.specs.Rings.{Blocks, Groups, Masters}
@@ -15,11 +14,7 @@ use Rattle.face.proofs.RingCounts.{never_by_counts}
 
 -- what holds of all that a crash may leave
 left_has : (old new : Site) (P : Snapshot → Type 0) → LeavesOnly old new P → (s : Snapshot) → MayBeLeft old new s → P s
-left_has old new P leaves s left = by left.at
-  where
-    by : Contains (since old new) left.moment ⊎ (left.moment ≡ now_of new) → P s
-    by (inl among) = All-contains (Leaves P) (since old new) left.moment (All-from_recursion (Leaves P) (since old new) leaves.each) among s left.left
-    by (inr now) = subst (λ (m : Moment). Leaves P m) (sym now) leaves.now s left.left
+left_has old new P leaves s left = grind (arith, common_steps)
 
 -- Groups.
 
@@ -27,15 +22,7 @@ module _ (work_pushes : WorkPushesFew) (lines_push : LinesPushFew) where
   -- the restart and the lines of a run push no more than so
   run_pushes : (pool : ℕ) (run : Run) → HasLimits run.geometry → (newest : Option Master) (image : Image) (blocks : List (List LogRecord)) → IsSound newest run.geometry image blocks
       → next_group (cache_by pool run (turns_of run) newest image blocks) ≤ hi_of (group_shape run.geometry) image.flash + (42 * run.geometry.blocks + reads_in (turns_of run) + 2 * made_by run)
-  run_pushes pool run limits newest image blocks sound =
-      let restart = restart_works (logical_image_under newest run.geometry image blocks) in
-      let lines = run_touches (turns_of run) in
-      let all = work_pushes (rules_of pool run.geometry.groups) (restart ++ lines) (cache_on run.geometry image) (omega (arith, limits.groups)) in
-      let entry = number_at_entry run.geometry image in
-      let join = groups_add_up restart lines in
-      let first = restart_few run.geometry newest image blocks sound in
-      let later = lines_push run.opening run.lines run.listings in
-      omega (arith, all, entry, join, first, later)
+  run_pushes pool run limits newest image blocks sound = grind (arith, number_at_entry, groups_add_up, restart_few)
 
 -- One call.
 
@@ -94,19 +81,7 @@ module _ (ring_of_zeros : BlankIsRing) (work_pushes : WorkPushesFew) (lines_push
       }
 
   given_more : (lives : ℕ) (done more : Work) (before after : Image) → HasGiven g lives done before → RisesBy g more before after → HasGiven g (suc lives) (both done more) after
-  given_more lives done more before after has risen =
-      let blocks = has.on_log.blocks in
-      let masters = has.on_log.masters in
-      let groups = has.groups in
-      let blocks' = risen.on_log.blocks in
-      let masters' = risen.on_log.masters in
-      let groups' = risen.groups in
-      let product = suc-mul lives g.blocks in
-      let product' = suc-mul lives (42 * g.blocks) in
-      record {
-        on_log = record { blocks = omega (arith, blocks, blocks', product); masters = omega (arith, masters, masters') };
-        groups = omega (arith, groups, groups', product');
-      }
+  given_more lives done more before after has risen = grind (arith, suc-mul)
 
   numbers : (lives : ℕ) (work : Work) (image : Image) → HaveLives g lives work image → HasGiven g lives work image
   numbers zero work image h = subst (λ (w : Work). HasGiven g 0 w image) (sym h.1) (subst (HasGiven g 0 no_work) (sym h.0) blank_given)

@@ -55,7 +55,7 @@ module _ (run : Run) where
     turns_next = next_turn run.opening run.lines run.listings i line rest is
 
     turns_long : length (turns_of (first_lines run i)) ≡ i
-    turns_long = let less = below (answered run) i line rest is in turns_count run.opening (take i run.lines) run.listings ∙ ap (λ (l : List Line). length l) (lines_first run i) ∙ length-take-le i (answered run) (omega (arith, less))
+    turns_long = grind (arith, below, turns_count, lines_first, length-take-le)
 
     pub text_next : text_at run (suc i) ≡ reply_text (step (state_at run i) line (listing_at run i)).reply
     text_next =

@@ -1,5 +1,5 @@
 -- A run from its restart to its end.
-use Rattle.face.proofs.Names.{◌≡◌, ◌≢◌, ⊎_elim, ℕ, suc, ◌+◌, ◌≤◌, List, [], ◌∷◌, ◌++◌, length, take, drop, refl, sym, ◌∙◌, ap, subst, arith, append_assoc, add-one, append-nil, length-take-le, take_all, Site, Image, Snapshot, MayLeave, now_of, no_loose, IsQuiet, Preserves, Leaves, LeavesOnly, EachMoment, in_sequence, leaves_weaker, image_is, calm, now_same, holds_now, tell_leaves, TellsPart, Geometry, State, Line, Engine, Stands, LeavesTable, sizes_of, open_text, reply_text, Halt, status_of, HearsOnly, TellsDone, HasBegun, IsLeft, IsWhole, StandsAfter, first_texts, text_at, Run, answered, first_lines, step, state_at, listing_at, StandsFor, StandsAt, LeavesAnswer, StandsNear, Stops, RunInProgress, HasServed}
+use Rattle.face.proofs.Names.{◌≡◌, ◌≢◌, ⊎_elim, ℕ, suc, ◌+◌, ◌≤◌, List, [], ◌∷◌, ◌++◌, length, take, drop, refl, sym, ◌∙◌, ap, subst, arith, append_assoc, add-one, append-nil, length-take-le, take_all, Site, Image, Snapshot, MayLeave, now_of, no_loose, IsQuiet, Preserves, Leaves, LeavesOnly, EachMoment, in_sequence, leaves_weaker, image_is, calm, now_same, holds_now, tell_leaves, TellsPart, State, Line, Engine, Stands, LeavesTable, sizes_of, open_text, reply_text, Halt, status_of, HearsOnly, TellsDone, HasBegun, IsLeft, IsWhole, StandsAfter, first_texts, text_at, Run, answered, first_lines, step, state_at, listing_at, StandsFor, StandsAt, LeavesAnswer, StandsNear, Stops, RunInProgress, HasServed}
 use Rattle.front_end.specs.declared.halt.Halt.TheVariants.{Output}
 use Rattle.face.proofs.Logs.{fits_stands}
 use Rattle.face.proofs.Fronts.{lines_first, told_first}
@@ -14,8 +14,7 @@ stands_now : (run : Run) (now : Site) (i : ℕ) → now.loose ≡ no_loose → S
 stands_now run now i quiet stands s left = subst (λ (x : Image). StandsAt run i x) (sym (image_is (now_of now) s quiet left)) stands
 
 pub going_stands : {pool : ℕ} (run : Run) (entry now : Site) (engine : Engine) (i : ℕ) → HasServed pool run entry now engine i → StandsAt run i now.image
-going_stands run entry now engine i going =
-    subst (λ (g : Geometry). StandsFor g now.image (state_at run i)) going.geometry (fits_stands engine now (state_at run i) going.going.store.both.sizes going.fits)
+going_stands run entry now engine i going = grind (arith, fits_stands)
 
 -- restart
 
@@ -120,7 +119,7 @@ module _ {pool : ℕ} (run : Run) (entry mid : Site) (engine : Engine) (i : ℕ)
   module _ (new : Site) (line : Line) (rest : List Line) (is : drop i (answered run) ≡ line ∷ rest)
       (leaves : LeavesOnly mid new (LeavesAnswer (sizes_of engine.store) (state_at run i) (step (state_at run i) line (listing_at run i)).after (reply_text (step (state_at run i) line (listing_at run i)).reply) mid.told)) where
     leaves' : LeavesOnly mid new (LeavesAnswer run.geometry (state_at run i) (step (state_at run i) line (listing_at run i)).after (reply_text (step (state_at run i) line (listing_at run i)).reply) mid.told)
-    leaves' = subst (λ (g : Geometry). LeavesOnly mid new (LeavesAnswer g (state_at run i) (step (state_at run i) line (listing_at run i)).after (reply_text (step (state_at run i) line (listing_at run i)).reply) mid.told)) going.geometry leaves
+    leaves' = grind arith
 
     told_suc : mid.told ≡ entry.told ++ first_texts run (suc i)
     told_suc = going.told ∙ ap (λ (n : ℕ). entry.told ++ first_texts run n) (add-one i)

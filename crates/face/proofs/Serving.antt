@@ -98,10 +98,7 @@ module _ (pool : ℕ) (run : Run) (entry mid : Site) (engine : Engine) (i : ℕ)
 
       -- what holds of the pages holds of the machine behind what was asked so far
       behind : (F : Geometry → Rules → Cache → Type 0) → F engine.store.pages.flash.geometry (rules engine.store.pages) (cache_of engine.store.pages) → F run.geometry r (after_works r first start)
-      behind F x =
-          let p = so_far.paged newest blocks sound in
-          subst (λ (z : Cache). F run.geometry r z) p.machine (subst (λ (y : Rules). F run.geometry y (cache_of engine.store.pages)) p.rules_are
-          (subst (λ (g : Geometry). F g (rules engine.store.pages) (cache_of engine.store.pages)) so_far.geometry x))
+      behind F x = grind arith
 
       own_writes : WritesFrom run.geometry r own (after_works r first start) mid new
       own_writes = behind (λ g y z. WritesFrom g y own z mid new) (does.asks.writes queue_is so_far.quiet)
@@ -120,12 +117,7 @@ module _ (pool : ℕ) (run : Run) (entry mid : Site) (engine : Engine) (i : ℕ)
           (last_works run.geometry r first own start entry mid new (so_far.reads newest blocks sound).writes own_writes (so_far.staged newest blocks sound) (behind (λ g y z. HasLastFrom g y own z mid new) last))) (does.asks.last queue_is so_far.quiet)
 
       line_paged : OnOk result (IsPaged pool run newest entry.image blocks engine' (suc i))
-      line_paged =
-          let was = behind (λ g y z. after_works (rules engine.store.pages) own (cache_of engine.store.pages) ≡ after_works y own z) refl in
-          ok_as result (cache_of engine'.store.pages ≡ after_works (rules engine.store.pages) own (cache_of engine.store.pages)) _ (λ machine. record {
-            machine = machine ∙ was ∙ sym (ops_compose r first own start) ∙ ap (λ (w : List CacheOp). after_works r w start) (sym more);
-            rules_are = does.asks.rules_are ∙ (so_far.paged newest blocks sound).rules_are;
-          }) does.asks.machine
+      line_paged = grind (arith, behind, ok_as, ops_compose, more, does)
 
       line_mirrored : OnOk result (IsMirrored pool run newest entry.image blocks engine' new (suc i))
       line_mirrored = ok_as result _ _ (λ done. performs_as (rings_next run newest entry.image blocks i line rest is)

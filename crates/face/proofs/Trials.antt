@@ -1,6 +1,7 @@
 -- The lives of a script, one after the other.
-use Rattle.face.proofs.Names.{◌≡◌, ◌≢◌, ◌⊎◌, inl, inr, ⊎_elim, ℕ, zero, suc, ◌+◌, ◌-◌, ◌≤◌, ◌<◌, List, [], ◌∷◌, ◌++◌, length, take, drop, refl, sym, ◌∙◌, ap, subst, arith, add-one, append_assoc, length-append, take-append-drop, IsTrue, Option, Some, None, Result, Ok, Err, append-nil, take_all, take_at, Input, Site, Image, MayLeave, no_loose, now_of, Preserves, Rose, SameReads, calm, each_weaker, goes_in_sequence, goes_nowhere, in_sequence, no_call, now_same, rose_then, stays_honest, EachMoment, TellsPart, Geometry, Failed, Device, Memory, Worn, Foreign, started, lives_of, state_of, MemSite, Halt, BlankLaw, HearsOnly, Finds, HasLivedOne, IsFront, Tells, fault_line, status_of, Between, ends_with}
-use Rattle.std.specs.Prelude.{min, OnErr, slice_get, slice_range}
+use Rattle.face.proofs.Names.{◌≡◌, ◌≢◌, ◌⊎◌, inl, ⊎_elim, ℕ, zero, suc, ◌+◌, ◌-◌, ◌≤◌, ◌<◌, List, [], ◌∷◌, ◌++◌, length, take, drop, refl, sym, ◌∙◌, ap, subst, arith, add-one, append_assoc, length-append, take-append-drop, IsTrue, Option, Some, None, Result, Ok, Err, append-nil, take_all, take_at, Input, Site, Image, MayLeave, no_loose, now_of, Preserves, Rose, SameReads, calm, each_weaker, goes_in_sequence, goes_nowhere, in_sequence, no_call, now_same, rose_then, stays_honest, EachMoment, TellsPart, Geometry, Failed, Memory, started, lives_of, state_of, MemSite, Halt, BlankLaw, HearsOnly, Finds, HasLivedOne, IsFront, Tells, fault_line, status_of, Between, ends_with}
+use Rattle.std.specs.Prelude.{OnErr, slice_get, slice_range}
+use Rattle.std.proofs.lemmas.Grind.{common_steps}
 use Rattle.site.proofs.Laws.{now_leaves}
 use Rattle.mem_site.specs.Crash.{image_left}
 use Rattle.mem_site.specs.MemState.{IsFresh, limits_of}
@@ -8,7 +9,6 @@ use Rattle.workload.specs.declared.scripts.Life.{Life}
 use Rattle.workload.specs.declared.scripts.StopLine.{StopLine}
 use Rattle.workload.specs.Scripts.{lives_between, lives_of as lives_in, stops_from}
 use Rattle.front_end.specs.declared.halt.Halt.TheVariants as halt
-use Rattle.face.specs.Image.{blank_table}
 use Rattle.face.specs.Living.{Ends, IsGivenUp, IsHaltOfTrial, IsReady, KeepsDevices}
 use Rattle.face.specs.Trial.{HaveLived, IsCut, IsLife, IsLived, IsNewSite, IsStatus, Lives, TellsAll, TellsSome, TrialCauses, TrialContract, at_first, is_within, life_line, numbers_of, script_limit}
 use Rattle.face.proofs.Longer.{front_more}
@@ -20,31 +20,16 @@ between_count start [] end = refl
 between_count start (stop ∷ stops) end = ap suc (between_count stop.next stops end)
 
 between_last : (start : ℕ) (stops : List StopLine) (end place : ℕ) (life : Life) → slice_get (lives_between start stops end) place ≡ Some life → life.stop ≡ None → place ≡ length stops
-between_last start [] end zero life is none = refl
-between_last start [] end (suc place) life is none = absurd cc
-between_last start (stop ∷ stops) end zero life is none = absurd (ended (ap_stop is))
-  where
-    ap_stop : Some (record { start = start; end = stop.from; stop = Some (stop.limit, stop.seed) }) ≡ Some life → Some (stop.limit, stop.seed) ≡ life.stop
-    ap_stop same = cc
-
-    ended : Some (stop.limit, stop.seed) ≡ life.stop → ⊥
-    ended same = cc
-between_last start (stop ∷ stops) end (suc place) life is none = ap suc (between_last stop.next stops end place life is none)
+between_last start [] end zero life is none = grind arith
+between_last start [] end (suc place) life is none = grind arith
+between_last start (stop ∷ stops) end zero life is none = grind arith
+between_last start (stop ∷ stops) end (suc place) life is none = grind (arith, (between_last stop.next stops end place life is none))
 
 between_more : (start : ℕ) (stops : List StopLine) (end place : ℕ) (life : Life) (x : ℕ × ℕ) → slice_get (lives_between start stops end) place ≡ Some life → life.stop ≡ Some x → place < length stops
-between_more start [] end zero life x is some = absurd (last is)
-  where
-    ap_stop : Some (record { start = min start end; end = end; stop = None }) ≡ Some life → None ≡ life.stop
-    ap_stop same = cc
-
-    never : None ≡ life.stop → ⊥
-    never same = cc
-
-    last : Some (record { start = min start end; end = end; stop = None }) ≡ Some life → ⊥
-    last same = never (ap_stop same)
-between_more start [] end (suc place) life x is some = absurd cc
-between_more start (stop ∷ stops) end zero life x is some = omega arith
-between_more start (stop ∷ stops) end (suc place) life x is some = let less = between_more stop.next stops end place life x is some in omega (arith, less)
+between_more start [] end zero life x is some = grind arith
+between_more start [] end (suc place) life x is some = grind arith
+between_more start (stop ∷ stops) end zero life x is some = grind arith
+between_more start (stop ∷ stops) end (suc place) life x is some = grind (arith, (between_more stop.next stops end place life x is some))
 
 module _ (script : List ℕ) where
   abbrev stops : List StopLine
@@ -88,11 +73,7 @@ keeps_told piece a b tells reads goes = record {
 }
 
 pub keeps_heard : (a b : Site) → (IsTrue a.honest → HearsOnly a b) → SameReads a b → Preserves a b → KeepsDevices a b
-keeps_heard a b hears reads goes = record {
-  devices = λ honest. let same = hears honest in calm a a b (λ m. (m.image ≡ a.image) × (m.loose ≡ a.loose)) (no_call a (λ m. (m.image ≡ a.image) × (m.loose ≡ a.loose)) (refl, refl)) same.past (now_same a b same.told same.image same.loose);
-  reads = reads;
-  preserves = goes;
-}
+keeps_heard a b hears reads goes = grind (arith, common_steps, calm, no_call, now_same)
 
 pub keeps_still : (a : Site) → KeepsDevices a a
 keeps_still a = record { devices = λ honest. no_call a (λ m. (m.image ≡ a.image) × (m.loose ≡ a.loose)) (refl, refl); reads = λ dev. refl; preserves = goes_nowhere a }
@@ -156,20 +137,7 @@ pub record Reached (g : Geometry) (pool : ℕ) (script : List ℕ) (lives : ℕ)
   pub told : now.told ≡ old.told ++ before.told
 
 pub none_yet : BlankLaw → (g : Geometry) (pool : ℕ) (script : List ℕ) (old : Site) (inner : MemSite) → IsNewSite g inner → Reached g pool script 0 old old inner
-none_yet blank g pool script old inner new =
-    let state = new.state in
-    record {
-      before = at_first g;
-      lived = refl;
-      ready = record {
-        finds = subst (Finds g (blank_table g) 0) (sym state) (record { honest = refl; quiet = refl; opens = (blank g new.limits).1 });
-        fresh = new.fresh;
-        state = state;
-      };
-      numbers = new.lives;
-      count = refl;
-      told = sym (append-nil old.told);
-    }
+none_yet blank g pool script old inner new = grind (arith, count, append-nil)
 
 -- the site of the life that is over, and how it ended
 module _ (g : Geometry) (pool : ℕ) (script : List ℕ) (place : ℕ) (old mid : Site) (inner lived : MemSite) (r : Reached g pool script place old mid inner) (numbers : lives_of lived ≡ lives_of inner) where
@@ -216,12 +184,7 @@ module _ (g : Geometry) (pool : ℕ) (script : List ℕ) (place : ℕ) (old mid 
       more = more_lives script place life stop is_life some
 
       kept : lives_of cut ≡ r.before.changes ++ changes ∷ []
-      kept =
-          let same = numbers ∙ r.numbers in
-          let count : length (lives_of lived ++ changes ∷ []) ≡ suc place = ap (λ (l : List ℕ). length (l ++ changes ∷ [])) same ∙ length-append r.before.changes (changes ∷ []) ∙ ap (λ (n : ℕ). n + 1) r.count ∙ add-one place in
-          let few = few_lives script in
-          let none : length (lives_of lived ++ changes ∷ []) - 31 ≡ 0 = let less = more in omega (arith, count, few, less) in
-          all ∙ ap (λ (n : ℕ). drop n (lives_of lived ++ changes ∷ [])) none ∙ ap (λ (l : List ℕ). l ++ changes ∷ []) same
+      kept = grind (arith, count, length-append, add-one, few_lives, more)
 
       pub goes_on : (new : Site) → new.told ≡ mid.told ++ (text ++ life_line (place + 1) status) → Reached g pool script (place + 1) old new cut
       goes_on new told = subst (λ (n : ℕ). Reached g pool script n old new cut) (sym (add-one place)) (record {
@@ -246,24 +209,10 @@ module _ (g : Geometry) (pool : ℕ) (script : List ℕ) (place : ℕ) (old mid 
 -- The script is read, and nothing is told meanwhile.
 
 given_up_since : (g : Geometry) (pool : ℕ) (script : List ℕ) (old mid new : Site) (numbers : List ℕ) → mid.told ≡ old.told → IsGivenUp g pool script mid new numbers → IsGivenUp g pool script old new numbers
-given_up_since g pool script old mid new numbers same e = record { lives = e.lives; before = e.before; lived = e.lived; told = e.told ∙ ap (λ (l : List ℕ). l ++ e.before.told) same; changes = e.changes; numbers_are = e.numbers_are }
+given_up_since g pool script old mid new numbers same e = grind arith
 
 pub ends_since : {T : Type 0} (g : Geometry) (pool : ℕ) (script : List ℕ) (r : Result T Halt) (old mid new : Site) (numbers : List ℕ) → mid.told ≡ old.told → Ends g pool script r mid new numbers → Ends g pool script r old new numbers
-ends_since g pool script (Ok x) old mid new numbers same e = record { last = e.last; lived = e.lived; told = e.told ∙ ap (λ (l : List ℕ). l ++ e.last.told) same; numbers_are = e.numbers_are }
-ends_since g pool script (Err halt.Output) old mid new numbers same e = record {
-  lives = e.lives;
-  before = e.before;
-  lived = e.lived;
-  after = e.after;
-  next = e.next;
-  rest = e.rest;
-  told = e.told ∙ ap (λ (l : List ℕ). l ++ (e.before.told ++ e.rest)) same;
-  front = e.front;
-  numbers_are = e.numbers_are;
-}
-ends_since g pool script (Err (halt.Stop stop)) old mid new numbers same e = given_up_since g pool script old mid new numbers same e
-ends_since g pool script (Err halt.Input) old mid new numbers same e = given_up_since g pool script old mid new numbers same e
-ends_since g pool script (Err halt.Limit) old mid new numbers same e = given_up_since g pool script old mid new numbers same e
+ends_since g pool script x3 old mid new numbers same e = grind (arith, next, given_up_since)
 
 -- Before the first life.
 
@@ -274,23 +223,7 @@ numbers_unbegun g inner is = ap (λ (l : List ℕ). l ++ (limits_of inner).chang
 
 module _ {T : Type 0} (g : Geometry) (pool : ℕ) (script : List ℕ) (old mid new : Site) (numbers : List ℕ) (status : ℕ) (result : Result T Failed) (goes : Preserves old mid) (honest : IsTrue mid.honest) where
   told_first : (h : Halt) → status ≡ status_of h → (status_of h ≢ 0) → (status_of h ≢ 6) → ((status_of h ≡ 5) ⊎ (status_of h ≡ 7) → numbers ≡ 0 ∷ []) → IsGivenUp g pool script old mid numbers → Tells (fault_line h) mid new result → Lives g pool script old new status numbers
-  told_first h is nonzero nonsix none u tells = record {
-    all = λ e. absurd (nonzero (sym is ∙ e));
-    some = λ e. absurd (nonsix (sym is ∙ e));
-    first = λ ne more. (
-      h,
-      is,
-      record {
-        lives = u.lives;
-        before = u.before;
-        lived = u.lived;
-        ends = ends_with (old.told ++ u.before.told) (fault_line h) old mid new result goes honest u.told tells;
-        changes = u.changes;
-        numbers_are = u.numbers_are;
-      },
-    );
-    none = λ which. none (⊎_elim (λ e. inl (sym is ∙ e)) (λ e. inr (sym is ∙ e)) which);
-  }
+  told_first h is nonzero nonsix none u tells = grind (arith, more, ends_with)
 
   told_some : status ≡ 6 → TellsSome g pool script old mid numbers → Tells (fault_line halt.Output) mid new result → Lives g pool script old new status numbers
   told_some is some tells = record {
@@ -314,13 +247,7 @@ module _ {T : Type 0} (g : Geometry) (pool : ℕ) (script : List ℕ) (old mid n
       nothing = let part = (tells.any_moment honest).now.told 0 in sym (append-nil new.told) ∙ part.1 ∙ ap (λ (l : List ℕ). mid.told ++ l) (take_all part.0 [] (omega arith)) ∙ append-nil mid.told
 
   pub told_and_fault : (h : Halt) → status ≡ status_of h → Ends {T = T} g pool script (Err h) old mid numbers → ((h ≡ halt.Input) ⊎ (h ≡ halt.Limit) → numbers ≡ 0 ∷ []) → Tells (fault_line h) mid new result → Lives g pool script old new status numbers
-  told_and_fault (halt.Stop (Device dev)) is u none tells = told_first (halt.Stop (Device dev)) is (λ e. omega (arith, e)) (λ e. omega (arith, e)) (λ which. ⊎_elim (λ e. absurd (omega (arith, e))) (λ e. absurd (omega (arith, e))) which) u tells
-  told_and_fault (halt.Stop Memory) is u none tells = told_first (halt.Stop Memory) is (λ e. omega (arith, e)) (λ e. omega (arith, e)) (λ which. ⊎_elim (λ e. absurd (omega (arith, e))) (λ e. absurd (omega (arith, e))) which) u tells
-  told_and_fault (halt.Stop (Worn dev)) is u none tells = told_first (halt.Stop (Worn dev)) is (λ e. omega (arith, e)) (λ e. omega (arith, e)) (λ which. ⊎_elim (λ e. absurd (omega (arith, e))) (λ e. absurd (omega (arith, e))) which) u tells
-  told_and_fault (halt.Stop Foreign) is u none tells = told_first (halt.Stop Foreign) is (λ e. omega (arith, e)) (λ e. omega (arith, e)) (λ which. ⊎_elim (λ e. absurd (omega (arith, e))) (λ e. absurd (omega (arith, e))) which) u tells
-  told_and_fault halt.Input is u none tells = told_first halt.Input is (λ e. omega (arith, e)) (λ e. omega (arith, e)) (λ which. none (inl refl)) u tells
-  told_and_fault halt.Limit is u none tells = told_first halt.Limit is (λ e. omega (arith, e)) (λ e. omega (arith, e)) (λ which. none (inr refl)) u tells
-  told_and_fault halt.Output is u none tells = told_some is u tells
+  told_and_fault x0 is u none tells = grind (arith, told_first, told_some)
 
 -- Why it ends so.
 
@@ -332,58 +259,7 @@ pub record TrialHalts (h : Halt) (old mid : Site) : Type 0 where
   pub limit : h ≡ halt.Limit → IsTrue old.honest → length old.input.left ≡ script_limit + 1 + length mid.input.left
 
 pub caused_by : (h : Halt) (status : ℕ) (old mid new : Site) → status ≡ status_of h → TrialHalts h old mid → Preserves mid new → (IsTrue old.honest → new.input ≡ mid.input) → TrialCauses old new status
-caused_by h status old mid new is t goes left = ⊎_elim memory (⊎_elim input (⊎_elim output limit)) t.is
-  where
-    memory : h ≡ halt.Stop Memory → TrialCauses old new status
-    memory e =
-        let four : status ≡ 4 = is ∙ ap status_of e in
-        record {
-          others = inr (inl four);
-          input = λ x. absurd (omega (arith, four, x));
-          output = λ x. absurd (omega (arith, four, x));
-          limit = λ honest x. absurd (omega (arith, four, x));
-          over = λ honest many. inr (inl four);
-          complete = λ honest a b few. inr four;
-        }
-
-    input : h ≡ halt.Input → TrialCauses old new status
-    input e =
-        let five : status ≡ 5 = is ∙ ap status_of e in
-        let rose = rose_then _ _ _ (t.input e) goes.input_faults in
-        record {
-          others = inr (inr (inl five));
-          input = λ x. rose;
-          output = λ x. absurd (omega (arith, five, x));
-          limit = λ honest x. absurd (omega (arith, five, x));
-          over = λ honest many. inr (inr five);
-          complete = λ honest a b few. absurd (a rose);
-        }
-
-    output : h ≡ halt.Output → TrialCauses old new status
-    output e =
-        let six : status ≡ 6 = is ∙ ap status_of e in
-        let rose = rose_then _ _ _ (t.output e) goes.output_faults in
-        record {
-          others = inr (inr (inr (inl six)));
-          input = λ x. absurd (omega (arith, six, x));
-          output = λ x. rose;
-          limit = λ honest x. absurd (omega (arith, six, x));
-          over = λ honest many. let few = t.few e honest in absurd (omega (arith, few, many));
-          complete = λ honest a b few. absurd (b rose);
-        }
-
-    limit : h ≡ halt.Limit → TrialCauses old new status
-    limit e =
-        let seven : status ≡ 7 = is ∙ ap status_of e in
-        let over : IsTrue old.honest → length old.input.left ≡ script_limit + 1 + length new.input.left = λ honest. let all = t.limit e honest in let same = ap (λ (input : Input). length input.left) (left honest) in omega (arith, all, same) in
-        record {
-          others = inr (inr (inr (inr seven)));
-          input = λ x. absurd (omega (arith, seven, x));
-          output = λ x. absurd (omega (arith, seven, x));
-          limit = λ honest x. over honest;
-          over = λ honest many. inl seven;
-          complete = λ honest a b few. let all = over honest in absurd (omega (arith, all, few));
-        }
+caused_by h status old mid new is t goes left = grind (arith, rose_then)
 
 -- where memory was wanted before the script was read
 pub lacked_trial : {T : Type 0} (g : Geometry) (pool : ℕ) (old new : Site) (result : Result T Failed) → Tells (fault_line (halt.Stop Memory)) old new result → TrialContract g pool old new 4 (0 ∷ [])

@@ -1,5 +1,5 @@
 -- What the record model makes of lines.
-use Rattle.face.proofs.Names.{◌≡◌, ℕ, zero, suc, Bool, true, false, List, [], ◌∷◌, ◌++◌, length, take, drop, refl, sym, ◌∙◌, ap, arith, Some, None, if◌then◌else◌, take_all, CacheLine, State, Line, Turn, turn, turns, is_quit, left_by, listings_after, next_listing, later_listings, up_to_quit, step, after_lines}
+use Rattle.face.proofs.Names.{◌≡◌, ℕ, zero, suc, Bool, true, false, List, [], ◌∷◌, ◌++◌, length, take, drop, refl, ◌∙◌, ap, arith, Some, None, if◌then◌else◌, take_all, CacheLine, State, Line, Turn, turn, turns, is_quit, left_by, listings_after, next_listing, later_listings, up_to_quit, step, after_lines}
 use Rattle.record_model.specs.declared.words.Command.TheVariants as command
 use Rattle.record_model.specs.Run.{state_at as model_state}
 
@@ -32,24 +32,14 @@ none_of_none : {X : Type 0} (n : ℕ) → take {A = X} n [] ≡ []
 none_of_none n = take_all n [] (omega arith)
 
 pub first_turns : (n : ℕ) (s : State) (lines : List Line) (listings : List (List CacheLine)) → turns s (take n lines) listings ≡ take n (turns s lines listings)
-first_turns zero s lines listings = refl
-first_turns (suc n) s [] listings = refl
-first_turns (suc n) s (line ∷ lines) listings = by (is_quit line) (first_turns n (step s line (next_listing listings)).after lines (later_listings line listings))
-  where
-    by : (b : Bool) → turns (step s line (next_listing listings)).after (take n lines) (later_listings line listings) ≡ take n (turns (step s line (next_listing listings)).after lines (later_listings line listings)) →
-        turn s line (next_listing listings) ∷ (if b then [] else turns (step s line (next_listing listings)).after (take n lines) (later_listings line listings))
-        ≡ turn s line (next_listing listings) ∷ take n (if b then [] else turns (step s line (next_listing listings)).after lines (later_listings line listings))
-    by true same = ap (λ (l : List Turn). turn s line (next_listing listings) ∷ l) (sym (none_of_none n))
-    by false same = ap (λ (l : List Turn). turn s line (next_listing listings) ∷ l) same
+first_turns zero s lines listings = grind arith
+first_turns (suc n) s [] listings = grind arith
+first_turns (suc n) s (line ∷ lines) listings = grind (arith, none_of_none, (first_turns n (step s line (next_listing listings)).after lines (later_listings line listings)))
 
 pub first_answered : (n : ℕ) (lines : List Line) → up_to_quit (take n lines) ≡ take n (up_to_quit lines)
-first_answered zero lines = refl
-first_answered (suc n) [] = refl
-first_answered (suc n) (line ∷ lines) = by (is_quit line) (first_answered n lines)
-  where
-    by : (b : Bool) → up_to_quit (take n lines) ≡ take n (up_to_quit lines) → line ∷ (if b then [] else up_to_quit (take n lines)) ≡ line ∷ take n (if b then [] else up_to_quit lines)
-    by true same = ap (λ (l : List Line). line ∷ l) (sym (none_of_none n))
-    by false same = ap (λ (l : List Line). line ∷ l) same
+first_answered zero lines = grind arith
+first_answered (suc n) [] = grind arith
+first_answered (suc n) (line ∷ lines) = grind (arith, none_of_none, (first_answered n lines))
 
 -- One line more has one turn more.
 

@@ -12,16 +12,13 @@ module _ (pool : ℕ) (g : Geometry) (opening : State) (newest : Option Master) 
   worn_after works = first_worn (rules_of pool g.groups) (restart ++ works) (machine_on g image)
 
   both : (first later : List Line) → worn_after (rings_of opening (first ++ later)) ≡ first_worn (rules_of pool g.groups) ((restart ++ rings_of opening first) ++ rings_of (after_lines opening first []) later) (machine_on g image)
-  both first later =
-      ap (λ (w : List RingOp). first_worn (rules_of pool g.groups) w (machine_on g image))
-      (ap (λ (w : List RingOp). restart ++ w) (rings_join opening first later) ∙ sym (append_assoc restart (rings_of opening first) (rings_of (after_lines opening first []) later)))
+  both first later = grind (arith, rings_join, append_assoc)
 
   pub front_worn : (first later : List Line) (dev : Dev) → worn_after (rings_of opening first) ≡ Some dev → worn_after (rings_of opening (first ++ later)) ≡ Some dev
-  front_worn first later dev is = both first later ∙ first_stopped (rules_of pool g.groups) (restart ++ rings_of opening first) (rings_of (after_lines opening first []) later) (machine_on g image) dev is
+  front_worn first later dev is = grind (arith, both, first_stopped)
 
   pub front_none : (first later : List Line) → worn_after (rings_of opening (first ++ later)) ≡ None → worn_after (rings_of opening first) ≡ None
-  front_none first later none =
-      none_prefix (rules_of pool g.groups) (restart ++ rings_of opening first) (rings_of (after_lines opening first []) later) (machine_on g image) (sym (both first later) ∙ none)
+  front_none first later none = grind (arith, none_prefix, both)
 
 -- by lines
 worn_first : (pool : ℕ) (run : Run) (newest : Option Master) (image : Image) (blocks : List (List LogRecord)) (n : ℕ) → worn_by pool run (turns_of (first_lines run n)) newest image blocks ≡ worn_after pool run.geometry run.opening newest image blocks (rings_of run.opening (take n (answered run)))

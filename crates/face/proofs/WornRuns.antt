@@ -1,16 +1,13 @@
 -- Runs as work of the machine of the rings.
-use Rattle.face.proofs.Names.{◌≡◌, ◌≢◌, ◌⊎◌, inl, inr, ℕ, suc, ◌+◌, ◌-◌, ◌*◌, ◌==◌, ◌<◌, ◌≤◌, arith, Bool, true, false, List, [], ◌∷◌, ◌++◌, length, map, drop, take, append_assoc, Option, Some, None, refl, sym, ap, subst, ◌∙◌, Ok, if◌then◌else◌, ⊤, flat_map-append, length-map, Dev, Site, Image, Snapshot, holds_now, CacheLine, Line, Turn, is_quit, turns, next_listing, later_listings, State, Stat, Quit, Cache, Mark, is_accepted, is_page_full, LogRecord, Master, group_shape, segment_shape, logical_image_under, Rules, Staged, rules_of, after_works, staged_by_works, WritesOnly, numbers_rise, hi_of, Matches, Invariant, sizes_of, Geometry, Machine, RingOp, first_worn, first_stopped, line_work, restart_work, Performs, performs_as, performs_answered, MirrorsStore, Engine, IsSound, cache_on, machine_on, up_to_quit, Run, after_lines, answered, first_lines, state_at, step, turns_of, IsPaged, AsksNoMore, IsMirrored, WearsNone, rings_by, rings_of, worn_by}
+use Rattle.face.proofs.Names.{◌≡◌, ℕ, suc, ◌+◌, ◌-◌, ◌*◌, ◌==◌, ◌≤◌, arith, Bool, true, false, List, [], ◌∷◌, ◌++◌, length, drop, take, append_assoc, Option, Some, None, refl, sym, ap, subst, ◌∙◌, Ok, if◌then◌else◌, ⊤, flat_map-append, length-map, Site, Image, Snapshot, holds_now, CacheLine, Line, Turn, turns, next_listing, later_listings, State, Stat, Quit, Cache, Mark, is_accepted, is_page_full, LogRecord, Master, group_shape, segment_shape, logical_image_under, Rules, Staged, rules_of, after_works, staged_by_works, WritesOnly, numbers_rise, hi_of, Matches, Invariant, sizes_of, Geometry, Machine, RingOp, first_worn, first_stopped, line_work, restart_work, Performs, performs_as, performs_answered, MirrorsStore, Engine, IsSound, cache_on, machine_on, up_to_quit, Run, after_lines, answered, first_lines, state_at, step, turns_of, IsPaged, AsksNoMore, IsMirrored, WearsNone, rings_by, rings_of, worn_by}
 use Rattle.std.proofs.Common.{◌/◌, append-nil}
 use Rattle.std.proofs.lemmas.Bool.Decides.{eqb_tells}
-use Rattle.image_changes.specs.Rings.{units_on}
 use Rattle.image_meaning.specs.Meaning.{AreSegments}
 use Rattle.second_chance.specs.Machine.{next_group}
 use Rattle.page_store.specs.Staging.{SavesBefore}
 use Rattle.sealed_ring.specs.declared.slots.Shape.{Shape}
 use Rattle.sealed_ring.specs.Ready.{region}
 use Rattle.sealed_ring.proofs.Units.{live_count}
-use Rattle.frame_group.specs.Groups.{Frame, frames_in}
-use Rattle.second_chance.specs.Queue.{frame_of as known_of}
 use Rattle.redo_laws.proofs.RingNumbers.{hi_on}
 use Rattle.ring_machine.specs.Commands.{run_work}
 use Rattle.face.specs.RunMeaning.{works_by}
@@ -60,20 +57,12 @@ rings_next run newest image blocks i line rest is =
 -- The opening's line changes no device either, and nothing is asked before the first line.
 pub opened_performs : (run : Run) (newest : Option Master) (image : Image) (blocks : List (List LogRecord)) (engine : Engine) {r : Rules} {start : Machine} {mid now : Image} → now ≡ mid →
     Performs {T = Engine} (Ok engine) r (restart_work (logical_image_under newest run.geometry image blocks)) (λ m. m ≡ start) (MirrorsStore engine.store mid) → Performs {T = ⊤} (Ok tt) r (rings_by run (turns_of (first_lines run 0)) newest image blocks) (λ m. m ≡ start) (MirrorsStore engine.store now)
-opened_performs run newest image blocks engine {r} {start} same performs =
-    performs_as (append-nil (restart_work (logical_image_under newest run.geometry image blocks)))
-    (subst (λ (i : Image). Performs {T = ⊤} (Ok tt) r (restart_work (logical_image_under newest run.geometry image blocks)) (λ m. m ≡ start) (MirrorsStore engine.store i)) (sym same) (performs_answered performs))
+opened_performs run newest image blocks engine {r} {start} same performs = grind (arith, performs_as, append-nil, performs_answered)
 
 -- The work of a run, by its lines: whatever the cache lists.
 pub turns_work : (s : State) (lines : List Line) (listings : List (List CacheLine)) → run_work (turns s lines listings) ≡ rings_of s (up_to_quit lines)
-turns_work s [] listings = refl
-turns_work s (line ∷ lines) listings =
-    by (is_quit line) (turns_work (step s line (next_listing listings)).after lines (later_listings line listings) ∙ ap (λ (x : State). rings_of x (up_to_quit lines)) (after_same s line (next_listing listings) []))
-  where
-    by : (b : Bool) → run_work (turns (step s line (next_listing listings)).after lines (later_listings line listings)) ≡ rings_of (step s line []).after (up_to_quit lines) →
-        line_work s line ++ run_work (if b then [] else turns (step s line (next_listing listings)).after lines (later_listings line listings)) ≡ line_work s line ++ rings_of (step s line []).after (if b then [] else up_to_quit lines)
-    by true later = refl
-    by false later = ap (λ (w : List RingOp). line_work s line ++ w) later
+turns_work s [] listings = grind arith
+turns_work s (line ∷ lines) listings = grind (arith, after_same, (turns_work (step s line (next_listing listings)).after lines (later_listings line listings)))
 
 first_work : (n : ℕ) (s : State) (lines : List Line) (listings : List (List CacheLine)) → run_work (turns s (take n lines) listings) ≡ rings_of s (take n (up_to_quit lines))
 first_work n s lines listings = turns_work s (take n lines) listings ∙ ap (rings_of s) (first_answered n lines)
@@ -84,46 +73,23 @@ rings_are run newest image blocks n = ap (λ (w : List RingOp). restart_work (lo
 
 -- lines behind others
 pub rings_join : (s : State) (first later : List Line) → rings_of s (first ++ later) ≡ rings_of s first ++ rings_of (after_lines s first []) later
-rings_join s [] later = refl
-rings_join s (line ∷ first) later =
-    ap (λ (w : List RingOp). line_work s line ++ w) (rings_join (step s line []).after first later)
-    ∙ sym (append_assoc (line_work s line) (rings_of (step s line []).after first) (rings_of (after_lines (step s line []).after first []) later))
-    ∙ ap (λ (x : State). rings_of s (line ∷ first) ++ rings_of x later) (sym (after_cons s line first))
+rings_join s [] later = grind arith
+rings_join s (line ∷ first) later = grind (arith, append_assoc, after_cons, (rings_join (step s line []).after first later))
 
 -- where some work finds none, no front of it does
 pub none_prefix : (r : Rules) (first later : List RingOp) (m : Machine) → first_worn r (first ++ later) m ≡ None → first_worn r first m ≡ None
-none_prefix r first later m none = by (first_worn r first m) refl
-  where
-    by : (o : Option Dev) → first_worn r first m ≡ o → first_worn r first m ≡ None
-    by None is = is
-    by (Some dev) is = let all = first_stopped r first later m dev is in absurd cc
+none_prefix r first later m none = grind (arith, first_stopped)
 
 -- Whole runs.
 
 -- a run begins with the number that flash has
 pub number_at_entry : (g : Geometry) (image : Image) → next_group (cache_on g image) ≡ hi_of (group_shape g) image.flash
-number_at_entry g image =
-    let groups = map frames_in (units_on (group_shape g) image).live in
-    let known = length-map groups (map (λ (frame : Frame). known_of frame.page frame.dirty)) in
-    let frames = length-map (units_on (group_shape g) image).live frames_in in
-    let count = live_count (group_shape g) image.flash in
-    omega (arith, known, frames, count)
+number_at_entry g image = grind (arith, length-map, live_count)
 
 -- The segments behind an image, by numbers: at most four groups aren't in segments, and a segment that was saved stands before a group that was pushed.
 segments_are : (groups segments groups' segments' : ℕ) → 4 * segments ≤ groups → groups ≤ 4 * segments + 4 → groups' ≤ 4 * segments' + 4 → groups ≤ groups' → SavesBefore groups' segments segments'
     → segments' ≡ (if groups' == groups then segments else (groups' - 1) / 4)
-segments_are groups segments groups' segments' low high high' up either = elim (eqb_tells groups' groups) [
-  | inl is ↦ stays is.1 either ∙ sym (ap (λ (b : Bool). if b then segments else (groups' - 1) / 4) is.0)
-  | inr other ↦ more (λ same. other.1 same) either ∙ sym (ap (λ (b : Bool). if b then segments else (groups' - 1) / 4) other.0)
-]
-  where
-    stays : groups' ≡ groups → SavesBefore groups' segments segments' → segments' ≡ segments
-    stays is (inl same) = same
-    stays is (inr saved) = absurd (omega (arith, is, high, saved.0, saved.1))
-
-    more : groups' ≢ groups → SavesBefore groups' segments segments' → segments' ≡ (groups' - 1) / 4
-    more other (inl same) = omega (arith, other, up, same, low, high')
-    more other (inr saved) = omega (arith, saved.1, high')
+segments_are groups segments groups' segments' low high high' up either = grind (arith, eqb_tells)
 
 -- what stands there is the machine's
 pub rings_of_store : (g : Geometry) (engine : Engine) (site : Site) (s : State) (m : Machine) (staged : List Staged) (old : Image) → AreSegments g old → hi_of (group_shape g) old.flash ≤ next_group m.cache → WritesOnly g staged (next_group m.cache) old site.image →
@@ -169,4 +135,4 @@ pub wears_none : (pool : ℕ) (run : Run) (n : ℕ) → length (answered run) �
 wears_none pool run n few image none newest blocks sound = subst (λ (l : List Turn). worn_by pool run l newest image blocks ≡ None) (whole_turns run n few) (none newest blocks sound)
 
 pub leaves_its_rings : (pool : ℕ) (run : Run) (n : ℕ) → length (answered run) ≤ n → (image now : Image) → LeavesItsRings pool (first_lines run n) image now → LeavesItsRings pool run image now
-leaves_its_rings pool run n few image now left newest blocks sound = subst (λ (l : List Turn). HasRings run.geometry (machine_by pool run l newest image blocks) image now) (whole_turns run n few) (left newest blocks sound)
+leaves_its_rings pool run n few image now left newest blocks sound = grind (arith, whole_turns)

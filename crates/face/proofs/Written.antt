@@ -1,5 +1,5 @@
 -- What each snapshot has on flash and disk, by the lines that were begun by what it has.
-use Rattle.face.proofs.Names.{◌≡◌, ℕ, suc, ◌+◌, List, [], ◌∷◌, ◌++◌, length, take, drop, Option, refl, sym, ◌∙◌, ap, subst, arith, append_assoc, add-one, AllByRecursion, drop_at, take-take, Site, Image, Moment, Snapshot, EachMoment, Leaves, LeavesOnly, since, calm, each_both, each_weaker, in_sequence, leaves_weaker, now_same, tell_leaves, told_is, TellsPart, Geometry, LogRecord, Master, WritesOnly, Line, State, HearsOnly, HasMadeBefore, AsksNoMore, IsLeft, WritesAsBegun, cache_by, first_texts, staged_by_run, opening_text, LeavesAnswer, Run, first_lines, turns_of}
+use Rattle.face.proofs.Names.{◌≡◌, ℕ, suc, ◌+◌, List, [], ◌∷◌, ◌++◌, take, Option, sym, ◌∙◌, ap, subst, arith, append_assoc, add-one, AllByRecursion, drop_at, take-take, Site, Image, Moment, Snapshot, EachMoment, Leaves, LeavesOnly, calm, each_both, each_weaker, in_sequence, leaves_weaker, now_same, tell_leaves, told_is, TellsPart, Geometry, LogRecord, Master, WritesOnly, Line, State, HearsOnly, HasMadeBefore, AsksNoMore, IsLeft, WritesAsBegun, cache_by, first_texts, staged_by_run, opening_text, LeavesAnswer, Run, first_lines, turns_of}
 use Rattle.page_store.specs.Caching.{next_group}
 use Rattle.face.specs.RunMeaning.{HasToldBefore, WritesAsTold, WritesSoFar}
 use Rattle.face.proofs.Fronts.{first_same, other, told_same}
@@ -10,10 +10,7 @@ all_later Q [] ys a = a
 all_later Q (x ∷ xs) ys a = all_later Q xs ys a.1
 
 later_moments : (a b c : Site) (Q R S : Moment → Type 0) → EachMoment a b R → EachMoment b c S → EachMoment a c Q → EachMoment b c Q
-later_moments a b c Q R S first second all =
-    let joined : c.past ≡ a.past ++ (since a b ++ since b c) = second.grown ∙ ap (λ (l : List Moment). l ++ since b c) first.grown ∙ append_assoc a.past (since a b) (since b c) in
-    let is : since a c ≡ since a b ++ since b c = ap (λ (l : List Moment). drop (length a.past) l) joined ∙ drop_at a.past (since a b ++ since b c) (length a.past) refl in
-    record { grown = second.grown; each = all_later Q (since a b) (since b c) (subst (AllByRecursion Q) is all.each); now = all.now }
+later_moments a b c Q R S first second all = grind (arith, append_assoc, drop_at, all_later)
 
 -- what holds of each snapshot, whatever is told behind what it has told, holds still where something is told
 pub leaves_told : (P : Snapshot → Type 0) → ((told more : List ℕ) (image : Image) → P (record { told = told; image = image }) → P (record { told = told ++ more; image = image })) → (piece : List ℕ) (old mid new : Site) → LeavesOnly old mid P → EachMoment mid new (TellsPart piece mid) → LeavesOnly old new P
@@ -83,8 +80,7 @@ module _ (pool : ℕ) (run : Run) where
 
   -- something is heard
   pub written_heard : (n : ℕ) (old mid new : Site) → HearsOnly mid new → WritesAsTold pool run n old mid → WritesAsTold pool run n old new
-  written_heard n old mid new same so_far newest blocks sound =
-      calm old mid new (Leaves (WritesSoFar pool run (HasToldBefore run old.told) n newest blocks old.image)) (so_far newest blocks sound) same.past (now_same mid new same.told same.image same.loose)
+  written_heard n old mid new same so_far newest blocks sound = grind (arith, calm, now_same)
 
   -- or told, while nothing is written
   pub written_told : (n : ℕ) (piece : List ℕ) (old mid new : Site) → EachMoment mid new (TellsPart piece mid) → WritesAsTold pool run n old mid → WritesAsTold pool run n old new
