@@ -204,8 +204,8 @@ fn say_unsound<R: Eprint>(rt: &R, seen: &Seen, failing: Option<(u8, Place)>) {
     let _ = rt.eprintln("face: bring back all three files of one copy");
 }
 
-// Says why a run or a load has no database to work on, where the devices fail which rule, as far as it is known, and what
-// to do.
+// Says why a run or a load has no database to work on, where the devices fail which rule, as far as it is known, and
+// what to do.
 fn say_no_database<R: Eprint>(rt: &R, seen: &Seen, failing: Option<(u8, Place)>) {
     if say_no_files(rt, seen) {
         return;
@@ -249,8 +249,8 @@ fn say_refused<R: Eprint>(rt: &R, watch: Watch) {
     }
 }
 
-/// Says on standard error why the program ends with this status, where there is something to say; of devices that aren't
-/// sound the rule that fails and where, as far as it was found.
+/// Says on standard error why the program ends with this status, where there is something to say; of devices that
+/// aren't sound the rule that fails and where, as far as it was found.
 pub fn say<R: Eprint>(
     rt: &R,
     status: u8,
