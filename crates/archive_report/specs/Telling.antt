@@ -54,7 +54,8 @@ synced site = with_loose Log [] site.loose
 -- Either nothing but a front of a fault's line was told, and the devices are as they were; or nothing of the log is
 -- loose, so that a crash leaves it as it is, and a front of the text was told.
 abbrev pub TellsSynced : List ℕ → List ℕ → State → Moment → Type 0
-TellsSynced fault text old moment = TellsPart fault old moment ⊎ TellsPart text (record old { loose = synced old }) moment
+TellsSynced fault text old moment =
+    TellsPart fault old moment ⊎ TellsPart text (record old { loose = synced old }) moment
 
 -- nothing was told, and nothing changed but that the log may have been synced
 pub record OnlySyncs (old new : State) : Type 0 where

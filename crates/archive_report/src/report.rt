@@ -1,5 +1,6 @@
 // The work of `archive`.
-ghost use Rattle.std.specs.Prelude.{◌≡◌, ◌+◌, ◌-◌, ◌≤◌, ◌<◌, ◌⊎◌, ◌∷◌, ◌++◌, [], codes, length, IsTrue, IfOk, IfErr, IfSome, IfNone, Err, OnOk, ℕ};
+ghost use Rattle.std.specs.Prelude.{◌≡◌, ◌-◌, ◌≤◌, ◌⊎◌, ◌∷◌, ◌++◌, [], codes, ℕ};
+ghost use Rattle.std.specs.Prelude.{IsTrue, IfOk, IfErr, IfSome, IfNone, Err, OnOk};
 ghost use Rattle.site.specs.declared.geometry.Geometry.{Geometry};
 ghost use Rattle.site.specs.Geometry.{HasLimits, HasLengths};
 ghost use Rattle.site.specs.Calls.{IsUnchanged, Preserves};

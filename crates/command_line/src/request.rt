@@ -3,7 +3,8 @@ ghost use Rattle.std.specs.Prelude.{◌≡◌, ◌↔◌, IfSome, IfNone, IfOk, 
 ghost use Rattle.std.specs.List.{list_any};
 ghost use Rattle.clap.specs.Words.{found_of, kind_of, new_rule, rule_of};
 ghost use Rattle.clap.specs.declared.error.kind.ErrorKind.TheVariants.{OutOfMemory};
-ghost use Rattle.command_line.specs.Program.{AreSizes, IsFrom, IsLike, IsLoadOf, IsPool, IsReadFrom, IsSimulationOf, IsTrialOf};
+ghost use Rattle.command_line.specs.Program.{AreSizes, IsFrom, IsLike, IsLoadOf, IsPool, IsReadFrom};
+ghost use Rattle.command_line.specs.Program.{IsSimulationOf, IsTrialOf};
 ghost use Rattle.command_line.specs.Program.{archive_words, bare, check_words, database_words, earlier_words};
 ghost use Rattle.command_line.specs.Program.{load_words, new_words, program, run_words, simulate_words, text};
 ghost use Rattle.command_line.specs.Program.{trial_words};

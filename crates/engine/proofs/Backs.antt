@@ -27,7 +27,7 @@ use Rattle.redo_undo.specs.StoreRollback.{ConcernsOnly, GoesBack}
 use Rattle.engine.specs.declared.engine.Engine.{Engine}
 use Rattle.engine.specs.Invariant.{Invariant, sizes_of}
 use Rattle.engine.specs.LogReads.{back_reads}
-use Rattle.engine.specs.Representation.{IsUnderWay, LocksAre, Matches, SessionIs, SessionsAre, updated, with_mark}
+use Rattle.engine.specs.Representation.{IsUnderWay, LocksAre, Matches, SessionIs, SessionsAre, with_mark}
 use Rattle.txn_table.proofs.Owing.{entry_is}
 use Rattle.engine.proofs.Aborts.{others_go_on}
 use Rattle.engine.proofs.Actives.{some_active}

@@ -27,7 +27,6 @@ use Rattle.engine.specs.declared.engine.Engine.{Engine}
 use Rattle.engine.specs.Invariant.{Invariant, sizes_of}
 use Rattle.redo_undo.specs.Stores.{MayWork, HasCheckpoint}
 use Rattle.engine.specs.Representation.{Matches, LocksAre, SessionIs, SessionsAre, checkpointed_if, updated}
-use Rattle.log_records.specs.Unfinished.{open_updates}
 use Rattle.engine.proofs.Actives.{some_active}
 use Rattle.engine.proofs.Namings.{no_active, pair_of, pairs_of}
 use Rattle.engine.proofs.Keeping.{LetsGo, kept_is}

@@ -1,10 +1,9 @@
 -- Footprints of writes, as lists.
-use Rattle.std.proofs.lemmas.Grind.{common_steps}
-use Rattle.std.proofs.Common.{◌≡◌, ◌≢◌, ◌⊎◌, ⊎_elim, inl, inr, ℕ, zero, suc, ◌+◌, ◌-◌, ◌<◌, ◌≤◌, ◌==◌, Bool, true, false, cond, max, fold, List, [], ◌∷◌, ◌++◌, length, map, take, filter, Option, Some, None, refl, sym, ap, subst, ◌∙◌, arith, append_assoc, append-nil, get_or-set_same, get_or-set_other}
-use Rattle.std.specs.Prelude.{unwrap_or, slice_set, slice_index_or, filter_map, flat_map, option_map}
+use Rattle.std.proofs.Common.{◌≡◌, ◌⊎◌, ⊎_elim, inl, inr, ℕ, zero, suc, ◌≤◌, ◌==◌, Bool, true, false, cond, max, fold, List, [], ◌∷◌, ◌++◌, length, map, take, filter, Option, Some, None, refl, sym, ap, subst, ◌∙◌, arith, append_assoc, append-nil, get_or-set_other}
+use Rattle.std.specs.Prelude.{unwrap_or, slice_set, slice_index_or, filter_map, flat_map}
 use Rattle.std.specs.Option.{option_or}
 use Rattle.std.specs.List.{reduce}
-use Rattle.std.proofs.lemmas.Bool.{cases_eq, cases_Bool, eq-eqb, ne_eqb, eqb-true}
+use Rattle.std.proofs.lemmas.Bool.{eq-eqb, eqb-true}
 use Rattle.std.proofs.lemmas.Option.{none-some}
 use Rattle.record_model.specs.State.{Content, Session, State, Write, content_at, footprint, greatest, last_write, length_of, longest_write, session_at, standing_writes, table_with, writes_of}
 use Rattle.ring_machine.specs.Commands.{stands_at}
@@ -182,9 +181,14 @@ of_writes table earlier (w ∷ ws) r = by (w.0 == r) refl (of_writes table (earl
         let here : length_of (stands_at table earlier w.0) ≡ length_of (stands_at table earlier r) = ap (λ n. length_of (stands_at table earlier n)) (eqb-true w.0 r on) in
         let now : length_of (stands_at table (earlier ++ w ∷ []) r) ≡ length_of w.1 = ap length_of (stands_more table earlier w r ∙ ap (λ b. cond b w.1 (stands_at table earlier r)) on) in
         let all : lengths_on r (footprints_of table earlier (w ∷ ws)) ≡ length_of (stands_at table earlier w.0) ∷ length_of w.1 ∷ lengths_on r (footprints_of table (earlier ++ w ∷ []) ws) = on_one r (footprint_of table earlier w) (footprints_of table (earlier ++ w ∷ []) ws) true on in
-        inr (length_of (stands_at table earlier w.0), length_of w.1 ∷ lengths_on r (footprints_of table (earlier ++ w ∷ []) ws), all, ap greatest all ∙ ⊎_elim
-        (λ none. let none_there : greatest (lengths_on r (footprints_of table (earlier ++ w ∷ []) ws)) ≡ 0 = ap greatest none.0 in omega (arith, none_there, none.1, longer, here))
-        (λ some. omega (arith, some.3, now, longer, here)) rest)
+        inr (
+          length_of (stands_at table earlier w.0),
+          length_of w.1 ∷ lengths_on r (footprints_of table (earlier ++ w ∷ []) ws),
+          all,
+          ap greatest all ∙ ⊎_elim
+              (λ none. let none_there : greatest (lengths_on r (footprints_of table (earlier ++ w ∷ []) ws)) ≡ 0 = ap greatest none.0 in omega (arith, none_there, none.1, longer, here))
+              (λ some. omega (arith, some.3, now, longer, here)) rest,
+        )
 
 -- of two parts
 joined : (a b : List ℕ) (n m stood : ℕ) → AreOf a n stood → AreOf b m stood → AreOf (a ++ b) (max n m) stood

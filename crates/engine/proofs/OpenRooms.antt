@@ -1,6 +1,6 @@
 -- Room in a page for what undo may put back, behind one more Update.
 use Rattle.std.proofs.lemmas.Grind.{common_steps}
-use Rattle.std.proofs.Common.{◌≡◌, ℕ, ◌+◌, ◌*◌, ◌/◌, ◌<◌, ◌≤◌, ◌==◌, ◌&&◌, Bool, true, false, cond, find, max, List, [], ◌∷◌, ◌++◌, Option, Some, None, refl, sym, ap, subst, ◌∙◌, arith, IsTrue, true≢false}
+use Rattle.std.proofs.Common.{◌≡◌, ℕ, ◌+◌, ◌*◌, ◌<◌, ◌≤◌, ◌==◌, ◌&&◌, Bool, true, false, cond, find, max, List, [], ◌∷◌, ◌++◌, Option, Some, None, refl, sym, ap, subst, ◌∙◌, arith, IsTrue, true≢false}
 use Rattle.std.specs.List.{AllByRecursion, cons_option, range_with_len}
 use Rattle.std.proofs.lemmas.Bool.{eqb-true}
 use Rattle.std.proofs.lemmas.Option.{none-some, same_Some}
@@ -9,7 +9,7 @@ use Rattle.site.specs.State.{State as Site}
 use Rattle.record_model.specs.State.{Content, Session, State, Write, content_at, footprint, length_of, longest_write, page_room, seen, session_at, writes_of}
 use Rattle.record_model.specs.State as model
 use Rattle.log_records.specs.declared.log_record.LogRecord.TheVariants.{Begin, Update}
-use Rattle.log_records.specs.Log.{Entry, Version, before_of, is_closed, is_loser, is_number, is_of, is_on, number_of, shown}
+use Rattle.log_records.specs.Log.{Entry, Version, is_closed, is_loser, is_number, is_of, is_on, number_of, shown}
 use Rattle.log_records.specs.Room.{HasOpenRoom, open_length, total_on}
 use Rattle.log_records.specs.Sound.{Master as Fields, InTurn}
 use Rattle.log_records.specs.Unfinished.{left_open, losers}
@@ -26,7 +26,6 @@ use Rattle.txn_table.specs.Entries.{IsTable, entry_of}
 use Rattle.txn_table.proofs.Owing.{entry_is}
 use Rattle.image_meaning.specs.Meaning.{logical_image_under, versions_on}
 use Rattle.image_meaning.proofs.Versions.{length-versions}
-use Rattle.ring_machine.specs.Commands.{stands_at}
 use Rattle.engine.specs.declared.engine.Engine.{Engine}
 use Rattle.engine.specs.Invariant.{sizes_of}
 use Rattle.engine.specs.Representation.{Matches}

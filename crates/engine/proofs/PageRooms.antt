@@ -1,6 +1,6 @@
 -- What a record's page needs, as the engine counts it and as the model does, and where it has room.
 use Rattle.std.proofs.Common.{◌≡◌, ℕ, zero, suc, ◌+◌, ◌*◌, ◌/◌, ◌%◌, ◌<◌, ◌≤◌, ◌==◌, ◌&&◌, Bool, true, false, cond, max, List, [], ◌∷◌, ◌++◌, length, Option, Some, None, unwrap_or, ⊎_elim, refl, sym, ap, subst, ◌∙◌, arith, get_or-set_same, get_or-set_other, true≢false}
-use Rattle.std.specs.Prelude.{is_none, nat_lt, slice_index_or, slice_set, sum_by}
+use Rattle.std.specs.Prelude.{is_none, slice_index_or, slice_set, sum_by}
 use Rattle.std.specs.List.{range_with_len, reduce}
 use Rattle.std.proofs.Math.Nat.{div-add-mod}
 use Rattle.std.proofs.lemmas.Bool.{cases_eq, cases_lt, eq-eqb, eqb-true, ne_eqb, le-ltb, lt-ltb}
@@ -8,9 +8,8 @@ use Rattle.std.proofs.lemmas.List.{length-set}
 use Rattle.std.proofs.lemmas.Option.{none-some}
 use Rattle.std.proofs.lemmas.List.Sums.{sum_by-cons}
 use Rattle.site.specs.State.{State as Site}
-use Rattle.record_model.specs.State.{Content, State, content_at, footprint, footprint_with, last_write, length_of, need, page_of, page_room, seen, session_at, writes_of}
+use Rattle.record_model.specs.State.{Content, State, content_at, footprint, footprint_with, length_of, need, page_of, page_room, session_at, writes_of}
 use Rattle.record_model.specs.Step.{refuse_if}
-use Rattle.record_model.specs.declared.words.Reply.{Reply}
 use Rattle.record_model.specs.declared.words.Reply.TheVariants as reply
 use Rattle.log_records.specs.declared.log_record.LogRecord.TheVariants.{Begin, Update}
 use Rattle.log_records.specs.Log.{Entry, Version, shown}

@@ -1,5 +1,5 @@
 -- What commands make of the machine that mirrors the database.
-use Rattle.std.proofs.Common.{◌≡◌, ℕ, ◌+◌, Bool, false, List, [], ◌∷◌, ◌++◌, flat_map, append_assoc, Some, None, refl, sym, ap, ◌∙◌, arith, ◌*◌, ◌<◌, ◌≤◌, ◌-◌, ◌==◌, true≢false, IsTrue}
+use Rattle.std.proofs.Common.{◌≡◌, ℕ, ◌+◌, Bool, false, List, [], ◌∷◌, ◌++◌, flat_map, append_assoc, Some, None, refl, sym, ap, ◌∙◌, arith, ◌*◌, ◌<◌, ◌≤◌, ◌-◌, true≢false, IsTrue}
 use Rattle.std.specs.Prelude.{Option, Result, Ok, Err, if◌then◌else◌}
 use Rattle.std.specs.List.{range_with_len, list_any}
 use Rattle.std.proofs.lemmas.Grind.{flat_map-append}

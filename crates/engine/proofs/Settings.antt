@@ -11,7 +11,6 @@ use Rattle.site.specs.State.{State as Site}
 use Rattle.record_model.specs.State.{Content, State, Write, session_at, table_with}
 use Rattle.record_model.specs.State as model
 use Rattle.record_model.specs.Step.{making, committed}
-use Rattle.log_records.specs.Spelling.{IsShort}
 use Rattle.log_records.specs.Log.{Entry, is_of, is_closed, is_loser, shown}
 use Rattle.log_records.specs.Unfinished.{owed}
 use Rattle.log_records.specs.declared.log_record.LogRecord.TheVariants.{Begin, Commit}

@@ -12,8 +12,7 @@ use Rattle.site.specs.State.{State as Site}
 use Rattle.record_model.specs.State.{Content, Session, State, Write, session_at, writes_of, wrote_of, reads_of, content_at, last_write, length_of, seen}
 use Rattle.record_model.specs.State as model
 use Rattle.record_model.specs.Step.{having_written, having_read}
-use Rattle.log_records.specs.Spelling.{IsShort}
-use Rattle.log_records.specs.Log.{Entry, is_on, shown}
+use Rattle.log_records.specs.Log.{Entry, shown}
 use Rattle.log_laws.specs.Follow.{IsFreeFor}
 use Rattle.log_laws.proofs.Losers.{active_may_write}
 use Rattle.log_laws.proofs.Owing.{owed_update}

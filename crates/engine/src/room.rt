@@ -107,7 +107,11 @@ impl Engine {
 
     /// Tests the page of a record, which is in front: why it has no room for what is to be written there, if it has
     /// none. Where only what stands in the page leaves no room, it answers Foreign, which comes of no honest site.
-    pub(crate) fn test_page(&self, number: u32, after: &Option<Octets>) -> Result<Option<Reply>, Stop>
+    pub(crate) fn test_page(
+        &self,
+        number: u32,
+        after: &Option<Octets>,
+    ) -> Result<Option<Reply>, Stop>
         requires going { (site : Site) × Invariant self.now site }
         requires number { number < 32 * (sizes_of self.now.store).pages }
         requires front { IsInFront self.now.store number }

@@ -1,22 +1,5 @@
 -- Lines that are heard and answered, one after the other.
-use Rattle.std.proofs.Common.{◌≡◌, ℕ, suc, List, ◌∷◌, ◌++◌, drop, arith}
-use Rattle.std.specs.Prelude.{Ok}
-use Rattle.site.specs.State.{State as Site}
-use Rattle.site.specs.Calls.{Preserves}
-use Rattle.site.specs.Moments.{EachMoment}
-use Rattle.record_model.specs.declared.words.CacheLine.{CacheLine}
-use Rattle.record_model.specs.Run.{Line}
-use Rattle.engine.specs.declared.engine.Engine.{Engine}
-use Rattle.engine.specs.Invariant.{sizes_of}
-use Rattle.engine.specs.Listings.{QueueIsOnFlash, listing_of}
-use Rattle.front_end.specs.declared.source.Source.{Source}
-use Rattle.front_end.specs.Lines.{HearsOnly, IsSource, TakesWithin}
-use Rattle.engine.specs.SeenVersions.{WhereItFits}
-use Rattle.shell_text.specs.Texts.{reply_lines}
-use Rattle.face.specs.Carrying.{CarriesOut, HandsReply, TellsAnswer}
-use Rattle.face.specs.Headline.{IsGood}
-use Rattle.face.specs.Run.{Begins, Run, answered, listing_at, state_at, step}
-use Rattle.face.specs.RunInProgress.{HasAnswered}
+use Rattle.face.proofs.Names.{◌≡◌, ℕ, suc, List, ◌∷◌, ◌++◌, drop, arith, Ok, Site, Preserves, EachMoment, CacheLine, Line, Engine, sizes_of, QueueIsOnFlash, listing_of, Source, HearsOnly, IsSource, TakesWithin, WhereItFits, reply_lines, CarriesOut, HandsReply, TellsAnswer, IsGood, Begins, Run, answered, listing_at, state_at, step, HasAnswered}
 use Rattle.face.proofs.Cuts.{Cut}
 use Rattle.face.proofs.Dones.{done_next}
 use Rattle.face.proofs.Listed.{asked, left_after, listed_next}

@@ -1,11 +1,7 @@
 -- Calls are counted by the units that are appended and the octets that are told.
-use Rattle.std.proofs.Common.{◌≡◌, List, ◌++◌, ℕ, length, length-append, ◌∙◌, ap, arith}
-use Rattle.site.specs.declared.geometry.Geometry.{Geometry}
-use Rattle.site.specs.State.{State as Site}
+use Rattle.face.proofs.Names.{◌≡◌, List, ◌++◌, ℕ, length, length-append, ◌∙◌, ap, arith, Geometry, Site, TellsOnly, CallsForUnits, HearsOnly}
 use Rattle.site.specs.Moments.{works_in}
-use Rattle.site.specs.Telling.{TellsOnly}
-use Rattle.image_changes.specs.Costs.{CallsForUnits, cost_of}
-use Rattle.front_end.specs.Lines.{HearsOnly}
+use Rattle.image_changes.specs.Costs.{cost_of}
 
 -- while only is heard
 pub calls_heard : (g : Geometry) (mid now : Site) → HearsOnly mid now → CallsForUnits g mid now

@@ -1,54 +1,18 @@
 -- A line is carried out: a command of the database, one that asks for nothing, and one whose reply is told.
-use Rattle.std.proofs.Common.{◌≡◌, inl, inr, ⊎_elim, ℕ, ◌+◌, ◌++◌, ◌≤◌, true, false, List, [], IsTrue, IfErr, IfOk, OnOk, IsErrOf, refl, sym, ◌∙◌, ap, subst, arith, ◌≢◌}
-use Rattle.std.specs.Prelude.{Result, Ok, Err, Some, None, ⊤}
-use Rattle.site.specs.declared.outside.Dev.{Dev}
-use Rattle.site.specs.declared.outside.Dev.TheVariants.{Log}
-use Rattle.site.specs.declared.outside.Failed.{Failed}
-use Rattle.site.specs.declared.outside.Stop.{Stop}
-use Rattle.site.specs.declared.outside.Stop.TheVariants.{Device, Memory, Worn, Foreign}
-use Rattle.site.specs.declared.geometry.Geometry.{Geometry}
-use Rattle.site.specs.Calls.{Rose}
-use Rattle.site.specs.Faults.{WorkFaults, faults_in, with_output_fault}
-use Rattle.site.specs.State.{State as Site, Image, Moment, Snapshot, IsQuiet}
-use Rattle.site.specs.Moments.{EachMoment, LeavesOnly}
-use Rattle.site.proofs.Laws.{each_both, each_weaker, goes_in_sequence, goes_nowhere, holds_now, in_sequence, leaves_weaker, rose_since, stays_honest, stays_quiet}
-use Rattle.site.specs.Telling.{TellsPart}
+use Rattle.face.proofs.Names.{◌≡◌, inl, inr, ⊎_elim, ℕ, ◌+◌, ◌++◌, ◌≤◌, true, false, List, [], IsTrue, IfErr, OnOk, IsErrOf, refl, sym, ◌∙◌, ap, subst, arith, ◌≢◌, Result, Ok, Err, Some, None, ⊤, Dev, Log, Failed, Stop, Device, Memory, Worn, Foreign, Geometry, Rose, faults_in, with_output_fault, Site, Image, Moment, Snapshot, IsQuiet, EachMoment, LeavesOnly, each_both, each_weaker, goes_in_sequence, goes_nowhere, holds_now, in_sequence, leaves_weaker, rose_since, stays_honest, TellsPart, CacheLine, Command, Cache, Mark, Quit, Stat, Listing, Reply, State, Outcome, is_accepted, is_page_full, Line, is_cache, CacheOp, line_touches, MirrorsStore, AreNext, TransactionStore, Performs, line_work, performs_answered, performs_as, cache_of, rules, Engine, Matches, Invariant, sizes_of, LeavesEither, LeavesTable, listing_of, CallsForUnits, reply_lines, reply_text, Halt, RunFaults, hands_as, CarriesOut, CarriesUntold, DoesLine, HandsReply, TellsAnswer, AnswerFailsBy, IsAsked, StandsFor, line_checkpoints, line_log_reads, step, LeavesAnswer}
+use Rattle.std.proofs.Common.{IfOk}
+use Rattle.site.specs.Faults.{WorkFaults}
+use Rattle.site.proofs.Laws.{stays_quiet}
 use Rattle.site.proofs.Working.{ok_always}
-use Rattle.record_model.specs.declared.words.CacheLine.{CacheLine}
-use Rattle.record_model.specs.declared.words.Command.{Command}
-use Rattle.record_model.specs.declared.words.Command.TheVariants.{Cache, Mark, Quit, Stat}
-use Rattle.record_model.specs.declared.words.Reply.TheVariants.{Listing}
-use Rattle.record_model.specs.declared.words.Reply.{Reply}
-use Rattle.record_model.specs.State.{State}
-use Rattle.record_model.specs.Step.{Outcome, is_accepted, is_page_full}
-use Rattle.record_model.specs.Run.{Line, is_cache}
-use Rattle.record_model.specs.Touches.{CacheOp, line_touches}
 use Rattle.page_store.proofs.StagingLaws.{last_none}
-use Rattle.redo_undo.specs.Mirroring.{MirrorsStore, PerformsStore}
-use Rattle.redo_undo.specs.StoreCalls.{AreNext}
-use Rattle.redo_undo.specs.declared.store.TransactionStore.{TransactionStore}
-use Rattle.ring_machine.specs.Performing.{Performs}
-use Rattle.ring_machine.specs.Commands.{line_work}
-use Rattle.ring_machine.proofs.Performing.{performs_answered, performs_as, performs_nothing}
-use Rattle.page_store.specs.Caching.{cache_of, rules}
-use Rattle.engine.specs.declared.engine.Engine.{Engine}
+use Rattle.redo_undo.specs.Mirroring.{PerformsStore}
+use Rattle.ring_machine.proofs.Performing.{performs_nothing}
 use Rattle.engine.specs.Calls.{CommandContract, KeepsEngine}
-use Rattle.engine.specs.Representation.{Matches}
-use Rattle.engine.specs.Invariant.{Invariant, sizes_of}
-use Rattle.engine.specs.Leaves.{LeavesEither, LeavesTable}
-use Rattle.engine.specs.Listings.{listing_of}
 use Rattle.engine.specs.LogReads.{log_reads_by}
 use Rattle.engine.proofs.RingCounts.{run_makes}
-use Rattle.image_changes.specs.Costs.{CallsForUnits}
-use Rattle.shell_text.specs.Texts.{reply_lines, reply_text}
-use Rattle.front_end.specs.declared.halt.Halt.{Halt}
 use Rattle.front_end.specs.declared.halt.Halt.TheVariants as halt
-use Rattle.front_end.specs.Faults.{RunFaults}
 use Rattle.front_end.specs.Tells.{HandsLines, TellsText}
-use Rattle.front_end.proofs.Replies.{hands_as}
-use Rattle.face.specs.Carrying.{CarriesOut, CarriesUntold, DoesLine, HandsReply, LinePerforms, LineStepsMachine, TellsAnswer, halted}
-use Rattle.face.specs.Causes.{AnswerFailsBy}
-use Rattle.face.specs.Run.{IsAsked, StandsFor, line_checkpoints, line_log_reads, step, LeavesAnswer}
+use Rattle.face.specs.Carrying.{LinePerforms, LineStepsMachine, halted}
 use Rattle.face.proofs.CommandLaws.{fails_by}
 use Rattle.face.proofs.Counted.{counts_as, counts_err, counts_idle, counts_told}
 use Rattle.face.proofs.Listed.{cache_line, same_step}

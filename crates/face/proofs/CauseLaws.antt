@@ -1,18 +1,8 @@
 -- When each status comes.
-use Rattle.std.proofs.Common.{◌≡◌, inl, inr, ◌⊎◌, IsTrue, ℕ, length, refl, sym, ap, subst, arith}
-use Rattle.site.specs.declared.outside.Dev.{Dev}
-use Rattle.site.specs.declared.outside.Dev.TheVariants.{Log, Flash, Disk}
-use Rattle.site.specs.declared.outside.Stop.TheVariants.{Device, Memory, Worn, Foreign}
-use Rattle.site.specs.State.{Input, State, faults_of}
-use Rattle.site.specs.Calls.{Preserves}
-use Rattle.site.proofs.Laws.{rose_then}
-use Rattle.site.specs.Telling.{SameDevices}
-use Rattle.flash_cache.specs.Representation.{IsWorn}
-use Rattle.redo_laws.specs.Holding.{IsLogWorn, IsSpent}
-use Rattle.front_end.specs.declared.halt.Halt.{Halt}
+use Rattle.face.proofs.Names.{◌≡◌, inl, inr, ◌⊎◌, IsTrue, ℕ, length, refl, sym, ap, subst, arith, Dev, Log, Flash, Disk, Device, Memory, Worn, Foreign, Input, faults_of, Preserves, rose_then, SameDevices, IsWorn, IsLogWorn, IsSpent, Halt, status_of, HasCause, HasCauses}
+use Rattle.site.specs.State.{State}
 use Rattle.front_end.specs.declared.halt.Halt.TheVariants as halt
-use Rattle.front_end.specs.Texts.{status_of}
-use Rattle.face.specs.Causes.{HasCause, HasCauses, IsWornOut}
+use Rattle.face.specs.Causes.{IsWornOut}
 
 -- a cause holds still when a line was told
 pub cause_then : (h : Halt) (a b c : State) → HasCause h a b → Preserves b c → (IsTrue a.honest → SameDevices b c) → HasCause h a c

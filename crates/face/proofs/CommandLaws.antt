@@ -1,29 +1,12 @@
 -- Why a command and a restart fail.
-use Rattle.std.proofs.Common.{◌≡◌, ℕ, List, IsTrue, IfErr, IsErrOf, refl}
-use Rattle.std.specs.Prelude.{Result, Ok, Err}
-use Rattle.site.specs.declared.outside.Dev.{Dev}
-use Rattle.site.specs.declared.outside.Dev.TheVariants.{Log, Flash, Disk}
-use Rattle.site.specs.declared.outside.Stop.{Stop}
-use Rattle.site.specs.declared.outside.Stop.TheVariants.{Device, Memory, Worn, Foreign}
-use Rattle.site.specs.declared.geometry.Geometry.{Geometry}
-use Rattle.site.specs.State.{State as Site}
+use Rattle.face.proofs.Names.{◌≡◌, ℕ, List, IsTrue, IfErr, IsErrOf, refl, Result, Ok, Err, Dev, Log, Flash, Disk, Stop, Device, Memory, Worn, Foreign, Geometry, Site, State, Content, Engine, sizes_of, IsWorn, HasLimits, HasLengths, IsLogWorn, TransactionStore, Stands, Matches, LeavesTable, HasCause}
 use Rattle.site.specs.Calls.{FaultRose}
-use Rattle.record_model.specs.State.{State, Content}
 use Rattle.page_store.specs.Stopping.{MayStop}
-use Rattle.engine.specs.declared.engine.Engine.{Engine}
-use Rattle.engine.specs.Invariant.{sizes_of}
-use Rattle.flash_cache.specs.Representation.{IsWorn}
-use Rattle.site.specs.Geometry.{HasLimits, HasLengths}
-use Rattle.redo_laws.specs.Holding.{IsLogWorn}
 use Rattle.redo_undo.specs.StoreCalls.{KeepsNext}
-use Rattle.redo_undo.specs.declared.store.TransactionStore.{TransactionStore}
 use Rattle.engine.specs.Restarting.{LeavesNext}
-use Rattle.engine.specs.Image.{Stands}
-use Rattle.engine.specs.Representation.{Matches}
 use Rattle.front_end.specs.declared.halt.Halt.TheVariants as halt
 use Rattle.engine.specs.Calls.{Ends}
-use Rattle.engine.specs.Leaves.{LeavesTable}
-use Rattle.face.specs.Causes.{FailsBy, HasCause}
+use Rattle.face.specs.Causes.{FailsBy}
 
 -- why a command fails
 pub fails_by : {T : Type 0} (result : Result T Stop) (engine : Engine) {after : TransactionStore} (old new : Site) → IfErr result MayStop → (IsTrue old.honest → KeepsNext result engine.store after old new) → ((d : Dev) → IsErrOf result (Device d) → FaultRose d old new)

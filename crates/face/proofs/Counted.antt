@@ -1,39 +1,14 @@
 -- How many numbers a run gives to the rings on the log's device, line by line.
-use Rattle.std.proofs.Common.{◌≡◌, ℕ, suc, ◌+◌, ◌≤◌, Bool, true, false, List, [], ◌∷◌, drop, refl, sym, ◌∙◌, ap, subst, arith}
-use Rattle.std.specs.Prelude.{Result, Ok, Err, OnOk, Some, None, if◌then◌else◌}
+use Rattle.face.proofs.Names.{◌≡◌, ℕ, suc, ◌+◌, ◌≤◌, Bool, true, false, List, [], ◌∷◌, drop, refl, sym, ◌∙◌, ap, subst, arith, Result, Ok, Err, OnOk, Some, None, if◌then◌else◌, Geometry, Stop, Site, Image, IsQuiet, holds_now, in_sequence, unchanged, ok_as, EachMoment, Leaves, LeavesOnly, TellsPart, hi_of, CallsForUnits, master_shape, calls_then, CacheLine, State, Line, Turn, is_quit, later_listings, next_listing, turn, turns, Entry, LogStore, HasNumbers, TransactionStore, Engine, Matches, Invariant, sizes_of, log_under, up_to_quit, GivesNumbers, SkipsNoNumber, made_by, Run, after_lines, answered, checkpoints_of, first_lines, line_checkpoints, listing_at, state_at, step, turns_of, checkpoints_in, makes_one}
 use Rattle.std_lemmas.proofs.Results.{on_ok}
-use Rattle.site.specs.declared.geometry.Geometry.{Geometry}
-use Rattle.site.specs.declared.outside.Stop.{Stop}
-use Rattle.site.specs.State.{State as Site, Image, IsQuiet}
-use Rattle.site.proofs.Laws.{holds_now, in_sequence, unchanged}
-use Rattle.site.proofs.Working.{ok_as}
-use Rattle.site.specs.Moments.{EachMoment, Leaves, LeavesOnly}
-use Rattle.site.specs.Telling.{TellsPart}
-use Rattle.sealed_ring.specs.Ring.{hi_of}
-use Rattle.image_changes.specs.Costs.{CallsForUnits}
-use Rattle.image_changes.specs.Rings.{master_shape}
-use Rattle.image_changes.proofs.Counting.{calls_then}
-use Rattle.record_model.specs.declared.words.CacheLine.{CacheLine}
 use Rattle.record_model.specs.declared.words.Reply.TheVariants as reply
-use Rattle.record_model.specs.State.{State}
-use Rattle.record_model.specs.Run.{Line, Turn, is_quit, later_listings, next_listing, turn, turns}
-use Rattle.log_records.specs.Log.{Entry}
-use Rattle.log_store.specs.declared.store.LogStore.{LogStore}
 use Rattle.redo_laws.specs.Holding.{blocks_to}
-use Rattle.redo_laws.specs.Numbers.{HasNumbers, SkipsNone}
+use Rattle.redo_laws.specs.Numbers.{SkipsNone}
 use Rattle.redo_laws.proofs.RingNumbers.{leaves_more, leaves_unchanged}
-use Rattle.redo_undo.specs.declared.store.TransactionStore.{TransactionStore}
-use Rattle.engine.specs.declared.engine.Engine.{Engine}
-use Rattle.engine.specs.Representation.{Matches}
-use Rattle.engine.specs.Invariant.{Invariant, sizes_of}
-use Rattle.engine.specs.Image.{log_under}
 use Rattle.engine.specs.Numbers.{CountsOn, RestartsWithin}
 use Rattle.face.specs.RunInProgress.{IsCounted}
-use Rattle.front_end.specs.Lines.{up_to_quit}
-use Rattle.face.specs.RunMeaning.{GivesNumbers, SkipsNoNumber, blocks_by, made_by, masters_by}
+use Rattle.face.specs.RunMeaning.{blocks_by, masters_by}
 use Rattle.face.proofs.Writings.{images_told}
-use Rattle.face.specs.Run.{Run, after_lines, answered, checkpoints_of, first_lines, line_checkpoints, listing_at, state_at, step, turns_of}
-use Rattle.face.specs.Workload.{checkpoints_in, makes_one}
 use Rattle.face.proofs.Pagings.{after_same}
 use Rattle.face.proofs.Runs.{state_next, turn_at, turns_next}
 use Rattle.face.proofs.LinesBeforeQuit.{count_join, count_one}

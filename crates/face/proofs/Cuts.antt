@@ -1,15 +1,6 @@
 -- The lines that were cut from the octets taken.
-use Rattle.std.proofs.Common.{◌≡◌, ◌≢◌, ℕ, suc, ◌+◌, ◌-◌, ◌≤◌, List, [], ◌∷◌, ◌++◌, length, take, drop, refl, sym, ◌∙◌, ap, subst, arith, append_assoc, length-append}
-use Rattle.std.specs.Prelude.{Bool, true, false, map, if◌then◌else◌}
-use Rattle.std.specs.List.{AllByRecursion, list_any}
-use Rattle.std.proofs.lemmas.List.{append-nil, take_at, drop_at, take_all}
-use Rattle.std_lemmas.proofs.AllOf.{all_append}
-use Rattle.site.specs.State.{Input, State as Site}
-use Rattle.record_model.specs.Run.{Line, is_quit}
-use Rattle.front_end.specs.declared.source.Source.{Source}
-use Rattle.shell_text.specs.Reading.{line_of}
-use Rattle.front_end.specs.Lines.{commands_of, up_to_quit, answered_of, limit, pending, to_hear, IsSource, HasEnded, total, AreLines, HearsLine}
-use Rattle.face.specs.Working.{HasHeard}
+use Rattle.face.proofs.Names.{◌≡◌, ◌≢◌, ℕ, suc, ◌+◌, ◌-◌, ◌≤◌, List, [], ◌∷◌, ◌++◌, length, take, drop, refl, sym, ◌∙◌, ap, subst, arith, append_assoc, length-append, Bool, true, false, map, if◌then◌else◌, AllByRecursion, list_any, append-nil, take_at, drop_at, take_all, all_append, Input, Site, Line, is_quit, Source, line_of, commands_of, up_to_quit, answered_of, limit, pending, to_hear, IsSource, HasEnded, total, HearsLine, HasHeard}
+use Rattle.front_end.specs.Lines.{AreLines}
 use Rattle.shell_text.proofs.Lines.{lines_of-waits}
 use Rattle.face.proofs.Fronts.{up_append, none_quit, some_quit}
 

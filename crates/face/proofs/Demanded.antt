@@ -1,27 +1,10 @@
 -- What a run asks of the devices, by how it ends.
-use Rattle.image_changes.specs.Costs.{CallsForUnits}
-use Rattle.image_changes.proofs.Counting.{calls_then}
-use Rattle.std.proofs.Common.{◌≡◌, ℕ, ◌≤◌, List, [], length, sym, ap, subst, arith}
-use Rattle.std.specs.Prelude.{Ok, Err, IsErrOf}
-use Rattle.site.specs.declared.outside.Dev.{Dev}
-use Rattle.site.specs.declared.outside.Stop.TheVariants.{Worn}
-use Rattle.site.specs.State.{State as Site, Image}
-use Rattle.site.specs.Calls.{SameReads}
-use Rattle.site.specs.Moments.{EachMoment}
-use Rattle.site.specs.Telling.{TellsPart}
-use Rattle.front_end.specs.declared.halt.Halt.{Halt}
+use Rattle.face.proofs.Names.{CallsForUnits, calls_then, ◌≡◌, ℕ, ◌≤◌, List, [], length, sym, ap, subst, arith, Ok, Err, IsErrOf, Dev, Worn, Site, Image, SameReads, EachMoment, TellsPart, Halt, HasDone, AsksNoMore, LeavesStaged, SkipsNoNumber, staged_by_run, Run, answered, first_lines, turns_of, fault_line, Demands, WearsFirst, WearsNone, WearsNoneBefore, last_still}
 use Rattle.front_end.specs.declared.halt.Halt.TheVariants as halt
 use Rattle.face.specs.Headline.{Resources}
-use Rattle.face.specs.Done.{HasDone}
-use Rattle.face.specs.RunMeaning.{AsksNoMore, LeavesStaged, SkipsNoNumber, staged_by_run}
-use Rattle.face.specs.Run.{Run, answered, first_lines, turns_of}
-use Rattle.front_end.specs.Texts.{fault_line}
-use Rattle.face.specs.Working.{Demands}
-use Rattle.face.specs.Worn.{WearsFirst, WearsNone, WearsNoneBefore}
 use Rattle.face.proofs.Counted.{skips_still}
 use Rattle.face.proofs.Pagings.{few_told, leaves_its_queue, leaves_staged, leaves_versions}
 use Rattle.face.proofs.WornRuns.{leaves_its_rings, wears_none}
-use Rattle.page_store.proofs.StagingLaws.{last_still}
 
 no_error : {T : Type 0} (x : T) (h : Halt) → IsErrOf {T = T} (Ok x) h → ⊥
 no_error x h is = cc

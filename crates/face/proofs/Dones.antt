@@ -1,22 +1,5 @@
 -- What is done when something is told, one line after the other.
-use Rattle.std.proofs.Common.{◌≡◌, ◌⊎◌, inl, inr, ⊎_elim, ℕ, zero, suc, ◌+◌, ◌≤◌, List, [], ◌∷◌, ◌++◌, take, drop, refl, sym, ◌∙◌, ap, subst, arith, add-one}
-use Rattle.std.proofs.lemmas.List.{append-nil, take-take}
-use Rattle.site.specs.State.{State as Site, Moment}
-use Rattle.site.specs.Moments.{EachMoment, LeavesOnly}
-use Rattle.site.proofs.Laws.{each_both, each_weaker, in_sequence}
-use Rattle.site.specs.Telling.{HandsLine, HandsRest, TellsPart}
-use Rattle.record_model.specs.Run.{Line}
-use Rattle.engine.specs.declared.engine.Engine.{Engine}
-use Rattle.engine.specs.Leaves.{LeavesTable}
-use Rattle.engine.specs.Listings.{QueueIsOnFlash}
-use Rattle.engine.specs.SeenVersions.{WhereItFits}
-use Rattle.shell_text.specs.Texts.{open_text, reply_lines}
-use Rattle.front_end.proofs.Replies.{hands_as}
-use Rattle.face.specs.Carrying.{HandsReply}
-use Rattle.face.specs.Done.{HasDone, TellsDone, lines_at}
-use Rattle.face.specs.Run.{Run, answered, first_lines, listing_at, state_at, step}
-use Rattle.face.specs.RunInProgress.{HasServed}
-use Rattle.face.specs.RunMeaning.{first_texts}
+use Rattle.face.proofs.Names.{◌≡◌, ◌⊎◌, inl, inr, ⊎_elim, ℕ, zero, suc, ◌+◌, ◌≤◌, List, [], ◌∷◌, ◌++◌, take, drop, refl, sym, ◌∙◌, ap, subst, arith, add-one, append-nil, take-take, Site, Moment, EachMoment, LeavesOnly, each_both, each_weaker, in_sequence, HandsLine, HandsRest, TellsPart, Line, Engine, LeavesTable, QueueIsOnFlash, WhereItFits, open_text, reply_lines, hands_as, HandsReply, HasDone, TellsDone, lines_at, Run, answered, first_lines, listing_at, state_at, step, HasServed, first_texts}
 use Rattle.face.proofs.Fronts.{first_same, other, told_same}
 use Rattle.face.proofs.Quiet.{says_nothing}
 use Rattle.face.proofs.Runs.{lines_next}

@@ -1,48 +1,14 @@
 -- How a run comes to its end.
-use Rattle.std.proofs.Common.{◌≡◌, ◌≢◌, ◌⊎◌, inl, inr, ⊎_elim, IsTrue, ℕ, ◌≤◌, List, [], ◌∷◌, ◌++◌, length, drop, suc, refl, sym, ◌∙◌, ap, subst, arith}
-use Rattle.std.specs.Prelude.{Ok, Err, true, false, Bool}
-use Rattle.std.proofs.lemmas.List.{append-nil}
-use Rattle.site.specs.State.{Input, State as Site, Image, faults_of}
-use Rattle.site.specs.declared.geometry.Geometry.{Geometry}
-use Rattle.site.specs.Calls.{Preserves, Rose}
-use Rattle.site.specs.Moments.{EachMoment}
-use Rattle.site.proofs.Laws.{holds_now, rose_since, stays_honest}
-use Rattle.site.specs.declared.outside.Stop.TheVariants.{Device, Memory, Worn, Foreign}
-use Rattle.record_model.specs.State.{Content, State}
-use Rattle.engine.specs.Image.{Stands}
-use Rattle.engine.specs.Representation.{Matches}
-use Rattle.engine.specs.Invariant.{sizes_of}
-use Rattle.flash_cache.specs.Representation.{IsWorn}
-use Rattle.site.specs.Geometry.{HasLimits, HasLengths}
-use Rattle.redo_laws.specs.Holding.{IsLogWorn, IsSpent}
-use Rattle.redo_undo.specs.StoreCalls.{AreNext}
-use Rattle.record_model.specs.Run.{Line, is_quit}
-use Rattle.front_end.specs.declared.halt.Halt.{Halt}
+use Rattle.face.proofs.Names.{◌≡◌, ◌≢◌, ◌⊎◌, inl, inr, ⊎_elim, IsTrue, ℕ, ◌≤◌, List, [], ◌∷◌, ◌++◌, length, drop, suc, refl, sym, ◌∙◌, ap, subst, arith, Ok, Err, true, false, Bool, append-nil, Input, Site, Image, faults_of, Geometry, Preserves, Rose, EachMoment, holds_now, rose_since, stays_honest, Device, Memory, Worn, Foreign, Content, State, Stands, Matches, sizes_of, IsWorn, HasLimits, HasLengths, IsLogWorn, IsSpent, AreNext, Line, is_quit, Halt, Source, Engine, HasCause, AnswerFailsBy, HasEnded, to_hear, total, IsSource, HearsLine, IsCutOff, Log, Flash, Disk, CacheLine, QueueIsOnFlash, listing_of, WhereItFits, HeardAll, answered_of, status_of, reply_lines, CarriesOut, HandsReply, TellsAnswer, IsLeft, ListsTheMachine, Run, answered, first_lines, listing_at, state_at, step, HasHeard, RunOutcome, StopsTaking, TakingFails, HasAnswered, NeverOpens, Dev}
 use Rattle.front_end.specs.declared.halt.Halt.TheVariants as halt
-use Rattle.front_end.specs.declared.source.Source.{Source}
 use Rattle.front_end.specs.declared.source.Heard.{Heard}
 use Rattle.front_end.specs.declared.source.Heard.TheVariants as heard
-use Rattle.engine.specs.declared.engine.Engine.{Engine}
-use Rattle.face.specs.Causes.{HasCause, AnswerFailsBy}
-use Rattle.front_end.specs.Lines.{HasEnded, to_hear, total, IsSource, HearsLine, Hears, IsCutOff}
-use Rattle.site.specs.declared.outside.Dev.TheVariants.{Log, Flash, Disk}
-use Rattle.record_model.specs.declared.words.CacheLine.{CacheLine}
-use Rattle.engine.specs.Listings.{QueueIsOnFlash, listing_of}
-use Rattle.engine.specs.SeenVersions.{WhereItFits}
-use Rattle.front_end.specs.Lines.{HeardAll, answered_of}
-use Rattle.front_end.specs.Texts.{status_of}
-use Rattle.shell_text.specs.Texts.{reply_lines}
-use Rattle.face.specs.Carrying.{CarriesOut, HandsReply, TellsAnswer}
-use Rattle.face.specs.RunMeaning.{IsLeft, ListsTheMachine}
-use Rattle.face.specs.Run.{Run, answered, first_lines, listing_at, state_at, step}
-use Rattle.face.specs.Working.{HasHeard, RunOutcome, StopsTaking, TakingFails}
-use Rattle.face.specs.RunInProgress.{HasAnswered, NeverOpens}
+use Rattle.front_end.specs.Lines.{Hears}
 use Rattle.face.proofs.Cuts.{Cut, has_heard_all, input_failed, over_limit, taken_by, heard_line, quit_is_last}
 use Rattle.face.proofs.RunsSoFar.{begun_after, begun_before, cut_short, ended as is_whole, stopped}
 use Rattle.face.proofs.Demanded.{demands_as}
 use Rattle.face.proofs.Dones.{done_next}
 use Rattle.face.proofs.Serving.{line_asks, line_fails, none_before, none_worn, served_all, served_so_far}
-use Rattle.site.specs.declared.outside.Dev.{Dev}
 use Rattle.face.proofs.Lefts.{left_first}
 use Rattle.face.proofs.Listed.{asked, listed_next, no_turn}
 use Rattle.face.proofs.Waits.{answers_more, answers_none, answers_still}

@@ -1,40 +1,13 @@
 -- A run that halts, and its fault line.
-use Rattle.std.proofs.Common.{◌≡◌, ◌≢◌, ◌⊎◌, inl, inr, ⊎_elim, ℕ, suc, ◌+◌, ◌≤◌, Bool, true, false, List, [], ◌∷◌, ◌++◌, length, take, drop, refl, sym, ◌∙◌, ap, subst, arith, append_assoc, length-append, take-append-drop}
-use Rattle.std.specs.Prelude.{Err, Ok, Result, IsTrue, count_by, flat_map, map}
-use Rattle.std.proofs.lemmas.List.{append-nil, length-take, take_all, take_at, take-take}
-use Rattle.site.specs.State.{Input, State as Site, Snapshot}
-use Rattle.site.specs.Calls.{Preserves}
-use Rattle.site.specs.Moments.{Leaves, LeavesOnly, EachMoment}
-use Rattle.site.proofs.Laws.{in_sequence, leaves_weaker, stays_honest, told_is, tell_leaves}
-use Rattle.site.specs.Telling.{TellsPart}
-use Rattle.site.specs.declared.outside.Failed.{Failed}
-use Rattle.site.specs.declared.geometry.Geometry.{Geometry}
-use Rattle.record_model.specs.declared.words.CacheLine.{CacheLine}
-use Rattle.record_model.specs.State.{State}
-use Rattle.record_model.specs.Run.{Line, Turn, after_commits, commit_marks, is_quit, replies}
-use Rattle.record_model.specs.Serial.{Serial}
-use Rattle.std.specs.List.{list_any}
-use Rattle.front_end.specs.declared.halt.Halt.{Halt}
+use Rattle.face.proofs.Names.{◌≡◌, ◌≢◌, ◌⊎◌, inl, inr, ⊎_elim, ℕ, suc, ◌+◌, ◌≤◌, Bool, true, false, List, [], ◌∷◌, ◌++◌, length, take, drop, refl, sym, ◌∙◌, ap, subst, arith, append_assoc, length-append, take-append-drop, Err, Ok, Result, IsTrue, count_by, flat_map, map, append-nil, take_all, take_at, take-take, Input, Site, Snapshot, Preserves, Leaves, LeavesOnly, EachMoment, in_sequence, leaves_weaker, stays_honest, told_is, tell_leaves, TellsPart, Failed, Geometry, CacheLine, State, Line, Turn, after_commits, commit_marks, is_quit, replies, Serial, list_any, Halt, fault_line, status_of, open_text, reply_text, Stands, HasCause, HasCauses, NoFaultRose, commands_of, answered_of, limit, Run, answered, first_lines, Begins, Demands, HasHeard, StandsNear, StopsTaking, TakingFails, RunOutcome, IsLeft, IsWhole, ListsTheMachine, WearsFirst, WearsNone, first_texts, run_of, run_text, texts, EndsBehind, Tells, ends_whole, ends_with, RunContract, Durability, IsGood, Headline, TellsFault, Dev}
+use Rattle.std.proofs.lemmas.List.{length-take}
 use Rattle.front_end.specs.declared.halt.Halt.TheVariants as halt
-use Rattle.front_end.specs.Texts.{fault_line, status_of}
-use Rattle.shell_text.specs.Texts.{open_text, reply_text}
-use Rattle.engine.specs.Image.{Stands}
-use Rattle.face.specs.Causes.{HasCause, HasCauses, EndsInTime}
-use Rattle.front_end.specs.Faults.{NoFaultRose}
+use Rattle.face.specs.Causes.{EndsInTime}
 use Rattle.face.proofs.WornFronts.{earlier_same, never_worn}
-use Rattle.front_end.specs.Lines.{commands_of, answered_of, limit}
-use Rattle.face.specs.Run.{Run, answered, first_lines, Begins}
-use Rattle.face.specs.Working.{Demands, HasHeard, HasTakenAll, IsBetween, StandsNear, StopsTaking, TakingFails, RunOutcome}
+use Rattle.face.specs.Working.{HasTakenAll, IsBetween}
 use Rattle.face.proofs.Waits.{answers_still}
-use Rattle.face.specs.RunMeaning.{IsLeft, IsWhole, ListsTheMachine}
-use Rattle.face.specs.Worn.{WearsFirst, WearsNone}
-use Rattle.face.specs.RunMeaning.{first_texts, run_of, run_text, texts}
-use Rattle.front_end.specs.Tells.{EndsBehind, Tells}
-use Rattle.front_end.proofs.Endings.{ends_whole, ends_with}
 use Rattle.face.proofs.Demanded.{asked_done, asked_halted, demands_failed}
-use Rattle.face.specs.TopCall.{RunContract}
-use Rattle.face.specs.Headline.{Durability, IsGood, IsToldWhole, Headline, TellsFault}
-use Rattle.site.specs.declared.outside.Dev.{Dev}
+use Rattle.face.specs.Headline.{IsToldWhole}
 use Rattle.face.proofs.Fronts.{begun_same, first_commands, first_same, lines_first, no_quits, told_first, told_same, waits_same, whole_turns}
 use Rattle.face.proofs.LinesBeforeQuit.{all_answered}
 use Rattle.face.proofs.Lefts.{left_whole}

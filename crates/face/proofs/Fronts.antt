@@ -1,20 +1,9 @@
 -- Two runs whose first lines are the same.
-use Rattle.std.proofs.Common.{◌≡◌, ℕ, suc, ◌+◌, ◌≤◌, Bool, true, false, List, [], ◌∷◌, ◌++◌, length, take, get_or, refl, sym, ◌∙◌, ap, subst, arith, append_assoc}
-use Rattle.std.specs.Prelude.{flat_map, map, if◌then◌else◌, ◌||◌, ◌==◌}
-use Rattle.std.specs.List.{AllByRecursion, list_any}
+use Rattle.face.proofs.Names.{◌≡◌, ℕ, suc, ◌+◌, ◌≤◌, Bool, true, false, List, [], ◌∷◌, ◌++◌, length, take, get_or, refl, sym, ◌∙◌, ap, subst, arith, append_assoc, flat_map, map, if◌then◌else◌, ◌||◌, ◌==◌, AllByRecursion, list_any, append-nil, take_all, take-take, Site, Take, Line, Turn, is_quit, left_by, replies, line_of, open_text, reply_text, answered_of, commands_of, up_to_quit, HasBegun, first_texts, text_at, texts, Run, answered, after_lines, first_lines, state_at, turns_of, IsAnswered, AnswersFirst, IsEarly}
 use Rattle.std.proofs.lemmas.Bool.{or_right}
-use Rattle.std.proofs.lemmas.List.{append-nil, take-map, take_all, take-take, get_or-take}
-use Rattle.site.specs.State.{State as Site}
-use Rattle.site.specs.declared.outside.Take.{Take}
-use Rattle.record_model.specs.Run.{Line, Turn, is_quit, left_by, replies}
+use Rattle.std.proofs.lemmas.List.{take-map, get_or-take}
 use Rattle.shell_text.specs.Runs.{lines_of, in_front}
-use Rattle.shell_text.specs.Reading.{line_of}
-use Rattle.shell_text.specs.Texts.{open_text, reply_text}
-use Rattle.front_end.specs.Lines.{answered_of, commands_of, up_to_quit}
-use Rattle.face.specs.RunMeaning.{HasBegun, first_texts, text_at, texts}
-use Rattle.face.specs.Run.{Run, answered, after_lines, first_lines, state_at, turns_of}
-use Rattle.face.specs.Waiting.{IsAnswered, NobodyWaits}
-use Rattle.face.specs.Working.{AnswersFirst, IsEarly}
+use Rattle.face.specs.Waiting.{NobodyWaits}
 use Rattle.face.proofs.Turns.{first_answered, first_turns, left_are, turns_count}
 
 -- A run, and the run over its first lines.

@@ -1,17 +1,7 @@
 -- What was opened goes on, on every site.
-use Rattle.std.proofs.Common.{◌≡◌, IsTrue, ◌∙◌, ap}
-use Rattle.std.specs.Prelude.{Ok, Err, ⊤}
-use Rattle.site.specs.State.{State as Site}
-use Rattle.site.specs.Calls.{Preserves, Rose}
-use Rattle.site.specs.Faults.{faults_in, with_output_fault}
-use Rattle.site.proofs.Laws.{goes_in_sequence, rose_since, stays_honest}
-use Rattle.record_model.specs.Run.{Line}
-use Rattle.engine.specs.declared.engine.Engine.{Engine}
-use Rattle.front_end.specs.declared.halt.Halt.{Halt}
+use Rattle.face.proofs.Names.{◌≡◌, IsTrue, ◌∙◌, ap, Ok, Err, ⊤, Site, Preserves, Rose, faults_in, with_output_fault, goes_in_sequence, rose_since, stays_honest, Line, Engine, Halt, RunFaults, HearsOnly, CarriesOut}
 use Rattle.front_end.specs.declared.halt.Halt.TheVariants as halt
-use Rattle.front_end.specs.Faults.{RunFaults, SameFaults, after_halt}
-use Rattle.front_end.specs.Lines.{HearsOnly}
-use Rattle.face.specs.Carrying.{CarriesOut}
+use Rattle.front_end.specs.Faults.{SameFaults, after_halt}
 use Rattle.face.specs.Causes.{WorkEnds}
 use Rattle.face.specs.RunInProgress.{GoesOn}
 use Rattle.face.proofs.Ends.{answer_cause}

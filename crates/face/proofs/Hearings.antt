@@ -1,16 +1,8 @@
 -- What was heard of the input when a run ends.
-use Rattle.std.proofs.Common.{◌≡◌, ◌≢◌, ◌⊎◌, inl, inr, ⊎_elim, ℕ, suc, ◌+◌, ◌≤◌, Bool, true, false, List, [], ◌++◌, length, refl, sym, ◌∙◌, ap, subst, arith}
-use Rattle.std.specs.Prelude.{Ok, Err}
+use Rattle.face.proofs.Names.{◌≡◌, ◌≢◌, ◌⊎◌, inl, inr, ⊎_elim, ℕ, suc, ◌+◌, ◌≤◌, Bool, true, false, List, [], ◌++◌, length, refl, sym, ◌∙◌, ap, subst, arith, Ok, Err, Site, Input, Line, is_quit, Halt, Source, HasEnded, HearsLine, IsCutOff, IsSource, limit, pending, to_hear, total, status_of, HasHeard}
 use Rattle.std.proofs.lemmas.List.{length-append}
-use Rattle.site.specs.State.{State as Site, Input}
-use Rattle.record_model.specs.Run.{Line, is_quit}
-use Rattle.front_end.specs.declared.halt.Halt.{Halt}
 use Rattle.front_end.specs.declared.halt.Halt.TheVariants as halt
-use Rattle.front_end.specs.declared.source.Source.{Source}
 use Rattle.face.specs.Hearing.{EndsHearing, HasTaken, HearsInTime, IsTooLong, WorkHears}
-use Rattle.front_end.specs.Lines.{HasEnded, HearsLine, IsCutOff, IsSource, limit, pending, to_hear, total}
-use Rattle.front_end.specs.Texts.{status_of}
-use Rattle.face.specs.Working.{HasHeard}
 use Rattle.face.proofs.Statuses.{not_zero, of_seven}
 use Rattle.face.proofs.Cuts.{Cut, has_heard_all, heard_line, input_failed, over_limit, quit_is_last, taken_by}
 

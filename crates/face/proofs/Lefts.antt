@@ -1,18 +1,5 @@
 -- What a crash may leave of the first lines of a run, one line after the other.
-use Rattle.std.proofs.Common.{◌≡◌, inl, inr, ⊎_elim, ℕ, zero, suc, ◌+◌, ◌≤◌, List, [], ◌∷◌, ◌++◌, length, take, drop, refl, sym, ◌∙◌, ap, subst, arith, append_assoc, take-append-drop}
-use Rattle.std.proofs.lemmas.List.{append-nil, length-take-le, take_all, take-take}
-use Rattle.std.proofs.lemmas.Bool.{cases_lt}
-use Rattle.site.specs.State.{State as Site, Image, Snapshot}
-use Rattle.site.specs.Moments.{Leaves, LeavesOnly}
-use Rattle.site.proofs.Laws.{in_sequence, leaves_weaker}
-use Rattle.site.specs.declared.geometry.Geometry.{Geometry}
-use Rattle.record_model.specs.declared.words.CacheLine.{CacheLine}
-use Rattle.record_model.specs.State.{State}
-use Rattle.record_model.specs.Run.{Line, commits_among, whole_texts}
-use Rattle.shell_text.specs.Texts.{open_text, reply_text}
-use Rattle.face.specs.RunMeaning.{IsLeft, IsToldOf, first_texts, text_at, texts}
-use Rattle.face.specs.Run.{Run, answered, first_lines, step, state_at, listing_at, IsFront, LeavesAnswer, StandsAt, StandsFor}
-use Rattle.face.specs.Working.{StandsNear}
+use Rattle.face.proofs.Names.{◌≡◌, inl, inr, ⊎_elim, ℕ, zero, suc, ◌+◌, ◌≤◌, List, [], ◌∷◌, ◌++◌, length, take, drop, refl, sym, ◌∙◌, ap, subst, arith, append_assoc, take-append-drop, append-nil, length-take-le, take_all, take-take, cases_lt, Site, Image, Snapshot, Leaves, LeavesOnly, in_sequence, leaves_weaker, Geometry, CacheLine, State, Line, commits_among, whole_texts, open_text, reply_text, IsLeft, IsToldOf, first_texts, text_at, texts, Run, answered, first_lines, step, state_at, listing_at, IsFront, LeavesAnswer, StandsAt, StandsFor, StandsNear}
 use Rattle.face.proofs.Fronts.{lines_first, state_first, text_first, told_first}
 use Rattle.face.proofs.Longer.{left_all, run_with}
 use Rattle.face.proofs.Ranges.{IsFault, IsPart, is_left, near_after, near_before}

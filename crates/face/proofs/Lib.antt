@@ -1,3 +1,4 @@
+mod Names
 mod Answered
 mod CallCounts
 mod Carrying

@@ -1,16 +1,5 @@
 -- Lines that are carried out one after the other, none of which quits: their turns, states and work.
-use Rattle.std.proofs.Common.{◌≡◌, ⊎_elim, ℕ, zero, suc, ◌+◌, ◌≤◌, Bool, true, false, List, [], ◌∷◌, ◌++◌, map, drop, refl, sym, ◌∙◌, ap, arith, append_assoc, cond}
-use Rattle.std.specs.Prelude.{count_by, if◌then◌else◌}
-use Rattle.std.specs.List.{AllByRecursion}
-use Rattle.std.proofs.lemmas.List.{append-nil, map-append}
-use Rattle.std.proofs.lemmas.Bool.{cases_lt}
-use Rattle.record_model.specs.declared.words.CacheLine.{CacheLine}
-use Rattle.record_model.specs.State.{State}
-use Rattle.record_model.specs.Run.{Line, is_quit, is_cache, later_listings}
-use Rattle.front_end.specs.Lines.{up_to_quit}
-use Rattle.face.specs.Run.{step, after_lines}
-use Rattle.face.specs.Workload.{numbers_of}
-use Rattle.workload.specs.Generator.{generated}
+use Rattle.face.proofs.Names.{◌≡◌, ⊎_elim, ℕ, zero, suc, ◌+◌, ◌≤◌, Bool, true, false, List, [], ◌∷◌, ◌++◌, map, drop, refl, sym, ◌∙◌, ap, arith, append_assoc, cond, count_by, if◌then◌else◌, AllByRecursion, append-nil, map-append, cases_lt, CacheLine, State, Line, is_quit, is_cache, later_listings, up_to_quit, step, after_lines, numbers_of, generated}
 use Rattle.std.proofs.lemmas.List.Sums.{sum_by-append, sum_by_push}
 
 -- none of them quits

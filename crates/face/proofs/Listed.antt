@@ -1,22 +1,8 @@
 -- Lines that ask for the listing of the cache, and lines that don't.
-use Rattle.std.proofs.Common.{◌≡◌, ◌⊎◌, inl, inr, ⊎_elim, ℕ, suc, Bool, true, false, true≢false, List, [], ◌∷◌, ◌++◌, drop, Option, None, Some, refl, sym, ap, ◌∙◌}
-use Rattle.std.specs.Prelude.{if◌then◌else◌}
-use Rattle.site.specs.State.{State as Site}
-use Rattle.record_model.specs.declared.words.Command.{Command}
-use Rattle.record_model.specs.declared.words.Command.TheVariants.{Cache}
-use Rattle.record_model.specs.declared.words.Reply.{Reply}
-use Rattle.record_model.specs.declared.words.Reply.TheVariants.{Listing}
-use Rattle.record_model.specs.declared.words.CacheLine.{CacheLine}
-use Rattle.record_model.specs.State.{State}
-use Rattle.record_model.specs.Step.{Outcome, carried_through, fills_page, full, lacks_room, outcome, ready, refusal}
-use Rattle.record_model.specs.Run.{Line, Turn, is_cache, next_listing, later_listings}
-use Rattle.engine.specs.declared.engine.Engine.{Engine}
-use Rattle.engine.specs.Listings.{listing_of}
+use Rattle.face.proofs.Names.{◌≡◌, ◌⊎◌, inl, inr, ⊎_elim, ℕ, suc, Bool, true, false, List, [], ◌∷◌, ◌++◌, drop, Option, None, Some, refl, sym, ap, ◌∙◌, if◌then◌else◌, Site, Command, Cache, Reply, Listing, CacheLine, State, Outcome, carried_through, fills_page, full, lacks_room, outcome, ready, refusal, Line, Turn, is_cache, next_listing, later_listings, Engine, listing_of, ListsTheMachine, cache_by, Run, IsAsked, step, answered, first_lines, listings_left, listing_at, state_at, turns_of, HasAnswered}
+use Rattle.std.proofs.Common.{true≢false}
 use Rattle.second_chance.specs.Machine.{listing}
-use Rattle.face.specs.RunMeaning.{ListsTheMachine, cache_by}
-use Rattle.face.specs.Run.{Run, IsAsked, step, answered, first_lines, listings_left, listing_at, state_at, turns_of}
 use Rattle.face.proofs.Runs.{left_next, turn_at, turns_next}
-use Rattle.face.specs.RunInProgress.{HasAnswered}
 
 -- Which lines ask for it.
 

@@ -1,15 +1,6 @@
 -- What a run or a load leaves opens again.
-use Rattle.std.proofs.Common.{ℕ, List, sym, subst}
-use Rattle.site.specs.State.{Image, Snapshot}
-use Rattle.site.proofs.Laws.{holds_now, leaves_weaker}
-use Rattle.record_model.specs.Run.{after_commits}
-use Rattle.engine.specs.Image.{Opens}
-use Rattle.face.specs.Headline.{ran}
-use Rattle.face.specs.Lives.{LawOfLives, LawOfLoads, LoadOpensAgain, OpensAfter, OpensAgain}
-use Rattle.face.specs.Loads.{IsLeftOf}
-use Rattle.face.specs.RunMeaning.{IsLeft, StandsAfter}
-use Rattle.face.specs.Run.{Run, turns_of}
-use Rattle.face.specs.Workload.{load_run, summary_text}
+use Rattle.face.proofs.Names.{ℕ, List, sym, subst, Image, Snapshot, holds_now, leaves_weaker, after_commits, Opens, ran, LawOfLives, OpensAgain, IsLeftOf, IsLeft, StandsAfter, Run, turns_of, load_run, summary_text}
+use Rattle.face.specs.Lives.{LawOfLoads, LoadOpensAgain, OpensAfter}
 use Rattle.face.proofs.Meanings.{opens_where_it_stands}
 
 opens_after : (run : Run) (k : ℕ) (image : Image) → StandsAfter run k image → OpensAfter run k image

@@ -1,23 +1,11 @@
 -- One life, and the lives of a script under way.
-use Rattle.std.proofs.Common.{◌≡◌, inl, inr, ⊎_elim, ℕ, ◌-◌, true, List, [], ◌∷◌, ◌++◌, drop, sym, ◌∙◌, ap, subst, IsTrue}
-use Rattle.std.specs.Prelude.{Option, Some, None, IfSome}
-use Rattle.site.specs.State.{State as Site, Image, MayLeave, no_input, now_of, snapshot_of}
-use Rattle.mem_site.specs.Crash.{started}
-use Rattle.mem_site.specs.MemState.{fed, lives_of, state_of}
-use Rattle.mem_site.specs.declared.mem.MemSite.{MemSite}
-use Rattle.site.proofs.Laws.{holds_now}
-use Rattle.site.specs.declared.geometry.Geometry.{Geometry}
-use Rattle.record_model.specs.State.{State, opened}
-use Rattle.record_model.specs.Run.{IsInRange, Line, after_commits, commit_marks}
-use Rattle.engine.specs.Image.{Opens}
-use Rattle.face.specs.Headline.{Durability, ran}
-use Rattle.front_end.specs.Lines.{commands_of}
-use Rattle.face.specs.Lives.{LawOfLives, OpensAgain}
-use Rattle.face.specs.Living.{Finds, HasLivedOne, IsFoundAfter}
-use Rattle.face.specs.RunMeaning.{IsLeft, IsToldOf, run_text, texts}
-use Rattle.face.specs.Run.{Run, turns_of}
+use Rattle.face.proofs.Names.{◌≡◌, inl, inr, ⊎_elim, ℕ, ◌-◌, true, List, [], ◌∷◌, ◌++◌, drop, sym, ◌∙◌, ap, subst, IsTrue, Option, Some, None, Site, Image, MayLeave, now_of, started, lives_of, state_of, MemSite, holds_now, Geometry, State, opened, IsInRange, Line, after_commits, commit_marks, Opens, Durability, ran, commands_of, LawOfLives, OpensAgain, Finds, HasLivedOne, IsLeft, IsToldOf, run_text, texts, Run, turns_of, Between}
+use Rattle.std.specs.Prelude.{IfSome}
+use Rattle.site.specs.State.{no_input, snapshot_of}
+use Rattle.mem_site.specs.MemState.{fed}
+use Rattle.face.specs.Living.{IsFoundAfter}
 use Rattle.front_end.specs.Texts.{IsLineOf}
-use Rattle.face.specs.Trial.{Between, IsTextOf, kept_by, life_run}
+use Rattle.face.specs.Trial.{IsTextOf, kept_by, life_run}
 use Rattle.face.proofs.Longer.{all_heard, lines_longer, range_all, run_with, table_all, told_all}
 use Rattle.face.proofs.Ranges.{IsFault}
 

@@ -1,19 +1,15 @@
 -- What is counted of a load.
-use Rattle.std.proofs.Common.{◌≡◌, ℕ, suc, ◌+◌, ◌≤◌, ◌&&◌, Bool, true, false, List, [], ◌∷◌, drop, length, refl, sym, ◌∙◌, ap, arith}
-use Rattle.std.specs.Prelude.{Option, Some, None, is_none, nat_lt, option_map, count_by, if◌then◌else◌}
-use Rattle.std.specs.List.{AllByRecursion}
+use Rattle.face.proofs.Names.{◌≡◌, ℕ, suc, ◌+◌, ◌≤◌, Bool, true, false, List, [], ◌∷◌, drop, length, refl, sym, ◌∙◌, ap, arith, Option, Some, None, nat_lt, option_map, count_by, if◌then◌else◌, AllByRecursion, Command, Reply, State, Outcome, carried_through, full, outcome, ready, refusal, lacks_room, Line, Turn, is_committed, Run, answered, first_lines, listing_at, state_at, step, turns_of, makes_one}
+use Rattle.std.proofs.Common.{◌&&◌}
+use Rattle.std.specs.Prelude.{is_none}
 use Rattle.byte_fields.specs.declared.TheConstants.{VALUE_MAX}
-use Rattle.record_model.specs.declared.words.Command.{Command}
 use Rattle.record_model.specs.declared.words.Command.TheVariants.{Get, Set}
 use Rattle.record_model.specs.declared.words.Why.TheVariants.{TooLong}
-use Rattle.record_model.specs.declared.words.Reply.{Reply}
 use Rattle.record_model.specs.declared.words.Reply.TheVariants as reply
-use Rattle.record_model.specs.State.{State, busy_read, busy_write, content_at, is_due, need, page_of, page_room}
-use Rattle.record_model.specs.Step.{Outcome, carried_out, carried_through, first_refusal, found, full, may_read, may_write, outcome, ready, refusal, refuse_if, lacks_room, wants_record, wants_short}
-use Rattle.record_model.specs.Run.{Line, Turn, is_committed}
+use Rattle.record_model.specs.State.{busy_read, busy_write, content_at, is_due, need, page_of, page_room}
+use Rattle.record_model.specs.Step.{carried_out, first_refusal, found, may_read, may_write, refuse_if, wants_record, wants_short}
 use Rattle.face.specs.Loads.{HasCounted}
-use Rattle.face.specs.Run.{Run, answered, first_lines, listing_at, state_at, step, turns_of}
-use Rattle.face.specs.Workload.{has_passed, is_value, makes_one}
+use Rattle.face.specs.Workload.{has_passed, is_value}
 use Rattle.face.proofs.LinesBeforeQuit.{count_join, count_one}
 use Rattle.face.proofs.Runs.{turn_at, turns_next}
 

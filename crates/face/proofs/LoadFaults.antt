@@ -1,34 +1,10 @@
 -- A load that halts with its fault line, and one that is summed up.
-use Rattle.std.proofs.Common.{◌≡◌, ◌≢◌, ◌⊎◌, inl, inr, ⊎_elim, ℕ, ◌≤◌, List, [], ◌∷◌, ◌++◌, length, take, drop, refl, sym, ◌∙◌, ap, subst, arith, append_assoc}
-use Rattle.std.specs.Prelude.{Ok, Err, Result, IsTrue, flat_map}
-use Rattle.std.proofs.lemmas.List.{append-nil, take_all}
-use Rattle.site.specs.declared.geometry.Geometry.{Geometry}
-use Rattle.site.specs.declared.outside.Dev.{Dev}
-use Rattle.site.specs.State.{State as Site, Moment, Snapshot, now_of}
-use Rattle.site.specs.Calls.{Preserves, SameReads}
-use Rattle.site.specs.Moments.{EachMoment, Leaves, LeavesOnly}
-use Rattle.site.proofs.Laws.{each_both, each_weaker, image_is, in_sequence, leaves_weaker, no_call, stays_honest, tell_leaves, told_is}
-use Rattle.site.specs.Telling.{HandsLine, HandsRest, SameDevices, TellsOnly, TellsPart}
-use Rattle.site.specs.declared.outside.Failed.{Failed}
-use Rattle.record_model.specs.State.{State}
-use Rattle.front_end.specs.declared.halt.Halt.{Halt}
+use Rattle.face.proofs.Names.{◌≡◌, ◌≢◌, ◌⊎◌, inl, inr, ⊎_elim, ℕ, ◌≤◌, List, [], ◌∷◌, ◌++◌, length, take, drop, refl, sym, ◌∙◌, ap, subst, arith, append_assoc, Ok, Err, Result, IsTrue, flat_map, append-nil, take_all, Geometry, Dev, Site, Moment, Snapshot, now_of, Preserves, SameReads, EachMoment, Leaves, LeavesOnly, each_both, each_weaker, image_is, in_sequence, leaves_weaker, no_call, stays_honest, tell_leaves, told_is, HandsLine, HandsRest, SameDevices, TellsOnly, TellsPart, Failed, State, Halt, Load, HasCause, HasCauses, NoFaultRose, LoadContract, IsGood, TellsFault, HasDone, HasBegunLoad, HasMadeBefore, IsLeftOf, IsOpened, IsUntold, LoadHeadline, LoadStops, LoadTellsDone, LoadWorks, TellsOpening, StandsAfter, WritesAsBegun, all_commits, WearsFirst, WearsNone, IsFront, Run, first_lines, fault_line, status_of, EndsBehind, Tells, load_run, opening_text, summary_text, ends_whole, ends_with}
 use Rattle.front_end.specs.declared.halt.Halt.TheVariants as halt
-use Rattle.command_line.specs.declared.request.Load.{Load}
-use Rattle.face.specs.Causes.{HasCause, HasCauses}
-use Rattle.front_end.specs.Faults.{NoFaultRose}
 use Rattle.face.proofs.WornFronts.{never_worn_within}
-use Rattle.face.specs.TopCall.{LoadContract}
-use Rattle.face.specs.Headline.{IsGood, TellsFault}
-use Rattle.face.specs.Done.{HasDone}
-use Rattle.face.specs.Loads.{Allows, HasBegunLoad, HasMadeBefore, IsLeftOf, IsOpened, IsUntold, LoadHeadline, LoadStops, LoadTellsDone, LoadWorks, TellsOpening}
-use Rattle.face.specs.RunMeaning.{StandsAfter, WritesAsBegun, all_commits}
-use Rattle.face.specs.Worn.{WearsFirst, WearsNone}
-use Rattle.face.specs.Run.{IsFront, Run, first_lines}
-use Rattle.front_end.specs.Texts.{fault_line, status_of}
-use Rattle.front_end.specs.Tells.{EndsBehind, Tells}
-use Rattle.face.specs.Workload.{load_run, load_texts, opening_text, summary_text}
+use Rattle.face.specs.Loads.{Allows}
+use Rattle.face.specs.Workload.{load_texts}
 use Rattle.face.proofs.CallCounts.{calls_told}
-use Rattle.front_end.proofs.Endings.{ends_whole, ends_with}
 use Rattle.face.proofs.Dones.{none_behind}
 use Rattle.face.proofs.Demanded.{asked_done, asked_halted, done_whole, demands_done, demands_err, demands_failed, demands_lost}
 use Rattle.face.proofs.Statuses.{not_zero, of_five, of_seven, output_or_not, worn_by}

@@ -1,32 +1,8 @@
 -- What a load leaves: while it opens, while its lines are carried out, and when they are done.
-use Rattle.std.proofs.Common.{◌≡◌, ◌⊎◌, inl, inr, ⊎_elim, ℕ, zero, suc, ◌+◌, ◌-◌, ◌*◌, ◌<◌, ◌≤◌, Bool, false, List, [], ◌∷◌, ◌++◌, length, map, take, drop, refl, sym, ◌∙◌, ap, subst, arith, append_assoc, take-append-drop, length-append}
-use Rattle.std.specs.Prelude.{Result, Ok, Err, count_by}
-use Rattle.std.proofs.lemmas.List.{append-nil, drop_at, length-map, take-take}
-use Rattle.std_lemmas.proofs.AllOf.{all_append}
-use Rattle.site.specs.declared.geometry.Geometry.{Geometry}
-use Rattle.site.specs.State.{State as Site, Image, Moment, Snapshot, MayLeave, now_of}
-use Rattle.site.specs.Moments.{EachMoment, Leaves, LeavesOnly}
-use Rattle.site.proofs.Laws.{each_weaker, holds_now, image_is, in_sequence, leaves_weaker, told_is}
-use Rattle.record_model.specs.declared.words.Reply.{Reply}
-use Rattle.record_model.specs.State.{State}
-use Rattle.record_model.specs.Run.{Line, commit_marks, commits_among, is_quit}
-use Rattle.workload.specs.Generator.{generated}
-use Rattle.engine.specs.declared.engine.Engine.{Engine}
-use Rattle.engine.specs.Invariant.{sizes_of}
-use Rattle.engine.specs.Leaves.{LeavesEither}
-use Rattle.engine.specs.Listings.{QueueIsOnFlash}
-use Rattle.engine.specs.SeenVersions.{WhereItFits}
-use Rattle.front_end.specs.declared.halt.Halt.{Halt}
-use Rattle.front_end.specs.Texts.{status_of}
-use Rattle.command_line.specs.declared.request.Load.{Load}
-use Rattle.face.specs.Carrying.{CarriesUntold}
-use Rattle.face.specs.RunInProgress.{NeverOpens, RunInProgress}
-use Rattle.face.specs.Done.{TellsDone, TellsWhenDone, lines_at}
-use Rattle.face.specs.Loads.{HasBegunLoad, HasMadeBefore, IsLeftOf, IsOpened, IsUntold, LoadInProgress, LoadStops, LoadWorks, TellsOpening}
-use Rattle.face.specs.RunMeaning.{AsksNoMore, IsLeft, StandsAfter, WritesAsBegun, first_texts, texts}
-use Rattle.face.specs.Run.{Run, StandsFor, answered, first_lines, listing_at, state_at, step, turns_of}
-use Rattle.face.specs.Working.{StandsNear, Stops}
-use Rattle.face.specs.Workload.{get_line, get_lines, load_run, numbers_of, opening_text, set_line, set_lines}
+use Rattle.face.proofs.Names.{◌≡◌, ◌⊎◌, inl, inr, ⊎_elim, ℕ, zero, suc, ◌+◌, ◌-◌, ◌*◌, ◌<◌, ◌≤◌, Bool, false, List, [], ◌∷◌, ◌++◌, length, map, take, drop, refl, sym, ◌∙◌, ap, subst, arith, append_assoc, take-append-drop, length-append, Result, Ok, Err, count_by, append-nil, drop_at, length-map, take-take, all_append, Geometry, Site, Image, Moment, Snapshot, MayLeave, now_of, EachMoment, Leaves, LeavesOnly, each_weaker, holds_now, image_is, in_sequence, leaves_weaker, told_is, Reply, State, Line, commit_marks, commits_among, is_quit, generated, Engine, sizes_of, LeavesEither, QueueIsOnFlash, WhereItFits, Halt, status_of, Load, CarriesUntold, NeverOpens, RunInProgress, TellsDone, lines_at, HasBegunLoad, HasMadeBefore, IsLeftOf, IsOpened, IsUntold, LoadStops, LoadWorks, TellsOpening, AsksNoMore, IsLeft, StandsAfter, WritesAsBegun, first_texts, texts, Run, StandsFor, answered, first_lines, listing_at, state_at, step, turns_of, StandsNear, Stops, load_run, numbers_of, opening_text}
+use Rattle.face.specs.Done.{TellsWhenDone}
+use Rattle.face.specs.Loads.{LoadInProgress}
+use Rattle.face.specs.Workload.{get_line, get_lines, set_line, set_lines}
 use Rattle.face.proofs.Demanded.{demands_as}
 use Rattle.face.proofs.Dones.{none_behind}
 use Rattle.face.proofs.Quiet.{says_nothing}

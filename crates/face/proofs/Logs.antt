@@ -1,39 +1,25 @@
 -- The database of a site of which only counts, told and heard octets change.
-use Rattle.std.proofs.Common.{◌≡◌, ℕ, ◌<◌, List, Option, Some, false, sym, subst}
-use Rattle.site.specs.declared.geometry.Geometry.{Geometry}
-use Rattle.site.specs.State.{State as Site, Image, content_of}
-use Rattle.site.specs.Calls.{Preserves}
-use Rattle.site.proofs.Laws.{stays_honest}
+use Rattle.face.proofs.Names.{◌≡◌, ℕ, ◌<◌, List, Option, Some, false, sym, subst, Geometry, Site, Image, Preserves, stays_honest, hi_of, log_shape, group_shape, segment_shape, State, Content, Entry, LogStore, Master, PageStore, kept_by, logical_image_under, Engine, Invariant, sizes_of, Matches, StandsFor}
+use Rattle.site.specs.State.{content_of}
 use Rattle.sealed_ring.specs.declared.ring.Ring.{Ring}
-use Rattle.sealed_ring.specs.Ring.{IsRing, hi_of}
+use Rattle.sealed_ring.specs.Ring.{IsRing}
 use Rattle.sealed_ring.specs.Ready.{Finds}
 use Rattle.sealed_ring.proofs.Stays.{usable_later}
-use Rattle.image_changes.specs.Rings.{log_shape, group_shape, segment_shape}
-use Rattle.record_model.specs.State.{State, Content}
-use Rattle.log_records.specs.Log.{Entry}
 use Rattle.slotted_page.specs.Layout.{lsn_of}
 use Rattle.slotted_page.specs.Layout as page
 use Rattle.buffer_pool.specs.declared.frame.Frame.{Frame}
 use Rattle.buffer_pool.specs.Frames.{frame_of}
-use Rattle.log_store.specs.declared.store.LogStore.{LogStore}
 use Rattle.log_store.specs.Representation as log_store
 use Rattle.log_store.specs.Representation.{end_of}
 use Rattle.flash_cache.specs.Representation as flash_cache
 use Rattle.flash_cache.specs.Representation.{version_on, IsCleanOn}
-use Rattle.checkpoint.specs.declared.master.Master.{Master}
-use Rattle.page_store.specs.declared.store.PageStore.{PageStore}
 use Rattle.page_store.specs.Representation as page_store
 use Rattle.page_store.specs.Representation.{current}
 use Rattle.page_store.specs.Ahead.{IsAhead}
-use Rattle.image_meaning.specs.Meaning.{kept_by, logical_image_under}
 use Rattle.image_meaning.specs.Beside.{AreRingsSoundUnder}
 use Rattle.redo_laws.proofs.CallsInSequence.{going_still, stands_there}
 use Rattle.redo_laws.specs.Running.{RunsOn}
 use Rattle.redo_laws.specs.Holding.{RepresentsLog, RepresentsIn, ShowRecords}
-use Rattle.engine.specs.declared.engine.Engine.{Engine}
-use Rattle.engine.specs.Invariant.{Invariant, sizes_of}
-use Rattle.engine.specs.Representation.{Matches}
-use Rattle.face.specs.Run.{StandsFor}
 
 -- it goes on after calls that keep the lengths
 pub goes_on : (engine : Engine) (a b : Site) → Invariant engine a → Preserves a b → Invariant engine b

@@ -1,22 +1,10 @@
 -- A run over the first lines, beside the run over all of them.
-use Rattle.std.proofs.Common.{◌≡◌, ◌⊎◌, inl, inr, ⊎_elim, ℕ, zero, suc, ◌+◌, ◌-◌, ◌≤◌, ◌<◌, Bool, true, false, List, [], ◌∷◌, ◌++◌, length, map, take, drop, get_or, refl, sym, ◌∙◌, ap, subst, arith, append_assoc, length-append, take-append-drop}
-use Rattle.std.specs.Prelude.{flat_map, filter, count_by, nat_eq, slice_index_or, if◌then◌else◌, ◌||◌}
-use Rattle.std.specs.List.{list_any, starts_with}
-use Rattle.std.proofs.lemmas.List.{append-nil, get_or_append_left, get_or-append_right, length-map, length-take-le, map-append, take_all, take_at, take-append-le}
+use Rattle.face.proofs.Names.{◌≡◌, ◌⊎◌, inl, inr, ⊎_elim, ℕ, zero, suc, ◌+◌, ◌-◌, ◌≤◌, ◌<◌, Bool, true, false, List, [], ◌∷◌, ◌++◌, length, map, take, drop, get_or, refl, sym, ◌∙◌, ap, subst, arith, append_assoc, length-append, take-append-drop, flat_map, count_by, nat_eq, if◌then◌else◌, ◌||◌, list_any, starts_with, append-nil, length-map, length-take-le, map-append, take_all, take_at, flat_map-append, cases_lt, Snapshot, Geometry, CacheLine, Content, State, IsInRange, Line, Turn, after_commits, commit_marks, commits_among, is_committed, is_quit, later_listings, next_listing, replies, turn, turns, whole_texts, Stands, open_text, reply_text, HeardAll, commands_of, IsLeft, IsToldOf, first_texts, run_of, run_text, texts, IsFront, Run, turns_of}
+use Rattle.std.specs.Prelude.{filter, slice_index_or}
+use Rattle.std.proofs.lemmas.List.{get_or_append_left, get_or-append_right, take-append-le}
 use Rattle.std.proofs.lemmas.List.Elements.{filter-append}
 use Rattle.std.proofs.lemmas.List.Sums.{length-filter}
-use Rattle.std.proofs.lemmas.Grind.{flat_map-append}
-use Rattle.std.proofs.lemmas.Bool.{cases_lt}
-use Rattle.site.specs.State.{Snapshot}
-use Rattle.site.specs.declared.geometry.Geometry.{Geometry}
-use Rattle.record_model.specs.declared.words.CacheLine.{CacheLine}
-use Rattle.record_model.specs.State.{Content, State}
-use Rattle.record_model.specs.Run.{IsInRange, Line, Turn, after_commits, commit_marks, commits_among, committed_tables, is_committed, is_quit, later_listings, next_listing, replies, turn, turns, whole_texts}
-use Rattle.engine.specs.Image.{Stands}
-use Rattle.shell_text.specs.Texts.{open_text, reply_text}
-use Rattle.front_end.specs.Lines.{HeardAll, commands_of}
-use Rattle.face.specs.RunMeaning.{IsLeft, IsToldOf, first_texts, run_of, run_text, texts}
-use Rattle.face.specs.Run.{IsFront, Run, turns_of}
+use Rattle.record_model.specs.Run.{committed_tables}
 use Rattle.face.proofs.Fronts.{first_commands}
 use Rattle.face.proofs.Ranges.{IsFault, IsPart, Plain, begins_not, counts, not_in_fault, plain_replies, plain_texts}
 

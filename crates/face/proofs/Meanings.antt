@@ -1,12 +1,7 @@
 -- What an image stands for.
-use Rattle.std.proofs.Common.{◌-◌, refl, sym, ◌∙◌}
-use Rattle.std.specs.Prelude.{None}
-use Rattle.site.specs.declared.geometry.Geometry.{Geometry}
-use Rattle.site.specs.State.{Image}
-use Rattle.record_model.specs.State.{State, opened}
+use Rattle.face.proofs.Names.{◌-◌, refl, sym, ◌∙◌, None, Geometry, Image, State, opened, Stands, Opens, BlankLaw}
 use Rattle.image_meaning.specs.Laws.{BlankStands}
-use Rattle.engine.specs.Image.{Stands, Opens}
-use Rattle.face.specs.Image.{OneMeaning, OneOpening, OpensWhereItStands, BlankLaw}
+use Rattle.face.specs.Image.{OneMeaning, OneOpening, OpensWhereItStands}
 
 -- where a run opens the image stands for its table
 pub stands_by : (g : Geometry) (image : Image) (s : State) → Opens g image s → Stands g image s.table s.commits

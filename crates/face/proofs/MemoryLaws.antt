@@ -1,29 +1,10 @@
 -- Where memory is wanted before anything is done.
-use Rattle.std.proofs.Common.{◌≡◌, inl, inr, ℕ, [], refl, sym, subst, arith, true}
-use Rattle.std.specs.Prelude.{Err, Result}
-use Rattle.site.specs.declared.outside.Stop.TheVariants.{Memory}
-use Rattle.site.specs.declared.geometry.Geometry.{Geometry}
-use Rattle.site.specs.State.{State as Site}
-use Rattle.site.specs.Moments.{Leaves, LeavesOnly}
-use Rattle.site.specs.declared.outside.Failed.{Failed}
-use Rattle.record_model.specs.State.{State}
-use Rattle.record_model.specs.Serial.{Serial}
-use Rattle.front_end.specs.declared.halt.Halt.{Halt}
+use Rattle.face.proofs.Names.{◌≡◌, inl, inr, ℕ, [], refl, sym, subst, arith, true, Err, Result, Memory, Geometry, Site, Leaves, LeavesOnly, Failed, State, Serial, Halt, LoadContract, RunContract, IsGood, Headline, Tells, Run, first_lines, RunOutcome, numbers_rise, NeverOpens, run_of, Load, LoadHeadline, LoadTellsDone, LoadWorks, load_run, summary_text, Stands, LeavesTable, goes_nowhere, no_call, told_is, image_is, Image, now_of}
 use Rattle.front_end.specs.declared.halt.Halt.TheVariants as halt
-use Rattle.face.specs.TopCall.{LoadContract, NewContract, RunContract}
-use Rattle.face.specs.Headline.{IsGood, Headline}
-use Rattle.front_end.specs.Tells.{Tells}
-use Rattle.face.specs.Run.{Run, first_lines}
-use Rattle.face.specs.Working.{RunOutcome}
+use Rattle.face.specs.TopCall.{NewContract}
 use Rattle.face.proofs.Pagings.{none_read}
-use Rattle.redo_laws.proofs.Costs.{numbers_rise}
 use Rattle.front_end.specs.New.{New, NewCauses}
 use Rattle.front_end.specs.Refusals.{LacksMemory, memory_fault}
-use Rattle.face.specs.RunInProgress.{NeverOpens}
-use Rattle.face.specs.RunMeaning.{run_of}
-use Rattle.command_line.specs.declared.request.Load.{Load}
-use Rattle.face.specs.Loads.{LoadHeadline, LoadTellsDone, LoadWorks}
-use Rattle.face.specs.Workload.{load_run, summary_text}
 use Rattle.face.proofs.Counted.{counts_nothing}
 use Rattle.face.proofs.Demanded.{demands_err}
 use Rattle.face.proofs.Dones.{silent_start}
@@ -35,10 +16,6 @@ use Rattle.face.proofs.Ends.{never_opened}
 use Rattle.face.proofs.RunsSoFar.{not_opened}
 use Rattle.face.proofs.Faults.{halted, run_contract}
 use Rattle.face.proofs.Meanings.{stands_by}
-use Rattle.engine.specs.Image.{Stands}
-use Rattle.engine.specs.Leaves.{LeavesTable}
-use Rattle.site.proofs.Laws.{goes_nowhere, no_call, told_is, image_is}
-use Rattle.site.specs.State.{Image, now_of}
 
 abbrev lacks : Halt
 lacks = halt.Stop Memory

@@ -1,48 +1,15 @@
 -- What a run asks of the page cache, line by line.
 use Rattle.engine.specs.LogReads.{restart_log_reads}
-use Rattle.flash_cache.specs.Representation.{start_reads}
-use Rattle.std.proofs.Common.{◌≡◌, ℕ, suc, ◌+◌, ◌≤◌, Bool, true, false, List, [], ◌∷◌, ◌++◌, length, drop, arith, refl, sym, ap, subst, ◌∙◌, append_assoc, ◌-◌}
-use Rattle.std.specs.Prelude.{Result, Ok, Option, Some, None, if◌then◌else◌}
-use Rattle.std.proofs.lemmas.List.{append-nil}
-use Rattle.site.specs.Calls.{SameReads}
-use Rattle.site.specs.declared.outside.Dev.TheVariants.{Flash, Disk, Log}
-use Rattle.site.specs.declared.outside.Stop.{Stop}
-use Rattle.site.specs.State.{State as Site, Image}
-use Rattle.record_model.specs.State.{State}
-use Rattle.record_model.specs.Run.{Line, Turn, is_quit, left_by, turns, next_listing, later_listings}
-use Rattle.record_model.specs.Step.{Outcome, refusal, outcome, ready, carried_through, fills_page, full, lacks_room}
-use Rattle.record_model.specs.declared.words.CacheLine.{CacheLine}
-use Rattle.record_model.specs.declared.words.Reply.{Reply}
-use Rattle.record_model.specs.declared.words.Command.{Command}
-use Rattle.record_model.specs.Touches.{CacheOp, line_touches, run_touches}
-use Rattle.log_records.specs.declared.log_record.LogRecord.{LogRecord}
-use Rattle.checkpoint.specs.declared.master.Master.{Master}
-use Rattle.image_meaning.specs.Meaning.{logical_image_under}
-use Rattle.second_chance.specs.Machine.{Rules, Cache, rules_of, after_works, opened}
-use Rattle.page_store.specs.declared.store.PageStore.{PageStore}
-use Rattle.site.specs.Moments.{EachMoment}
-use Rattle.site.specs.Telling.{TellsPart}
-use Rattle.site.proofs.Laws.{unchanged}
-use Rattle.site.specs.State.{IsQuiet}
+use Rattle.face.proofs.Names.{start_reads, ◌≡◌, ℕ, suc, ◌+◌, ◌≤◌, Bool, true, false, List, [], ◌∷◌, ◌++◌, length, drop, arith, refl, sym, ap, subst, ◌∙◌, append_assoc, ◌-◌, Result, Ok, Option, Some, None, if◌then◌else◌, append-nil, SameReads, Flash, Disk, Log, Stop, Site, Image, State, Line, Turn, is_quit, left_by, turns, next_listing, later_listings, Outcome, refusal, outcome, ready, carried_through, fills_page, full, lacks_room, CacheLine, Reply, Command, CacheOp, line_touches, run_touches, LogRecord, Master, logical_image_under, Rules, rules_of, after_works, PageStore, EachMoment, TellsPart, unchanged, IsQuiet, HearsOnly, ReadsFor, Engine, Matches, sizes_of, QueueIsOnFlash, WhereItFits, WritesFrom, restart_works, cache_on, commands_of, up_to_quit, Geometry, IsPaged, HasLastStaged, cache_by, staged_by_run, LeavesStaged, Run, answered, first_lines, step, after_lines, state_at, works_of, AsksFew, turns_of, line_log_reads, asked_after, log_reads_after}
+use Rattle.second_chance.specs.Machine.{Cache, opened}
 use Rattle.engine.proofs.Asking.{still_writes}
-use Rattle.front_end.specs.Lines.{HearsOnly}
 use Rattle.face.proofs.Writings.{writes_told, writes_heard}
-use Rattle.redo_laws.specs.MachineSteps.{NumbersRise, ReadsFor}
-use Rattle.engine.specs.declared.engine.Engine.{Engine}
-use Rattle.engine.specs.Representation.{Matches}
-use Rattle.engine.specs.Invariant.{sizes_of}
-use Rattle.engine.specs.Listings.{QueueIsOnFlash}
-use Rattle.engine.specs.SeenVersions.{VersionsAreSeen, WhereItFits}
-use Rattle.engine.specs.Paging.{WritesFrom, AsksFrom, restart_works, cache_on}
-use Rattle.front_end.specs.Lines.{commands_of, up_to_quit}
+use Rattle.redo_laws.specs.MachineSteps.{NumbersRise}
+use Rattle.engine.specs.SeenVersions.{VersionsAreSeen}
+use Rattle.engine.specs.Paging.{AsksFrom}
 use Rattle.face.proofs.Fronts.{first_commands, state_by_turns, whole_turns}
 use Rattle.face.proofs.Runs.{turn_at, turns_next}
-use Rattle.site.specs.declared.geometry.Geometry.{Geometry}
-use Rattle.face.specs.RunInProgress.{IsPaged}
-use Rattle.flash_cache.specs.OnDisk.{HasLastStaged}
-use Rattle.face.specs.RunMeaning.{cache_by, staged_by_run, LeavesItsQueue, LeavesStaged, LeavesVersions, log_reads_in}
-use Rattle.face.specs.Run.{Run, answered, first_lines, step, after_lines, state_at, works_of, AsksFew, turns_of, line_log_reads}
-use Rattle.face.specs.Working.{asked_after, log_reads_after}
+use Rattle.face.specs.RunMeaning.{LeavesItsQueue, LeavesVersions, log_reads_in}
 
 -- Lines. What they ask doesn't depend on what the cache lists.
 

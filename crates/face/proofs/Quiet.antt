@@ -1,14 +1,6 @@
 -- A command that makes no call, and one that is told.
-use Rattle.std.proofs.Common.{◌≡◌, inl, inr, ⊎_elim, ℕ, List, [], ◌++◌, length, length-append, take, refl, sym, ◌∙◌, ap, subst, arith}
-use Rattle.std.proofs.lemmas.List.{append-nil, nil_from_length, take_all}
-use Rattle.site.specs.State.{State as Site, Image, MayLeave, Moment, Snapshot, now_of, no_loose}
-use Rattle.site.specs.Moments.{Leaves, LeavesOnly, EachMoment}
-use Rattle.site.proofs.Laws.{each_weaker, no_call, image_is, told_is, in_sequence, leaves_weaker, holds_now, tell_leaves}
-use Rattle.site.specs.Telling.{TellsPart}
-use Rattle.site.specs.declared.geometry.Geometry.{Geometry}
-use Rattle.record_model.specs.State.{State}
-use Rattle.engine.specs.Leaves.{LeavesEither}
-use Rattle.face.specs.Run.{StandsFor, LeavesAnswer}
+use Rattle.face.proofs.Names.{◌≡◌, inl, inr, ⊎_elim, ℕ, List, [], ◌++◌, length, length-append, take, refl, sym, ◌∙◌, ap, subst, arith, append-nil, take_all, Site, Image, MayLeave, Moment, Snapshot, now_of, no_loose, Leaves, LeavesOnly, EachMoment, each_weaker, no_call, image_is, told_is, in_sequence, leaves_weaker, holds_now, tell_leaves, TellsPart, Geometry, State, LeavesEither, StandsFor, LeavesAnswer}
+use Rattle.std.proofs.lemmas.List.{nil_from_length}
 
 -- where each snapshot has told the same nothing is being told
 left_at : (m : Moment) (k : ℕ) → MayLeave m (record { told = m.told ++ take k m.telling; image = m.image })

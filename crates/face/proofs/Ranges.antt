@@ -1,31 +1,14 @@
 -- What was told whole, counted; and the commits that it allows.
-use Rattle.std.proofs.Common.{◌≡◌, ◌⊎◌, inl, inr, ⊎_elim, ℕ, zero, suc, ◌+◌, ◌-◌, ◌≤◌, ◌<◌, Bool, true, false, List, [], ◌∷◌, ◌++◌, length, take, drop, get_or, refl, sym, ◌∙◌, ap, subst, arith, append_assoc, length-append, take-append-drop}
-use Rattle.std.specs.Prelude.{flat_map, map, count_by, nat_eq, if◌then◌else◌}
-use Rattle.std.specs.List.{starts_with}
-use Rattle.std.proofs.lemmas.List.{drop_at, length-take-le, take_all, take_at}
+use Rattle.face.proofs.Names.{◌≡◌, ◌⊎◌, inl, inr, ⊎_elim, ℕ, zero, suc, ◌+◌, ◌-◌, ◌≤◌, ◌<◌, Bool, true, false, List, [], ◌∷◌, ◌++◌, length, take, drop, get_or, refl, sym, ◌∙◌, ap, subst, arith, append_assoc, length-append, take-append-drop, flat_map, map, count_by, nat_eq, if◌then◌else◌, starts_with, drop_at, length-take-le, take_all, take_at, Snapshot, Image, Device, Memory, Worn, Foreign, Content, State, Outcome, Line, Turn, replies, next_listing, later_listings, whole_texts, is_committed, commit_marks, commits_among, after_commits, CacheLine, Reply, Halt, Stands, open_text, reply_text, fault_line, Run, answered, step, after_lines, state_at, StandsAt, IsFront, turns_of, texts, text_at, first_texts, run_text, all_commits, StandsAfter, IsToldOf, IsLeft, StandsNear}
 use Rattle.std.proofs.lemmas.Slice.Eq.{starts_is}
 use Rattle.std.proofs.lemmas.Bool.Decides.{Decides-eqb}
 use Rattle.std.proofs.lemmas.Bool.{false_from_ne_true}
-use Rattle.site.specs.State.{Snapshot, Image}
-use Rattle.site.specs.declared.outside.Stop.TheVariants.{Device, Memory, Worn, Foreign}
-use Rattle.record_model.specs.State.{Content, State}
-use Rattle.record_model.specs.Step.{Outcome}
-use Rattle.record_model.specs.Run.{Line, Turn, replies, next_listing, later_listings, whole_texts, is_committed, commit_marks, commits_among, after_commits}
 use Rattle.record_model.specs.Laws.{IsCountedIn, IsCountedAt}
 use Rattle.record_model.proofs.StepLaws.{commits_once}
 use Rattle.record_model.proofs.RunLaws.{commits_make_the_table}
-use Rattle.record_model.specs.declared.words.CacheLine.{CacheLine}
-use Rattle.record_model.specs.declared.words.Reply.{Reply}
 use Rattle.record_model.specs.declared.words.Reply.TheVariants as reply
 use Rattle.record_model.specs.declared.words.CacheLine.TheVariants.{Frame, Pool}
-use Rattle.front_end.specs.declared.halt.Halt.{Halt}
 use Rattle.front_end.specs.declared.halt.Halt.TheVariants as halt
-use Rattle.engine.specs.Image.{Stands}
-use Rattle.shell_text.specs.Texts.{open_text, reply_text}
-use Rattle.front_end.specs.Texts.{fault_line}
-use Rattle.face.specs.Run.{Run, answered, step, after_lines, state_at, StandsAt, IsFront, turns_of}
-use Rattle.face.specs.RunMeaning.{texts, text_at, first_texts, run_text, all_commits, StandsAfter, IsToldOf, IsLeft}
-use Rattle.face.specs.Working.{StandsNear}
 use Rattle.face.proofs.Turns.{states_are, turns_count}
 use Rattle.face.proofs.Runs.{texts_count}
 

@@ -1,13 +1,11 @@
 -- How many groups a restart pushes at most.
-use Rattle.std.proofs.Common.{◌≡◌, ℕ, ◌+◌, ◌-◌, ◌*◌, ◌≤◌, Bool, true, false, cond, List, [], ◌∷◌, ◌++◌, length, reverse, Option, Some, None, refl, ap, arith}
-use Rattle.std.specs.Prelude.{filter_map, is_some, nat_lt, option_map, nat_le}
-use Rattle.std.specs.List.{AllByRecursion, cons_option}
+use Rattle.face.proofs.Names.{◌≡◌, ℕ, ◌+◌, ◌-◌, ◌*◌, ◌≤◌, Bool, true, false, cond, List, [], ◌∷◌, ◌++◌, length, Option, Some, None, refl, ap, arith, is_some, nat_lt, option_map, AllByRecursion, Image, Geometry, LogRecord, Entry, Master, kept_by, logical_image_under, groups_add_up, IsSound, restart_works}
+use Rattle.std.proofs.Common.{reverse}
+use Rattle.std.specs.Prelude.{filter_map, nat_le}
+use Rattle.std.specs.List.{cons_option}
 use Rattle.std.proofs.lemmas.List.{length-reverse}
-use Rattle.site.specs.State.{Image}
-use Rattle.site.specs.declared.geometry.Geometry.{Geometry}
 use Rattle.record_model.specs.Touches.{page_of, touch, write_touch}
-use Rattle.log_records.specs.declared.log_record.LogRecord.{LogRecord}
-use Rattle.log_records.specs.Log.{Entry, log_from, number_of, version_at}
+use Rattle.log_records.specs.Log.{log_from, number_of, version_at}
 use Rattle.log_records.specs.Restart.{redo_touch, undo_touch}
 use Rattle.log_records.specs.Sound.{LogicalImage, from_block}
 use Rattle.log_records.specs.Sound as lists
@@ -15,13 +13,8 @@ use Rattle.log_records.specs.Spelling.{AreBlock}
 use Rattle.log_records.specs.Unfinished.{pending}
 use Rattle.log_records.proofs.ChangeCounts.{changes_few, changes_filter, changes_in}
 use Rattle.log_laws.proofs.PendingCounts.{pending_few}
-use Rattle.checkpoint.specs.declared.master.Master.{Master}
-use Rattle.image_meaning.specs.Meaning.{kept_by, logical_image_under}
 use Rattle.second_chance.specs.Groups.{groups_for_all}
-use Rattle.second_chance.proofs.GroupCounts.{groups_add_up}
 use Rattle.redo_laws.specs.MachineSteps.{checkpoint_works}
-use Rattle.engine.specs.Image.{IsSound}
-use Rattle.engine.specs.Paging.{restart_works}
 
 redo_few : (p : LogicalImage) (log : List Entry) → groups_for_all (filter_map (redo_touch p) log) ≤ 2 * changes_in log
 redo_few p [] = omega arith

@@ -1,33 +1,12 @@
 -- Where the rings have numbers for so many records, checkpoints and groups, no run appends to one that stands at its end.
-use Rattle.std.proofs.Common.{◌≡◌, ℕ, ◌+◌, ◌^◌, ◌≤◌, List, [], ◌∷◌, ◌++◌, Option, Some, None, refl, sym, ap, ◌∙◌, arith}
-use Rattle.site.specs.State.{Image}
-use Rattle.sealed_ring.specs.Ring.{hi_of}
-use Rattle.image_changes.specs.Rings.{log_shape, master_shape}
-use Rattle.record_model.specs.State.{State}
-use Rattle.record_model.specs.Run.{Line}
-use Rattle.record_model.specs.Touches.{CacheOp, line_touches}
-use Rattle.log_records.specs.declared.log_record.LogRecord.{LogRecord}
+use Rattle.face.proofs.Names.{◌≡◌, ℕ, ◌+◌, ◌≤◌, List, [], ◌∷◌, ◌++◌, Option, Some, None, refl, sym, ap, ◌∙◌, arith, Image, hi_of, log_shape, master_shape, State, Line, CacheOp, line_touches, LogRecord, Master, logical_image_under, Rules, after_works, rules_of, Machine, RingOp, after_all, line_work, restart_work, next_group, ops_compose, IsSound, log_under, cache_on, restart_works, machine_on, cache_by, made_by, Run, after_lines, answered, checkpoints_of, line_checkpoints, step, turns_of, works_of, checkpoints_in, rings_of, worn_by}
+use Rattle.std.proofs.Common.{◌^◌}
 use Rattle.log_records.specs.Unfinished.{owed}
-use Rattle.checkpoint.specs.declared.master.Master.{Master}
-use Rattle.image_meaning.specs.Meaning.{logical_image_under}
-use Rattle.second_chance.specs.Machine.{Rules, after_works, rules_of}
-use Rattle.ring_machine.specs.Machine.{Machine, RingOp, after_all}
-use Rattle.ring_machine.specs.Commands.{line_work}
 use Rattle.ring_machine.specs.Counts.{records_in, saved_by, saves_in}
-use Rattle.ring_machine.specs.Restart.{restart_work}
 use Rattle.ring_machine.proofs.Agreeing.{commands_agree, restarts_agree}
 use Rattle.ring_machine.proofs.Counts.{commands_log_few, few_are_enough, records_join, saves_join}
 use Rattle.ring_machine.proofs.RestartCounts.{restarts_log_few}
 use Rattle.ring_machine.proofs.Works.{ring_ops_compose}
-use Rattle.redo_laws.specs.MachineSteps.{next_group}
-use Rattle.redo_laws.proofs.Costs.{ops_compose}
-use Rattle.engine.specs.Image.{IsSound, log_under}
-use Rattle.engine.specs.Paging.{cache_on, restart_works}
-use Rattle.engine.specs.RingWork.{machine_on}
-use Rattle.face.specs.RunMeaning.{cache_by, made_by}
-use Rattle.face.specs.Run.{Run, after_lines, answered, checkpoints_of, line_checkpoints, step, turns_of, works_of}
-use Rattle.face.specs.Workload.{checkpoints_in}
-use Rattle.face.specs.Worn.{rings_of, worn_by}
 use Rattle.face.proofs.Counted.{made_all, turns_make}
 use Rattle.face.proofs.LinesBeforeQuit.{after_cons}
 use Rattle.face.proofs.Pagings.{same_after, turns_ask}

@@ -1,37 +1,14 @@
 -- The numbers of the rings, life after life.
-use Rattle.std.proofs.Common.{◌≡◌, ◌⊎◌, inl, inr, ℕ, zero, suc, ◌+◌, ◌*◌, ◌≤◌, List, [], ◌++◌, true, refl, sym, ap, subst, arith}
-use Rattle.std.specs.Prelude.{Contains, Option}
+use Rattle.face.proofs.Names.{◌≡◌, ◌⊎◌, inl, inr, ℕ, zero, suc, ◌+◌, ◌*◌, ◌≤◌, List, [], ◌++◌, true, refl, sym, ap, subst, arith, Option, Site, Image, Moment, Snapshot, now_of, HasLimits, Leaves, LeavesOnly, since, Geometry, hi_of, group_shape, log_shape, master_shape, CacheLine, State, Line, run_touches, LogRecord, Master, logical_image_under, rules_of, groups_add_up, IsSound, log_under, cache_on, restart_works, next_group, HasNumbers, WritesOnly, IsGood, AsksNoMore, GivesNumbers, SkipsNoNumber, cache_by, made_by, run_of, staged_by_run, Run, turns_of, load_run, WearsNone}
+use Rattle.std.specs.Prelude.{Contains}
 use Rattle.std.proofs.Math.Nat.{suc-mul}
 use Rattle.std.proofs.lemmas.List.Elements.{All-contains, All-from_recursion}
-use Rattle.site.specs.State.{State as Site, Image, Moment, Snapshot, now_of}
-use Rattle.site.specs.Geometry.{HasLimits, blank_image}
-use Rattle.site.specs.Moments.{Leaves, LeavesOnly, since}
-use Rattle.site.specs.declared.geometry.Geometry.{Geometry}
+use Rattle.site.specs.Geometry.{blank_image}
 use Rattle.sealed_ring.specs.Laws.{BlankIsRing}
-use Rattle.sealed_ring.specs.Ring.{hi_of}
-use Rattle.image_changes.specs.Rings.{Blocks, Groups, Masters, group_shape, log_shape, master_shape}
-use Rattle.record_model.specs.declared.words.CacheLine.{CacheLine}
-use Rattle.record_model.specs.State.{State}
-use Rattle.record_model.specs.Run.{Line}
-use Rattle.record_model.specs.Touches.{run_touches}
-use Rattle.log_records.specs.declared.log_record.LogRecord.{LogRecord}
-use Rattle.checkpoint.specs.declared.master.Master.{Master}
+use Rattle.image_changes.specs.Rings.{Blocks, Groups, Masters}
 use Rattle.image_meaning.proofs.Blanks.{unused}
-use Rattle.image_meaning.specs.Meaning.{logical_image_under}
 use Rattle.second_chance.specs.Groups.{LinesPushFew, WorkPushesFew, reads_in}
-use Rattle.second_chance.specs.Machine.{rules_of}
-use Rattle.second_chance.proofs.GroupCounts.{groups_add_up}
-use Rattle.engine.specs.Image.{IsSound, log_under}
-use Rattle.engine.specs.Paging.{cache_on, restart_works}
-use Rattle.redo_laws.specs.MachineSteps.{next_group}
-use Rattle.redo_laws.specs.Numbers.{HasNumbers}
-use Rattle.page_store.specs.Staging.{WritesOnly}
-use Rattle.face.specs.Headline.{IsGood}
-use Rattle.face.specs.RunMeaning.{AsksNoMore, GivesNumbers, SkipsNoNumber, cache_by, made_by, run_of, staged_by_run}
 use Rattle.face.specs.RingNumbers.{Call, of_load, of_run, HasGiven, HaveLives, IsLifeOf, LivesHaveRoom, LoadsAreComplete, MayBeLeft, NumbersOfLives, RingsSuffice, RunsAreComplete, Work, begun_by, both, no_work, work_of}
-use Rattle.face.specs.Run.{Run, turns_of}
-use Rattle.face.specs.Workload.{load_run}
-use Rattle.face.specs.Worn.{WearsNone}
 use Rattle.face.proofs.RestartGroups.{restart_few}
 use Rattle.face.proofs.WornRuns.{number_at_entry}
 use Rattle.face.proofs.RingCounts.{never_by_counts}

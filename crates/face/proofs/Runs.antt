@@ -1,15 +1,5 @@
 -- One line more of a run.
-use Rattle.std.proofs.Common.{◌≡◌, ℕ, zero, suc, ◌<◌, List, [], ◌∷◌, ◌++◌, length, take, drop, get_or, refl, sym, ◌∙◌, ap, arith, append_assoc}
-use Rattle.std.specs.Prelude.{flat_map, map}
-use Rattle.std.proofs.lemmas.List.{append-nil, length-map, length-take-le}
-use Rattle.record_model.specs.declared.words.CacheLine.{CacheLine}
-use Rattle.record_model.specs.State.{State}
-use Rattle.record_model.specs.Run.{Line, Turn, turn, replies, next_listing, later_listings, listings_after}
-use Rattle.record_model.specs.declared.words.Reply.{Reply}
-use Rattle.shell_text.specs.Texts.{reply_lines, reply_text}
-use Rattle.face.specs.Done.{lines_at}
-use Rattle.face.specs.RunMeaning.{first_texts, text_at, texts}
-use Rattle.face.specs.Run.{Run, answered, step, after_lines, first_lines, state_at, listings_left, listing_at, turns_of}
+use Rattle.face.proofs.Names.{◌≡◌, ℕ, zero, suc, ◌<◌, List, [], ◌∷◌, ◌++◌, length, take, drop, get_or, refl, sym, ◌∙◌, ap, arith, append_assoc, flat_map, map, append-nil, length-map, length-take-le, CacheLine, State, Line, Turn, turn, replies, next_listing, later_listings, listings_after, Reply, reply_lines, reply_text, lines_at, first_texts, text_at, texts, Run, answered, step, after_lines, first_lines, state_at, listings_left, listing_at, turns_of}
 use Rattle.face.proofs.Fronts.{lines_first, text_first}
 use Rattle.face.proofs.Turns.{next_turn, turns_count}
 

@@ -1,28 +1,6 @@
 -- A run from its restart to its end.
-use Rattle.std.proofs.Common.{◌≡◌, ◌≢◌, ⊎_elim, ℕ, suc, ◌+◌, ◌≤◌, List, [], ◌∷◌, ◌++◌, length, take, drop, refl, sym, ◌∙◌, ap, subst, arith, append_assoc, add-one}
-use Rattle.std.proofs.lemmas.List.{append-nil, length-take-le, take_all}
-use Rattle.site.specs.State.{State as Site, Image, Snapshot, MayLeave, now_of, no_loose, IsQuiet}
-use Rattle.site.specs.Calls.{Preserves}
-use Rattle.site.specs.Moments.{Leaves, LeavesOnly, EachMoment}
-use Rattle.site.proofs.Laws.{in_sequence, leaves_weaker, image_is, calm, now_same, holds_now, tell_leaves}
-use Rattle.site.specs.Telling.{TellsPart}
-use Rattle.site.specs.declared.geometry.Geometry.{Geometry}
-use Rattle.record_model.specs.State.{State}
-use Rattle.record_model.specs.Run.{Line}
-use Rattle.engine.specs.declared.engine.Engine.{Engine}
-use Rattle.engine.specs.Image.{Stands}
-use Rattle.engine.specs.Leaves.{LeavesTable}
-use Rattle.engine.specs.Invariant.{sizes_of}
-use Rattle.shell_text.specs.Texts.{open_text, reply_text}
-use Rattle.front_end.specs.declared.halt.Halt.{Halt}
+use Rattle.face.proofs.Names.{◌≡◌, ◌≢◌, ⊎_elim, ℕ, suc, ◌+◌, ◌≤◌, List, [], ◌∷◌, ◌++◌, length, take, drop, refl, sym, ◌∙◌, ap, subst, arith, append_assoc, add-one, append-nil, length-take-le, take_all, Site, Image, Snapshot, MayLeave, now_of, no_loose, IsQuiet, Preserves, Leaves, LeavesOnly, EachMoment, in_sequence, leaves_weaker, image_is, calm, now_same, holds_now, tell_leaves, TellsPart, Geometry, State, Line, Engine, Stands, LeavesTable, sizes_of, open_text, reply_text, Halt, status_of, HearsOnly, TellsDone, HasBegun, IsLeft, IsWhole, StandsAfter, first_texts, text_at, Run, answered, first_lines, step, state_at, listing_at, StandsFor, StandsAt, LeavesAnswer, StandsNear, Stops, RunInProgress, HasServed}
 use Rattle.front_end.specs.declared.halt.Halt.TheVariants.{Output}
-use Rattle.front_end.specs.Texts.{status_of}
-use Rattle.front_end.specs.Lines.{HearsOnly}
-use Rattle.face.specs.Done.{TellsDone}
-use Rattle.face.specs.RunMeaning.{HasBegun, IsLeft, IsWhole, StandsAfter, first_texts, text_at}
-use Rattle.face.specs.Run.{Run, answered, first_lines, step, state_at, listing_at, StandsFor, StandsAt, LeavesAnswer}
-use Rattle.face.specs.Working.{StandsNear, Stops}
-use Rattle.face.specs.RunInProgress.{RunInProgress, HasServed}
 use Rattle.face.proofs.Logs.{fits_stands}
 use Rattle.face.proofs.Fronts.{lines_first, told_first}
 use Rattle.face.proofs.Lefts.{answer_more, between, first_after, first_before, front_count, stands_first, within}

@@ -1,17 +1,9 @@
 -- A run is one of the record model's, so serial order holds of it.
-use Rattle.std.proofs.Common.{◌≡◌, ℕ, ◌-◌, Bool, List, ◌∷◌, ◌++◌, sym, subst}
-use Rattle.site.specs.State.{State as Site}
-use Rattle.site.specs.declared.geometry.Geometry.{Geometry}
-use Rattle.record_model.specs.declared.words.CacheLine.{CacheLine}
-use Rattle.record_model.specs.State.{State}
-use Rattle.record_model.specs.Run.{turns}
-use Rattle.record_model.specs.Serial.{Serial}
-use Rattle.front_end.specs.Lines.{commands_of}
-use Rattle.face.specs.RunMeaning.{run_of}
+use Rattle.face.proofs.Names.{◌≡◌, ℕ, ◌-◌, Bool, List, ◌∷◌, ◌++◌, sym, subst, Site, Geometry, CacheLine, State, turns, Serial, commands_of, run_of, IsGood}
 use Rattle.shell_text.specs.Runs.{texts}
 use Rattle.shell_text.specs.Serial.{IsToldSerial}
 use Rattle.shell_text.proofs.Serial.{serial_is_told}
-use Rattle.face.specs.Headline.{IsGood, IsSerialRun, IsSerialTold}
+use Rattle.face.specs.Headline.{IsSerialRun, IsSerialTold}
 
 pub run_is_serial : Serial → (g : Geometry) (opening : State) (site : Site) → IsGood g opening site → (ended : Bool) (octets : List ℕ) (listings : List (List CacheLine)) →
     IsSerialRun (run_of g opening ended octets listings)

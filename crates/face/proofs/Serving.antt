@@ -1,48 +1,10 @@
 -- What a run asks of the devices, one line after the other.
-use Rattle.std.proofs.Common.{◌≡◌, ℕ, suc, ◌+◌, ◌≤◌, List, [], ◌∷◌, ◌++◌, drop, IsErrOf, OnOk, refl, sym, ◌∙◌, ap, subst, arith}
-use Rattle.std.specs.Prelude.{Option, Result, Ok, Err, Some, ⊤}
-use Rattle.site.specs.declared.outside.Dev.{Dev}
-use Rattle.site.specs.declared.outside.Stop.TheVariants.{Worn}
-use Rattle.site.specs.declared.geometry.Geometry.{Geometry}
-use Rattle.site.specs.State.{State as Site, Image}
-use Rattle.site.specs.Calls.{Preserves}
-use Rattle.site.proofs.Working.{ok_as}
-use Rattle.record_model.specs.State.{State}
-use Rattle.record_model.specs.Run.{Line}
-use Rattle.record_model.specs.Touches.{CacheOp, line_touches}
-use Rattle.log_records.specs.declared.log_record.LogRecord.{LogRecord}
-use Rattle.checkpoint.specs.declared.master.Master.{Master}
-use Rattle.image_changes.proofs.Counting.{calls_then}
-use Rattle.second_chance.specs.Machine.{Cache, Rules, after_works, rules_of}
-use Rattle.flash_cache.specs.Representation.{start_reads}
-use Rattle.page_store.specs.Caching.{cache_of, rules}
-use Rattle.page_store.specs.Staging.{HasQueueOn}
-use Rattle.redo_laws.specs.MachineSteps.{ReadsFor}
-use Rattle.redo_laws.proofs.Costs.{ops_compose, reads_add_up}
-use Rattle.redo_undo.specs.Mirroring.{MirrorsStore}
-use Rattle.ring_machine.specs.Commands.{line_work}
-use Rattle.ring_machine.specs.Machine.{RingOp, after_all, first_worn}
-use Rattle.ring_machine.specs.Performing.{Performs}
-use Rattle.ring_machine.proofs.Performing.{performs_as, performs_by, performs_then}
+use Rattle.face.proofs.Names.{◌≡◌, ℕ, suc, ◌+◌, ◌≤◌, List, [], ◌∷◌, ◌++◌, drop, IsErrOf, OnOk, refl, sym, ◌∙◌, ap, subst, arith, Option, Result, Ok, Err, Some, ⊤, Dev, Worn, Geometry, Site, Image, Preserves, ok_as, State, Line, CacheOp, line_touches, LogRecord, Master, calls_then, Rules, after_works, rules_of, start_reads, cache_of, rules, HasQueueOn, ReadsFor, ops_compose, MirrorsStore, line_work, RingOp, after_all, first_worn, Performs, performs_as, Engine, IsSound, log_under, QueueIsOnFlash, Invariant, sizes_of, Matches, HasLastFrom, WritesFrom, cache_on, machine_on, WhereItFits, Halt, HearsOnly, CarriesOut, DoesLine, AsksFew, Run, answered, first_lines, listing_at, state_at, turns_of, HasDone, HasServed, IsPaged, AsksNoMore, GivesNumbers, Demands, asked_after, log_reads_after, IsMirrored, WearsNone, WearsNoneBefore, rings_by, worn_by}
+use Rattle.second_chance.specs.Machine.{Cache}
+use Rattle.redo_laws.proofs.Costs.{reads_add_up}
+use Rattle.ring_machine.proofs.Performing.{performs_by, performs_then}
 use Rattle.ring_machine.proofs.Works.{first_then}
-use Rattle.engine.specs.declared.engine.Engine.{Engine}
-use Rattle.engine.specs.Image.{IsSound, log_under}
-use Rattle.engine.specs.Listings.{QueueIsOnFlash}
-use Rattle.engine.specs.Invariant.{Invariant, sizes_of}
-use Rattle.engine.specs.Representation.{Matches}
-use Rattle.engine.specs.Paging.{HasLastFrom, WritesFrom, cache_on}
-use Rattle.engine.specs.RingWork.{machine_on}
-use Rattle.engine.specs.SeenVersions.{WhereItFits}
-use Rattle.front_end.specs.declared.halt.Halt.{Halt}
 use Rattle.front_end.specs.declared.halt.Halt.TheVariants as halt
-use Rattle.front_end.specs.Lines.{HearsOnly}
-use Rattle.face.specs.Carrying.{CarriesOut, DoesLine}
-use Rattle.face.specs.Run.{AsksFew, Run, answered, first_lines, listing_at, state_at, turns_of}
-use Rattle.face.specs.Done.{HasDone}
-use Rattle.face.specs.RunInProgress.{HasServed, IsPaged}
-use Rattle.face.specs.RunMeaning.{AsksNoMore, GivesNumbers}
-use Rattle.face.specs.Working.{Demands, asked_after, log_reads_after}
-use Rattle.face.specs.Worn.{IsMirrored, WearsNone, WearsNoneBefore, rings_by, worn_by}
 use Rattle.face.proofs.CallCounts.{calls_heard}
 use Rattle.face.proofs.Counted.{counts_next, next_counted}
 use Rattle.face.proofs.Demanded.{demands_err, demands_ok}

@@ -1,10 +1,6 @@
 -- The statuses of halts.
-use Rattle.std.proofs.Common.{◌≡◌, ◌≢◌, ◌⊎◌, inl, inr, refl, arith}
-use Rattle.site.specs.declared.outside.Dev.{Dev}
-use Rattle.site.specs.declared.outside.Stop.TheVariants.{Device, Memory, Worn, Foreign}
-use Rattle.front_end.specs.declared.halt.Halt.{Halt}
+use Rattle.face.proofs.Names.{◌≡◌, ◌≢◌, ◌⊎◌, inl, inr, refl, arith, Dev, Device, Memory, Worn, Foreign, Halt, status_of}
 use Rattle.front_end.specs.declared.halt.Halt.TheVariants as halt
-use Rattle.front_end.specs.Texts.{status_of}
 
 pub output_or_not : (h : Halt) → (h ≡ halt.Output) ⊎ (h ≢ halt.Output)
 output_or_not (halt.Stop stop) = inr (λ e. cc)

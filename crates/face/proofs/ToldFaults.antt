@@ -1,15 +1,7 @@
 -- The line of a halt is told last.
-use Rattle.std.proofs.Common.{◌≡◌, inl, inr, ℕ, [], refl, IsTrue}
-use Rattle.std.specs.Prelude.{Result}
+use Rattle.face.proofs.Names.{◌≡◌, inl, inr, ℕ, [], refl, IsTrue, Result, Preserves, Failed, Halt, HasCause, TellsFault, Tells, fault_line, status_of, ends_with}
 use Rattle.site.specs.State.{State}
-use Rattle.site.specs.Calls.{Preserves}
-use Rattle.site.specs.declared.outside.Failed.{Failed}
-use Rattle.front_end.specs.declared.halt.Halt.{Halt}
-use Rattle.face.specs.Causes.{HasCause}
-use Rattle.face.specs.Headline.{TellsFault}
-use Rattle.front_end.specs.Tells.{Tells}
-use Rattle.front_end.specs.Texts.{fault_line, status_of}
-use Rattle.front_end.proofs.Endings.{ends_done, ends_with}
+use Rattle.front_end.proofs.Endings.{ends_done}
 
 -- the line of a halt, over every honest site
 pub tells_fault : {T : Type 0} (h : Halt) (status : ℕ) (old mid new : State) (result : Result T Failed) → status ≡ status_of h → HasCause h old new → Preserves old mid → IsTrue mid.honest → Tells (fault_line h) mid new result → TellsFault status old new

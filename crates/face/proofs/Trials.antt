@@ -1,31 +1,16 @@
 -- The lives of a script, one after the other.
-use Rattle.std.proofs.Common.{◌≡◌, ◌≢◌, ◌⊎◌, inl, inr, ⊎_elim, ℕ, zero, suc, ◌+◌, ◌-◌, ◌≤◌, ◌<◌, List, [], ◌∷◌, ◌++◌, length, take, drop, refl, sym, ◌∙◌, ap, subst, arith, add-one, append_assoc, length-append, take-append-drop, IsTrue}
-use Rattle.std.specs.Prelude.{Option, Some, None, min, Result, Ok, Err, OnErr, slice_get, slice_range}
-use Rattle.std.proofs.lemmas.List.{append-nil, take_all, take_at}
-use Rattle.site.specs.State.{Input, State as Site, Image, MayLeave, no_loose, now_of}
-use Rattle.site.specs.Calls.{Preserves, Rose, SameReads}
-use Rattle.site.proofs.Laws.{calm, each_weaker, goes_in_sequence, goes_nowhere, in_sequence, no_call, now_leaves, now_same, rose_then, stays_honest}
-use Rattle.site.specs.Moments.{EachMoment}
-use Rattle.site.specs.Telling.{TellsPart}
-use Rattle.site.specs.declared.geometry.Geometry.{Geometry}
-use Rattle.site.specs.declared.outside.Failed.{Failed}
-use Rattle.site.specs.declared.outside.Stop.TheVariants.{Device, Memory, Worn, Foreign}
-use Rattle.mem_site.specs.Crash.{image_left, started}
-use Rattle.mem_site.specs.MemState.{IsFresh, limits_of, lives_of, state_of}
-use Rattle.mem_site.specs.declared.mem.MemSite.{MemSite}
+use Rattle.face.proofs.Names.{◌≡◌, ◌≢◌, ◌⊎◌, inl, inr, ⊎_elim, ℕ, zero, suc, ◌+◌, ◌-◌, ◌≤◌, ◌<◌, List, [], ◌∷◌, ◌++◌, length, take, drop, refl, sym, ◌∙◌, ap, subst, arith, add-one, append_assoc, length-append, take-append-drop, IsTrue, Option, Some, None, Result, Ok, Err, append-nil, take_all, take_at, Input, Site, Image, MayLeave, no_loose, now_of, Preserves, Rose, SameReads, calm, each_weaker, goes_in_sequence, goes_nowhere, in_sequence, no_call, now_same, rose_then, stays_honest, EachMoment, TellsPart, Geometry, Failed, Device, Memory, Worn, Foreign, started, lives_of, state_of, MemSite, Halt, BlankLaw, HearsOnly, Finds, HasLivedOne, IsFront, Tells, fault_line, status_of, Between, ends_with}
+use Rattle.std.specs.Prelude.{min, OnErr, slice_get, slice_range}
+use Rattle.site.proofs.Laws.{now_leaves}
+use Rattle.mem_site.specs.Crash.{image_left}
+use Rattle.mem_site.specs.MemState.{IsFresh, limits_of}
 use Rattle.workload.specs.declared.scripts.Life.{Life}
 use Rattle.workload.specs.declared.scripts.StopLine.{StopLine}
 use Rattle.workload.specs.Scripts.{lives_between, lives_of as lives_in, stops_from}
-use Rattle.front_end.specs.declared.halt.Halt.{Halt}
 use Rattle.front_end.specs.declared.halt.Halt.TheVariants as halt
-use Rattle.face.specs.Image.{BlankLaw, blank_table}
-use Rattle.front_end.specs.Lines.{HearsOnly}
-use Rattle.face.specs.Living.{Ends, Finds, HasLivedOne, IsGivenUp, IsHaltOfTrial, IsReady, KeepsDevices}
-use Rattle.face.specs.Run.{IsFront}
-use Rattle.front_end.specs.Tells.{Tells}
-use Rattle.front_end.specs.Texts.{fault_line, status_of}
-use Rattle.face.specs.Trial.{Between, HaveLived, IsCut, IsLife, IsLived, IsNewSite, IsStatus, Lives, TellsAll, TellsSome, TrialCauses, TrialContract, at_first, is_within, life_line, numbers_of, script_limit}
-use Rattle.front_end.proofs.Endings.{ends_with}
+use Rattle.face.specs.Image.{blank_table}
+use Rattle.face.specs.Living.{Ends, IsGivenUp, IsHaltOfTrial, IsReady, KeepsDevices}
+use Rattle.face.specs.Trial.{HaveLived, IsCut, IsLife, IsLived, IsNewSite, IsStatus, Lives, TellsAll, TellsSome, TrialCauses, TrialContract, at_first, is_within, life_line, numbers_of, script_limit}
 use Rattle.face.proofs.Longer.{front_more}
 
 -- How many lives a script has.

@@ -1,13 +1,7 @@
 -- What the record model makes of lines.
-use Rattle.std.proofs.Common.{◌≡◌, ℕ, zero, suc, Bool, true, false, List, [], ◌∷◌, ◌++◌, length, take, drop, refl, sym, ◌∙◌, ap, arith}
-use Rattle.std.specs.Prelude.{Some, None, if◌then◌else◌}
-use Rattle.std.proofs.lemmas.List.{take_all}
+use Rattle.face.proofs.Names.{◌≡◌, ℕ, zero, suc, Bool, true, false, List, [], ◌∷◌, ◌++◌, length, take, drop, refl, sym, ◌∙◌, ap, arith, Some, None, if◌then◌else◌, take_all, CacheLine, State, Line, Turn, turn, turns, is_quit, left_by, listings_after, next_listing, later_listings, up_to_quit, step, after_lines}
 use Rattle.record_model.specs.declared.words.Command.TheVariants as command
-use Rattle.record_model.specs.declared.words.CacheLine.{CacheLine}
-use Rattle.record_model.specs.State.{State}
-use Rattle.record_model.specs.Run.{Line, Turn, turn, turns, is_quit, left_by, listings_after, next_listing, later_listings, state_at as model_state}
-use Rattle.front_end.specs.Lines.{up_to_quit}
-use Rattle.face.specs.Run.{step, after_lines}
+use Rattle.record_model.specs.Run.{state_at as model_state}
 
 -- the states between the turns
 pub states_are : (s : State) (lines : List Line) (listings : List (List CacheLine)) (i : ℕ) → model_state (turns s lines listings) s i ≡ after_lines s (take i (up_to_quit lines)) listings

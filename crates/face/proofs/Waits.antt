@@ -1,17 +1,7 @@
 -- When input is asked for.
-use Rattle.std.proofs.Common.{◌≡◌, ℕ, ◌+◌, ◌≤◌, false, List, [], ◌++◌, length, take, sym, ◌∙◌, ap, subst, arith, append_assoc, length-append}
-use Rattle.std.specs.List.{list_any}
-use Rattle.std.proofs.lemmas.List.{append-nil}
-use Rattle.std_lemmas.proofs.AllOf.{all_append, all_weaker}
-use Rattle.site.specs.State.{Input, State as Site}
-use Rattle.site.specs.declared.outside.Take.{Take}
-use Rattle.front_end.specs.declared.source.Source.{Source}
-use Rattle.record_model.specs.Run.{is_quit}
-use Rattle.front_end.specs.Lines.{answered_of, commands_of, pending, to_hear, IsSource, TookWithin, TakesWithin}
-use Rattle.face.specs.RunMeaning.{first_texts}
-use Rattle.face.specs.Run.{Run}
-use Rattle.face.specs.Waiting.{IsAnswered}
-use Rattle.face.specs.Working.{AnswersFirst, IsEarly}
+use Rattle.face.proofs.Names.{◌≡◌, ℕ, ◌+◌, ◌≤◌, false, List, [], ◌++◌, length, take, sym, ◌∙◌, ap, subst, arith, append_assoc, length-append, list_any, append-nil, all_append, Input, Site, Take, Source, is_quit, answered_of, commands_of, pending, to_hear, IsSource, TakesWithin, first_texts, Run, IsAnswered, AnswersFirst, IsEarly}
+use Rattle.std_lemmas.proofs.AllOf.{all_weaker}
+use Rattle.front_end.specs.Lines.{TookWithin}
 use Rattle.face.proofs.Cuts.{Cut, whole_before}
 
 -- none yet

@@ -1,24 +1,5 @@
 -- Where the first lines of a run append to a ring that stands at its end, so does all of it.
-use Rattle.std.proofs.Common.{◌≡◌, ℕ, ◌≤◌, Bool, true, List, [], ◌++◌, take, drop, Option, Some, None, sym, ap, subst, ◌∙◌, arith, append_assoc, take-append-drop}
-use Rattle.std.proofs.lemmas.List.{take-take}
-use Rattle.site.specs.State.{Image}
-use Rattle.site.specs.declared.geometry.Geometry.{Geometry}
-use Rattle.site.specs.declared.outside.Dev.{Dev}
-use Rattle.record_model.specs.declared.words.CacheLine.{CacheLine}
-use Rattle.record_model.specs.State.{State}
-use Rattle.record_model.specs.Run.{Line}
-use Rattle.checkpoint.specs.declared.master.Master.{Master}
-use Rattle.log_records.specs.declared.log_record.LogRecord.{LogRecord}
-use Rattle.image_meaning.specs.Meaning.{logical_image_under}
-use Rattle.second_chance.specs.Machine.{rules_of}
-use Rattle.ring_machine.specs.Machine.{RingOp, first_worn}
-use Rattle.ring_machine.specs.Restart.{restart_work}
-use Rattle.ring_machine.proofs.Works.{first_stopped}
-use Rattle.engine.specs.Image.{IsSound}
-use Rattle.engine.specs.RingWork.{machine_on}
-use Rattle.face.specs.RunMeaning.{run_of}
-use Rattle.face.specs.Run.{Run, after_lines, answered, first_lines, turns_of}
-use Rattle.face.specs.Worn.{WearsFirst, WearsNone, WearsNoneBefore, rings_of, worn_by}
+use Rattle.face.proofs.Names.{◌≡◌, ℕ, ◌≤◌, Bool, true, List, [], ◌++◌, take, drop, Option, Some, None, sym, ap, subst, ◌∙◌, arith, append_assoc, take-append-drop, take-take, Image, Geometry, Dev, CacheLine, State, Line, Master, LogRecord, logical_image_under, rules_of, RingOp, first_worn, restart_work, first_stopped, IsSound, machine_on, run_of, Run, after_lines, answered, first_lines, turns_of, WearsFirst, WearsNone, WearsNoneBefore, rings_of, worn_by}
 use Rattle.face.proofs.Fronts.{first_same}
 use Rattle.face.proofs.Pagings.{taken_first}
 use Rattle.face.proofs.WornRuns.{none_prefix, rings_are, rings_join, turns_work}

@@ -1,50 +1,20 @@
 -- Runs as work of the machine of the rings.
-use Rattle.std.proofs.Common.{◌≡◌, ◌≢◌, ◌⊎◌, inl, inr, ℕ, suc, ◌+◌, ◌-◌, ◌*◌, ◌/◌, ◌==◌, ◌<◌, ◌≤◌, arith, Bool, true, false, List, [], ◌∷◌, ◌++◌, length, map, drop, take, append_assoc, append-nil, Option, Some, None, refl, sym, ap, subst, ◌∙◌}
-use Rattle.std.specs.Prelude.{Ok, if◌then◌else◌, ⊤}
+use Rattle.face.proofs.Names.{◌≡◌, ◌≢◌, ◌⊎◌, inl, inr, ℕ, suc, ◌+◌, ◌-◌, ◌*◌, ◌==◌, ◌<◌, ◌≤◌, arith, Bool, true, false, List, [], ◌∷◌, ◌++◌, length, map, drop, take, append_assoc, Option, Some, None, refl, sym, ap, subst, ◌∙◌, Ok, if◌then◌else◌, ⊤, flat_map-append, length-map, Dev, Site, Image, Snapshot, holds_now, CacheLine, Line, Turn, is_quit, turns, next_listing, later_listings, State, Stat, Quit, Cache, Mark, is_accepted, is_page_full, LogRecord, Master, group_shape, segment_shape, logical_image_under, Rules, Staged, rules_of, after_works, staged_by_works, WritesOnly, numbers_rise, hi_of, Matches, Invariant, sizes_of, Geometry, Machine, RingOp, first_worn, first_stopped, line_work, restart_work, Performs, performs_as, performs_answered, MirrorsStore, Engine, IsSound, cache_on, machine_on, up_to_quit, Run, after_lines, answered, first_lines, state_at, step, turns_of, IsPaged, AsksNoMore, IsMirrored, WearsNone, rings_by, rings_of, worn_by}
+use Rattle.std.proofs.Common.{◌/◌, append-nil}
 use Rattle.std.proofs.lemmas.Bool.Decides.{eqb_tells}
-use Rattle.std.proofs.lemmas.Grind.{flat_map-append}
-use Rattle.std.proofs.lemmas.List.{length-map}
-use Rattle.site.specs.declared.outside.Dev.{Dev}
-use Rattle.site.specs.State.{State as Site, Image, Snapshot}
-use Rattle.site.proofs.Laws.{holds_now}
-use Rattle.record_model.specs.declared.words.CacheLine.{CacheLine}
-use Rattle.record_model.specs.Run.{Line, Turn, is_quit, turns, next_listing, later_listings}
-use Rattle.record_model.specs.State.{State}
-use Rattle.record_model.specs.declared.words.Command.TheVariants.{Stat, Quit, Cache, Mark}
-use Rattle.record_model.specs.Step.{is_accepted, is_page_full}
-use Rattle.log_records.specs.declared.log_record.LogRecord.{LogRecord}
-use Rattle.checkpoint.specs.declared.master.Master.{Master}
-use Rattle.image_changes.specs.Rings.{group_shape, segment_shape, units_on}
-use Rattle.image_meaning.specs.Meaning.{AreSegments, logical_image_under}
-use Rattle.second_chance.specs.Machine.{Rules, Staged, rules_of, after_works, staged_by_works, next_group}
-use Rattle.page_store.specs.Staging.{SavesBefore, WritesOnly}
-use Rattle.redo_laws.proofs.Costs.{numbers_rise}
+use Rattle.image_changes.specs.Rings.{units_on}
+use Rattle.image_meaning.specs.Meaning.{AreSegments}
+use Rattle.second_chance.specs.Machine.{next_group}
+use Rattle.page_store.specs.Staging.{SavesBefore}
 use Rattle.sealed_ring.specs.declared.slots.Shape.{Shape}
-use Rattle.sealed_ring.specs.Ring.{hi_of}
 use Rattle.sealed_ring.specs.Ready.{region}
 use Rattle.sealed_ring.proofs.Units.{live_count}
 use Rattle.frame_group.specs.Groups.{Frame, frames_in}
 use Rattle.second_chance.specs.Queue.{frame_of as known_of}
 use Rattle.redo_laws.proofs.RingNumbers.{hi_on}
-use Rattle.engine.specs.Representation.{Matches}
-use Rattle.engine.specs.Invariant.{Invariant, sizes_of}
-use Rattle.site.specs.declared.geometry.Geometry.{Geometry}
-use Rattle.ring_machine.specs.Machine.{Machine, RingOp, first_worn}
-use Rattle.ring_machine.proofs.Works.{first_stopped}
-use Rattle.ring_machine.specs.Commands.{line_work, run_work}
-use Rattle.ring_machine.specs.Restart.{restart_work}
-use Rattle.ring_machine.specs.Performing.{Performs}
-use Rattle.ring_machine.proofs.Performing.{performs_as, performs_answered}
-use Rattle.redo_undo.specs.Mirroring.{MirrorsStore}
-use Rattle.engine.specs.declared.engine.Engine.{Engine}
-use Rattle.engine.specs.Image.{IsSound}
-use Rattle.engine.specs.Paging.{cache_on}
-use Rattle.engine.specs.RingWork.{machine_on}
-use Rattle.front_end.specs.Lines.{up_to_quit}
-use Rattle.face.specs.Run.{Run, after_lines, answered, first_lines, state_at, step, turns_of}
-use Rattle.face.specs.RunInProgress.{IsPaged}
-use Rattle.face.specs.RunMeaning.{AsksNoMore, works_by}
-use Rattle.face.specs.Worn.{HasRings, IsMirrored, LeavesItsRings, WearsNone, machine_by, rings_by, rings_of, worn_by}
+use Rattle.ring_machine.specs.Commands.{run_work}
+use Rattle.face.specs.RunMeaning.{works_by}
+use Rattle.face.specs.Worn.{HasRings, LeavesItsRings, machine_by}
 use Rattle.face.proofs.Fronts.{whole_turns}
 use Rattle.face.proofs.LinesBeforeQuit.{after_cons}
 use Rattle.face.proofs.Pagings.{after_same}

@@ -1,24 +1,9 @@
 -- What a run writes, one line after the other.
-use Rattle.std.proofs.Common.{◌≡◌, ◌≤◌, ℕ, List, [], ◌++◌, arith, sym, ap, subst}
-use Rattle.site.specs.declared.geometry.Geometry.{Geometry}
-use Rattle.site.specs.State.{State as Site, Snapshot, Image, IsQuiet}
-use Rattle.site.specs.Moments.{EachMoment, Leaves, LeavesOnly, since}
-use Rattle.flash_cache.specs.OnDisk.{HasLastStaged}
-use Rattle.site.specs.Telling.{TellsPart}
-use Rattle.site.proofs.Laws.{in_sequence, leaves_weaker, holds_now, tell_leaves, calm, now_same, unchanged}
-use Rattle.record_model.specs.Touches.{CacheOp}
-use Rattle.record_model.specs.State.{State}
-use Rattle.second_chance.specs.Machine.{Rules, Cache, Staged, after_works, staged_by_works}
-use Rattle.page_store.specs.Caching.{cache_of, rules, next_group}
-use Rattle.page_store.specs.Staging.{WritesOnly, HasQueueOn}
-use Rattle.page_store.proofs.StagingLaws.{last_still, last_then, last_unmoved, among_first, written_weaker, written_then, fits_queue, still_leaves}
-use Rattle.page_store.specs.declared.store.PageStore.{PageStore}
-use Rattle.redo_laws.proofs.Costs.{ops_compose, staged_add_up, more_next}
-use Rattle.engine.specs.declared.engine.Engine.{Engine}
-use Rattle.engine.specs.Representation.{Matches}
-use Rattle.engine.specs.Invariant.{Invariant}
-use Rattle.engine.specs.Paging.{HasLastFrom, WritesFrom}
-use Rattle.front_end.specs.Lines.{HearsOnly}
+use Rattle.face.proofs.Names.{◌≡◌, ◌≤◌, ℕ, List, [], ◌++◌, arith, sym, ap, subst, Geometry, Site, Snapshot, Image, IsQuiet, EachMoment, Leaves, LeavesOnly, since, HasLastStaged, TellsPart, in_sequence, leaves_weaker, holds_now, tell_leaves, calm, now_same, unchanged, CacheOp, State, Rules, Staged, after_works, staged_by_works, cache_of, rules, WritesOnly, HasQueueOn, last_still, PageStore, ops_compose, Engine, Matches, Invariant, HasLastFrom, WritesFrom, HearsOnly}
+use Rattle.second_chance.specs.Machine.{Cache}
+use Rattle.page_store.specs.Caching.{next_group}
+use Rattle.page_store.proofs.StagingLaws.{last_then, last_unmoved, among_first, written_weaker, written_then, fits_queue, still_leaves}
+use Rattle.redo_laws.proofs.Costs.{staged_add_up, more_next}
 
 -- the queue of a database that fits is the one on flash
 pub engine_queue : (engine : Engine) (site : Site) (s : State) → Invariant engine site → Matches engine site s → HasQueueOn engine.store.pages site

@@ -1,23 +1,7 @@
 -- What each snapshot has on flash and disk, by the lines that were begun by what it has.
-use Rattle.std.proofs.Common.{◌≡◌, ℕ, suc, ◌+◌, List, [], ◌∷◌, ◌++◌, length, take, drop, Option, refl, sym, ◌∙◌, ap, subst, arith, append_assoc, add-one}
-use Rattle.std.specs.List.{AllByRecursion}
-use Rattle.std.proofs.lemmas.List.{drop_at, take-take}
-use Rattle.site.specs.State.{State as Site, Image, Moment, Snapshot}
-use Rattle.site.specs.Moments.{EachMoment, Leaves, LeavesOnly, since}
-use Rattle.site.proofs.Laws.{calm, each_both, each_weaker, in_sequence, leaves_weaker, now_same, tell_leaves, told_is}
-use Rattle.site.specs.Telling.{TellsPart}
-use Rattle.site.specs.declared.geometry.Geometry.{Geometry}
-use Rattle.log_records.specs.declared.log_record.LogRecord.{LogRecord}
-use Rattle.checkpoint.specs.declared.master.Master.{Master}
+use Rattle.face.proofs.Names.{◌≡◌, ℕ, suc, ◌+◌, List, [], ◌∷◌, ◌++◌, length, take, drop, Option, refl, sym, ◌∙◌, ap, subst, arith, append_assoc, add-one, AllByRecursion, drop_at, take-take, Site, Image, Moment, Snapshot, EachMoment, Leaves, LeavesOnly, since, calm, each_both, each_weaker, in_sequence, leaves_weaker, now_same, tell_leaves, told_is, TellsPart, Geometry, LogRecord, Master, WritesOnly, Line, State, HearsOnly, HasMadeBefore, AsksNoMore, IsLeft, WritesAsBegun, cache_by, first_texts, staged_by_run, opening_text, LeavesAnswer, Run, first_lines, turns_of}
 use Rattle.page_store.specs.Caching.{next_group}
-use Rattle.page_store.specs.Staging.{WritesOnly}
-use Rattle.record_model.specs.Run.{Line}
-use Rattle.record_model.specs.State.{State}
-use Rattle.front_end.specs.Lines.{HearsOnly}
-use Rattle.face.specs.Loads.{HasMadeBefore}
-use Rattle.face.specs.RunMeaning.{AsksNoMore, HasToldBefore, IsLeft, WritesAsBegun, WritesAsTold, WritesSoFar, cache_by, first_texts, staged_by_run}
-use Rattle.face.specs.Workload.{opening_text}
-use Rattle.face.specs.Run.{LeavesAnswer, Run, first_lines, turns_of}
+use Rattle.face.specs.RunMeaning.{HasToldBefore, WritesAsTold, WritesSoFar}
 use Rattle.face.proofs.Fronts.{first_same, other, told_same}
 
 -- what each moment of two runs has, each of the second has

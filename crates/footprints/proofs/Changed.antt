@@ -1,12 +1,12 @@
 -- The map of the longest lengths, as a session writes and as a write is taken back.
-use Rattle.std.proofs.Common.{◌≡◌, ℕ, ◌<◌, ◌==◌, nat_eq, ⊎_elim, max, true, false, cond, List, [], ◌∷◌, ◌++◌, length, slice_index_or, slice_set, Option, Some, None, unwrap_or, IsSome, arith, refl, sym, ap, subst, ◌∙◌}
+use Rattle.std.proofs.Common.{◌≡◌, ℕ, ◌<◌, ◌==◌, nat_eq, ⊎_elim, max, cond, List, [], ◌∷◌, ◌++◌, length, slice_set, Option, Some, unwrap_or, IsSome, arith, refl, sym, ap, subst, ◌∙◌}
 use Rattle.std.specs.List.{reduce}
 use Rattle.std.specs.Map.{lookup}
 use Rattle.std.proofs.lemmas.Bool.{cases_eq, eq-eqb, ne_eqb}
 use Rattle.std.proofs.lemmas.List.{append-nil, get_or-set_same, length-set}
 use Rattle.indexmap.specs.IndexMap.{IndexMap, get}
 use Rattle.footprints.specs.declared.footprint.Footprint.{Footprint}
-use Rattle.footprints.specs.Longest.{of_session, lengths_on, lengths, longest, IsOnlyOf}
+use Rattle.footprints.specs.Longest.{of_session, lengths_on, longest, IsOnlyOf}
 use Rattle.footprints.specs.Stacks.{AreStacks}
 use Rattle.footprints.proofs.Greatest.{two_more}
 use Rattle.footprints.proofs.Lengths.{lengths_more, lengths_here, lengths_there, lengths_of, lengths_stay, only_stays, only_of_changed}

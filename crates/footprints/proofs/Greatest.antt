@@ -1,11 +1,10 @@
 -- The greatest of numbers.
-use Rattle.std.proofs.Common.{◌≡◌, ◌⊎◌, ⊎_elim, inl, inr, ℕ, zero, suc, ◌<◌, ◌≤◌, max, List, [], ◌∷◌, ◌++◌, length, slice_index_or, Option, Some, None, unwrap_or, fold, arith, refl, sym, ap, ◌∙◌}
+use Rattle.std.proofs.Common.{◌≡◌, ◌⊎◌, ⊎_elim, inl, inr, ℕ, zero, suc, ◌≤◌, max, List, [], ◌∷◌, ◌++◌, Some, unwrap_or, fold, arith, refl, sym, ap, ◌∙◌}
 use Rattle.std.specs.List.{reduce, Contains, AllByRecursion}
 use Rattle.std.proofs.Math.Nat.{le-max_left, le-max_right, max-le, max-eq_left, max-eq_right, max-zero}
 use Rattle.std.proofs.lemmas.Bool.{cases_lt}
 use Rattle.std.proofs.lemmas.List.Sums.{fold-append}
 use Rattle.std.proofs.lemmas.List.Elements.{All-from_recursion}
-use Rattle.std_lemmas.proofs.AllOf.{all_weaker}
 use Rattle.footprints.specs.Longest.{IsGreatest}
 
 is_one : (a b : ℕ) → (max a b ≡ a) ⊎ (max a b ≡ b)

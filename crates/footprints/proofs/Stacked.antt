@@ -1,5 +1,5 @@
 -- What footprints on a stack know, as one comes and one goes.
-use Rattle.std.proofs.Common.{◌≡◌, max, List, [], ◌∷◌, ◌++◌, refl, sym, ap, ◌∙◌}
+use Rattle.std.proofs.Common.{◌≡◌, max, List, [], ◌∷◌, ◌++◌, sym, ap, ◌∙◌}
 use Rattle.std.specs.List.{reduce}
 use Rattle.std.proofs.lemmas.List.{append-nil, append_assoc}
 use Rattle.footprints.specs.declared.footprint.Footprint.{Footprint}

@@ -1,5 +1,5 @@
 -- The stacks of footprints, and the map of the longest lengths.
-use Rattle.std.specs.Prelude.{◌≡◌, ℕ, nat_eq, max, List, [], ◌∷◌, ◌++◌, length, map, Option}
+use Rattle.std.specs.Prelude.{◌≡◌, ℕ, nat_eq, max, List, [], ◌∷◌, ◌++◌, length, map}
 use Rattle.std.specs.List.{reduce}
 use Rattle.indexmap.specs.IndexMap.{IndexMap, get}
 use Rattle.footprints.specs.declared.footprint.Footprint.{Footprint}

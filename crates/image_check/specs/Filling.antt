@@ -41,7 +41,8 @@ pub record AreOn (pages : List Version) (lengths : ℕ → ℕ) (page : ℕ) (on
 
 -- they are kept, or they are those of its version
 abbrev pub AreKeptOn : List Version → (ℕ → ℕ) → ℕ → Option PageLengths → Type 0
-AreKeptOn pages lengths page None = (number : ℕ) → number / 32 ≡ page → length_of (slot_at pages number) ≡ lengths number
+AreKeptOn pages lengths page None =
+    (number : ℕ) → number / 32 ≡ page → length_of (slot_at pages number) ≡ lengths number
 AreKeptOn pages lengths page (Some on) = AreOn pages lengths page on
 
 -- so it is with each page

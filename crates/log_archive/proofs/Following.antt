@@ -1,12 +1,12 @@
 -- Archives join, and blocks that follow are accepted.
-use Rattle.std.proofs.Common.{◌≡◌, ℕ, suc, ◌+◌, ◌*◌, ◌^◌, ◌<◌, ◌≤◌, List, [], ◌∷◌, ◌++◌, length, refl, sym, ◌∙◌, ap, subst, arith, inl, inr}
+use Rattle.std.proofs.Common.{◌≡◌, ℕ, suc, ◌+◌, ◌*◌, ◌^◌, ◌<◌, ◌≤◌, List, [], ◌∷◌, ◌++◌, length, refl, sym, ap, subst, arith, inl, inr}
 use Rattle.std.specs.Prelude.{Option, Some, None, option_and_then}
 use Rattle.std.proofs.lemmas.Option.{same_Some}
 use Rattle.log_records.specs.declared.log_record.LogRecord.{LogRecord}
 use Rattle.log_records.specs.Log.{entries_from}
 use Rattle.log_archive.specs.Lines.{end_text}
 use Rattle.log_archive.specs.Accepted.{Accepted, Stream, after_block, after_entries, with_next}
-use Rattle.log_archive.specs.Laws.{ArchivesJoin, FollowersAreAccepted, HoldBlocks, after_blocks, block_texts}
+use Rattle.log_archive.specs.Laws.{ArchivesJoin, FollowersAreAccepted, after_blocks, block_texts}
 
 pub join : ArchivesJoin
 join pages [] second s mid now first behind = subst (λ (x : Stream). Accepted pages second x now) first behind

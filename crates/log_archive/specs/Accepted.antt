@@ -32,8 +32,8 @@ pub record Unclosed : Type 0 where
   pub standing : List Standing
   pub net : List Write
 
--- Where a stream of blocks stands: the number of the next block, what the records so far leave in the table, the nets of
--- the commits, and how many commits there were before them, and the transactions that go on.
+-- Where a stream of blocks stands: the number of the next block, what the records so far leave in the table, how many
+-- commits there were before it, the nets of its own commits, and the transactions that go on.
 pub record Stream : Type 0 where
   pub next : ℕ
   pub shown : List Content
@@ -68,7 +68,8 @@ same_content (Some a) (Some b) = bytes_eq a b
 abbrev pub with_write : ℕ → ℕ → Write → List Standing → Unclosed → Stream → Stream
 with_write lsn txn write standing t s = record s {
   shown = table_with s.shown (write ∷ []);
-  unclosed = record { begin = t.begin; last = lsn; standing = standing; net = put_in write t.net } ∷ without txn s.unclosed;
+  unclosed = record { begin = t.begin; last = lsn; standing = standing; net = put_in write t.net }
+      ∷ without txn s.unclosed;
 }
 
 -- An Update goes on from the transaction's last record, on a page that there is, and says what the records before it
@@ -109,8 +110,8 @@ abbrev pub after_record : ℕ → ℕ → LogRecord → Stream → Option Stream
 after_record pages lsn Begin s =
     Some (record s { unclosed = record { begin = lsn; last = lsn; standing = []; net = [] } ∷ s.unclosed })
 after_record pages lsn (Update txn prev page slot before after) s =
-    option_and_then (after_update pages lsn (record { prev = prev; page = page; slot = slot; before = before }) txn after s)
-    (unclosed_of txn s)
+    let u : Standing = record { prev = prev; page = page; slot = slot; before = before } in
+    option_and_then (after_update pages lsn u txn after s) (unclosed_of txn s)
 after_record pages lsn (Clr txn prev undo_next page slot after) s =
     option_and_then (λ t. after_clr lsn txn prev undo_next page slot after s t t.standing) (unclosed_of txn s)
 after_record pages lsn (Commit txn number) s = option_and_then (after_commit txn number s) (unclosed_of txn s)

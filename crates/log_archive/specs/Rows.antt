@@ -5,8 +5,8 @@ use Rattle.log_records.specs.declared.log_record.LogRecord.{LogRecord}
 use Rattle.log_records.specs.declared.log_record.LogRecord.TheVariants.{Begin, Update, Clr, Commit, End}
 use Rattle.log_archive.specs.Accepted.{Stream, after_block, archive_table, blank_stream}
 
--- Block 0 is a transaction that sets record 5. Block 1 is one that writes record 5, goes on in block 2 with records 6 and
--- 5, undoes the last of these, and commits.
+-- Block 0 is a transaction that sets record 5. Block 1 is one that writes record 5; it goes on in block 2 with records
+-- 6 and 5, undoes the last of these, and commits.
 abbrev pub first : List LogRecord
 first = Begin ∷ Update 2 2 0 5 None (Some (10 ∷ 11 ∷ [])) ∷ Commit 2 1 ∷ []
 
@@ -14,8 +14,8 @@ abbrev pub second : List LogRecord
 second = Begin ∷ Update 514 514 0 5 (Some (10 ∷ 11 ∷ [])) (Some (1 ∷ [])) ∷ []
 
 abbrev pub third : List LogRecord
-third = Update 514 515 0 6 None (Some (7 ∷ [])) ∷ Update 514 1026 0 5 (Some (1 ∷ [])) None ∷ Clr 514 1051 1026 0 5 (Some (1 ∷ []))
-    ∷ Commit 514 2 ∷ []
+third = Update 514 515 0 6 None (Some (7 ∷ [])) ∷ Update 514 1026 0 5 (Some (1 ∷ [])) None
+    ∷ Clr 514 1051 1026 0 5 (Some (1 ∷ [])) ∷ Commit 514 2 ∷ []
 
 abbrev pub behind : List (List LogRecord) → Stream → Option Stream
 behind [] s = Some s

@@ -1,11 +1,9 @@
 use Rattle.engine.specs.LogReads.{back_reads}
-use Rattle.std.proofs.Common.{◌≡◌, ◌-◌, ◌≤◌, ℕ, Option, Some, length, refl, sym, ap, subst, ◌∙◌, arith}
+use Rattle.std.proofs.Common.{◌≡◌, ◌-◌, ℕ, Option, Some, length, refl, sym, ap, ◌∙◌, arith}
 use Rattle.std.specs.Prelude.{unwrap_or}
-use Rattle.std.proofs.lemmas.Option.{same_Some}
-use Rattle.record_model.specs.State.{Session, State, session_at}
-use Rattle.record_model.specs.Step.{Outcome, answer, effect}
+use Rattle.record_model.specs.State.{State, session_at}
+use Rattle.record_model.specs.Step.{Outcome, effect}
 use Rattle.record_model.specs.Touches.{command_touches, record_touches}
-use Rattle.record_model.specs.declared.words.Reply.{Reply}
 use Rattle.record_model.specs.declared.words.Reply.TheVariants as reply
 use Rattle.record_model.specs.declared.words.Command.TheVariants.{Back}
 use Rattle.ring_machine.specs.Commands.{command_work, record_work}

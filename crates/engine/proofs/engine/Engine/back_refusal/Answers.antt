@@ -6,7 +6,6 @@ use Rattle.record_model.specs.State.{Session, State, session_at, writes_of}
 use Rattle.record_model.specs.Step.{first_refusal, refuse_if, wants_standing}
 use Rattle.record_model.specs.declared.words.Command.TheVariants.{Back}
 use Rattle.record_model.specs.declared.words.Why.TheVariants.{BadMark}
-use Rattle.record_model.specs.declared.words.Reply.{Reply}
 use Rattle.record_model.specs.declared.words.Reply.TheVariants as reply
 use Rattle.txn_table.specs.declared.active.Active.{Active}
 use Rattle.txn_table.proofs.Owing.{entry_is}

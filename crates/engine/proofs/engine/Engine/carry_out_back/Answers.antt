@@ -1,16 +1,15 @@
 use Rattle.engine.specs.LogReads.{back_reads}
 use Rattle.record_model.specs.State.{Session, State, session_at, writes_of}
 use Rattle.record_model.specs.Step.{dropped, going_back}
-use Rattle.record_model.specs.Touches.{CacheOp, takes_back_touches}
+use Rattle.record_model.specs.Touches.{takes_back_touches}
 use Rattle.redo_laws.proofs.Asking.{asks_same, asks_ok, asks_err}
-use Rattle.std.proofs.Common.{◌≡◌, ◌+◌, ◌-◌, ◌≤◌, ℕ, refl, sym, arith, ap, Option, Some, List, drop, take, length, ◌∙◌}
+use Rattle.std.proofs.Common.{◌≡◌, ◌+◌, ◌-◌, ◌≤◌, ℕ, refl, sym, arith, ap, Option, Some, drop, length, ◌∙◌}
 use Rattle.std.specs.Prelude.{option_map}
 use Rattle.std.proofs.lemmas.List.{length-drop}
 use Rattle.site.proofs.Laws.{stays_honest}
 use Rattle.log_records.specs.Log.{entries_of}
 use Rattle.txn_table.specs.Entries.{after_undone}
 use Rattle.txn_table.proofs.Owing.{owes, entry_is}
-use Rattle.engine.specs.declared.engine.Engine.{Engine}
 use Rattle.engine.proofs.Actives.{some_active}
 use Rattle.engine.proofs.Backs.{back_fits, still_going}
 use Rattle.engine.proofs.FootprintChanges.{locked_back}

@@ -1,7 +1,7 @@
 use Rattle.site.specs.declared.outside.Dev.TheVariants.{Log}
 use Rattle.redo_laws.specs.MachineSteps.{one_change, one_touch}
 use Rattle.engine.proofs.Asking.{has_group, change_ok}
-use Rattle.std.proofs.Common.{List, length, ◌%◌, ◌≡◌, ◌<◌, ◌≤◌, ◌+◌, ◌*◌, ◌++◌, ◌∷◌, [], ◌∙◌, sym, arith, ◌/◌, ℕ, rules, ap, refl, subst, Some, None}
+use Rattle.std.proofs.Common.{List, length, ◌%◌, ◌≡◌, ◌<◌, ◌≤◌, ◌+◌, ◌*◌, ◌++◌, ◌∷◌, [], ◌∙◌, sym, arith, ◌/◌, ℕ, ap, refl, subst, Some, None}
 use Rattle.std.specs.Prelude.{IfNone, Ok, Err, Option, Result}
 use Rattle.std.specs.Result.{result_ok}
 use Rattle.std.proofs.lemmas.Option.{same_Some}
@@ -9,7 +9,7 @@ use Rattle.site.specs.declared.geometry.Geometry.{Geometry}
 use Rattle.site.specs.State.{State as Site}
 use Rattle.site.proofs.Laws.{stays_honest}
 use Rattle.record_model.specs.State.{content_at, Content, State}
-use Rattle.record_model.specs.Step.{committed, making, wants_page_room}
+use Rattle.record_model.specs.Step.{wants_page_room}
 use Rattle.record_model.specs.declared.words.Reply.{Reply}
 use Rattle.log_records.specs.Log.{Entry}
 use Rattle.log_laws.specs.Follow.{writes_in}
@@ -19,7 +19,7 @@ use Rattle.page_store.specs.declared.store.PageStore.{PageStore}
 use Rattle.redo_undo.specs.Fitting.{FitsFront}
 use Rattle.redo_undo.specs.Stores.{MayGrow, Represents, shown_in, sizes_of}
 use Rattle.redo_undo.specs.StoreCalls.{Keeps}
-use Rattle.redo_undo.proofs.StoreCalling.{works_then, works_answered, keeps_both, keeps_before, keeps_answered, keeps_failed, keeps_then, keeps_weaker}
+use Rattle.redo_undo.proofs.StoreCalling.{works_then, works_answered, keeps_both, keeps_answered, keeps_failed, keeps_then, keeps_weaker}
 use Rattle.engine.specs.declared.engine.Engine.{Engine}
 use Rattle.engine.specs.Invariant.{Invariant}
 use Rattle.engine.specs.Leaves.{LeavesTable}
@@ -34,7 +34,7 @@ use Rattle.engine.proofs.Meanings.{undoable}
 use Rattle.engine.proofs.PageRooms.{room_begun, shows_same}
 use Rattle.engine.proofs.Tested.{none_fewer, set_reads_first, set_refused, set_written, sets_either}
 use Rattle.engine.proofs.Writes.{touched_fits}
-use Rattle.redo_laws.proofs.Asking.{asks_err, asks_ok, asks_then, asks_stopped}
+use Rattle.redo_laws.proofs.Asking.{asks_err, asks_ok, asks_then}
 use Rattle.redo_laws.proofs.AskingUndo.{change_made, change_stopped}
 use Rattle.page_store.proofs.StagingLaws.{stages_err, stages_ok}
 use Rattle.engine.proofs.engine.Engine.carry_out_set.Given.{Over}
@@ -45,7 +45,7 @@ use Rattle.page_store.specs.Representation.{IsStore}
 use Rattle.image_meaning.specs.Meaning.{versions_on}
 use Rattle.record_model.specs.declared.words.Reply.TheVariants as reply
 use Rattle.ring_machine.specs.Commands.{begins, changes, commits as commits_work, reads}
-use Rattle.ring_machine.proofs.Performing.{performs_as, performs_answered, performs_refused, performs_stopped}
+use Rattle.ring_machine.proofs.Performing.{performs_as, performs_answered, performs_stopped}
 use Rattle.redo_undo.specs.Mirroring.{PerformsStore, updates}
 use Rattle.engine.proofs.Performing.{store_then, set_there}
 

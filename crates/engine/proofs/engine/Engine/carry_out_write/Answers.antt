@@ -1,7 +1,7 @@
 use Rattle.site.specs.declared.outside.Dev.TheVariants.{Log}
 use Rattle.site.specs.declared.outside.Stop.TheVariants.{Memory}
 use Rattle.engine.proofs.Asking.{has_group, change_ok}
-use Rattle.std.proofs.Common.{◌≡◌, ◌+◌, ◌*◌, ◌%◌, ◌<◌, ◌≤◌, ⊎_elim, Some, refl, sym, ap, subst, ◌∙◌, arith, ◌/◌, rules, ℕ, None}
+use Rattle.std.proofs.Common.{◌≡◌, ◌+◌, ◌*◌, ◌<◌, ◌≤◌, ⊎_elim, refl, sym, ap, subst, ◌∙◌, arith, ◌/◌}
 use Rattle.std.proofs.lemmas.Option.{same_Some}
 use Rattle.std.proofs.lemmas.Bool.{cases_eq}
 use Rattle.std.specs.Prelude.{Option, Result, Ok, Err}
@@ -15,7 +15,6 @@ use Rattle.site.specs.State.{State as Site}
 use Rattle.site.proofs.Laws.{stays_honest, goes_in_sequence}
 use Rattle.engine.specs.declared.engine.Engine.{Engine}
 use Rattle.engine.specs.Invariant.{Invariant, sizes_of}
-use Rattle.engine.specs.PageTests.{full_for}
 use Rattle.redo_undo.specs.Stores.{Represents, shown_in}
 use Rattle.engine.specs.Representation.{Matches}
 use Rattle.redo_laws.specs.Holding.{blocks_to}

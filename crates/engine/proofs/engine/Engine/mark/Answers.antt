@@ -1,4 +1,4 @@
-use Rattle.std.proofs.Common.{Some, None, ◌∙◌, sym, ap, subst, refl, arith}
+use Rattle.std.proofs.Common.{Some, ◌∙◌, sym, ap, subst, refl, arith}
 use Rattle.record_model.specs.Step.{Outcome}
 use Rattle.record_model.specs.declared.words.Command.TheVariants.{Mark}
 use Rattle.txn_table.specs.Entries.{ChangesOnly, after_mark, entry_of}

@@ -1,15 +1,9 @@
-use Rattle.std.proofs.Common.{◌≡◌, ◌<◌, ◌*◌, ◌∷◌, ◌++◌, [], None, true, false, refl, sym, ap, subst, rules, arith, ℕ, List}
-use Rattle.std.specs.Prelude.{Result}
-use Rattle.site.specs.declared.outside.Stop.{Stop}
+use Rattle.std.proofs.Common.{◌≡◌, ◌<◌, ◌*◌, None, true, false, refl, sym, subst, rules, List}
 use Rattle.site.specs.declared.geometry.Geometry.{Geometry}
-use Rattle.site.specs.State.{State as Site}
-use Rattle.record_model.specs.State.{Content, State, content_at}
-use Rattle.record_model.specs.declared.words.Reply.{Reply}
 use Rattle.record_model.specs.declared.words.Command.TheVariants.{Set}
 use Rattle.lock_table.specs.declared.lock.Lock.{Lock}
 use Rattle.lock_table.specs.Locks.{busy_write}
 use Rattle.ring_machine.proofs.Performing.{performs_as}
-use Rattle.engine.specs.declared.engine.Engine.{Engine}
 use Rattle.engine.specs.Invariant.{sizes_of}
 use Rattle.engine.specs.Representation.{checkpointed_if}
 use Rattle.engine.specs.Leaves.{LeavesEither}

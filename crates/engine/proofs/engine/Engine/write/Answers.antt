@@ -1,4 +1,4 @@
-use Rattle.std.proofs.Common.{subst, sym, Some, ap, ◌∙◌, refl, arith, ℕ}
+use Rattle.std.proofs.Common.{subst, sym, Some, ap, ◌∙◌, refl, ℕ}
 use Rattle.engine.specs.Permits.{MayWrite}
 use Rattle.txn_table.specs.Entries.{entry_of}
 use Rattle.txn_table.proofs.Owing.{entry_is}

@@ -1,4 +1,4 @@
-use Rattle.std.proofs.Common.{ℕ, List}
+use Rattle.std.proofs.Common.{List}
 use Rattle.footprints.specs.declared.footprint.Footprint.{Footprint}
 use Rattle.std.proofs.Common.{subst}
 use Rattle.footprints.specs.Longest.{IsOnlyOf}

@@ -1,4 +1,4 @@
-use Rattle.std.proofs.Common.{◌≡◌, ◌==◌, max, cond, sum_by, arith, sym, ap, ◌∙◌}
+use Rattle.std.proofs.Common.{◌≡◌, ◌==◌, max, cond, sum_by, arith, ap, ◌∙◌}
 use Rattle.std.specs.List.{range_with_len}
 use Rattle.footprints.specs.Longest.{need_in}
 use Rattle.footprints.proofs.Lengths.{sum_more}

@@ -1,4 +1,4 @@
-use Rattle.std.proofs.Common.{sym, ◌∙◌, arith, []}
+use Rattle.std.proofs.Common.{◌∙◌, arith, []}
 use Rattle.std.proofs.lemmas.List.{get_or_default}
 use Rattle.footprints.proofs.Changed.{had, taken_back}
 use Rattle.footprints.proofs.footprints.Footprints.take_back.Goals as goal
