@@ -1,8 +1,9 @@
 -- A trace, cut into its touches line by line.
 use Rattle.std.proofs.Common.{◌≡◌, ◌⊎◌, ℕ, ◌+◌, ◌≤◌, ◌<◌, Bool, true, List, [], ◌∷◌, ◌++◌, length, refl, sym, ◌∙◌, ap, subst, arith, append_assoc, length-append, inl, inr}
+use Rattle.std.proofs.lemmas.Grind.{common_steps}
 use Rattle.std.specs.Prelude.{map, All}
 use Rattle.std.proofs.lemmas.List.{append-nil, map-append, length-map}
-use Rattle.std.proofs.lemmas.List.Elements.{All-append, All-cons, All-head, All-nil, All-tail}
+use Rattle.std.proofs.lemmas.List.Elements.{All-cons, All-head, All-nil, All-tail}
 use Rattle.shell_text.specs.Runs.{lines_of}
 use Rattle.trace_report.specs.Traces.{Touch, touch_text, IsPage, IsTouch, IsTrace, IsFirstWrong, most}
 use Rattle.trace_report.specs.Hearing.{IsWrong, Hears}
@@ -22,37 +23,15 @@ one_page : (t : Touch) → IsPage t → All IsPage (t ∷ [])
 one_page t p = All-cons IsPage t [] p (All-nil IsPage)
 
 pub cut_more : (octets rest next line : List ℕ) (touches : List Touch) (t : Touch) → IsCut octets rest touches → lines_of true rest ≡ line ∷ lines_of true next → IsTouch line t → IsCut octets next (touches ++ t ∷ [])
-cut_more octets rest next line touches t cut is touch = record {
-  lines =
-      cut.lines ∙ ap (λ (l : List (List ℕ)). map touch_text touches ++ l) (is ∙ ap (λ (l : List ℕ). l ∷ lines_of true next) touch.text)
-      ∙ sym (append_assoc (map touch_text touches) (touch_text t ∷ []) (lines_of true next))
-      ∙ ap (λ (l : List (List ℕ)). l ++ lines_of true next) (sym (map-append touch_text touches (t ∷ [])));
-  pages = All-append IsPage touches (t ∷ []) cut.pages (one_page t touch.page);
-}
+cut_more octets rest next line touches t cut is touch = grind (arith, common_steps, append_assoc, map-append, one_page)
 
 -- at the end of the input
 pub all_cut : (octets rest : List ℕ) (touches : List Touch) → IsCut octets rest touches → rest ≡ [] → length touches ≤ most → IsTrace octets touches
-all_cut octets rest touches cut none few = record {
-  are = record {
-    texts = cut.lines ∙ ap (λ (l : List ℕ). map touch_text touches ++ lines_of true l) none ∙ append-nil (map touch_text touches);
-    pages = cut.pages;
-  };
-  few = few;
-}
+all_cut octets rest touches cut none few = grind (arith, append-nil)
 
 -- a line that isn't a touch, or is one too many
 pub wrong_here : (octets rest : List ℕ) (touches : List Touch) (line : List ℕ) (behind : List (List ℕ)) (number : ℕ) → IsCut octets rest touches → lines_of true rest ≡ line ∷ behind → length touches ≤ most → number ≡ length touches + 1 → (length touches ≡ most) ⊎ IsWrong line → IsFirstWrong octets number
-wrong_here octets rest touches line behind number cut is few number_is wrong = record {
-  before = map touch_text touches;
-  line = line;
-  behind = behind;
-  lines = cut.lines ∙ ap (λ (l : List (List ℕ)). map touch_text touches ++ l) is;
-  touches = touches;
-  are = record { texts = refl; pages = cut.pages };
-  few = few;
-  number_is = number_is;
-  wrong = wrong;
-}
+wrong_here octets rest touches line behind number cut is few number_is wrong = grind arith
 
 -- No input is both.
 
@@ -63,7 +42,7 @@ record IsAt (touches : List Touch) (before : List (List ℕ)) (line : List ℕ) 
   pub more : length before < length touches
 
 first_is : (t : Touch) (touches : List Touch) → All IsPage (t ∷ touches) → IsPage t × All IsPage touches
-first_is t touches all = (All-head IsPage t touches all, All-tail IsPage t touches all)
+first_is t touches all = (All-head IsPage t _ all, All-tail IsPage t _ all)
 
 line_at : (touches : List Touch) (before : List (List ℕ)) (line : List ℕ) (behind : List (List ℕ)) → map touch_text touches ≡ before ++ line ∷ behind → All IsPage touches → IsAt touches before line
 line_at [] before line behind is all = let none : 0 ≡ length before + length (line ∷ behind) = ap length is ∙ length-append before (line ∷ behind) in absurd (omega (arith, none))
@@ -75,7 +54,7 @@ line_at (t ∷ touches) (x ∷ before) line behind is all =
 
 pub never_both : (octets : List ℕ) (touches : List Touch) (number : ℕ) → IsTrace octets touches → IsFirstWrong octets number → ⊥
 never_both octets touches number trace wrong =
-    let a = line_at touches wrong.before wrong.line wrong.behind (sym trace.are.texts ∙ wrong.lines) trace.are.pages in
+    let a = line_at _ _ _ _ (sym trace.are.texts ∙ wrong.lines) trace.are.pages in
     elim wrong.wrong [
       | inl many ↦
           let long = ap length wrong.are.texts ∙ length-map wrong.touches touch_text in
@@ -98,24 +77,15 @@ not_yet groups pool octets rest machines is served = record { touches = []; coun
 module _ (groups pool : ℕ) (octets rest : List ℕ) (number : ℕ) (machines : Machines) (s : IsServed groups pool octets rest number machines) where
   -- one touch more
   pub served_more : (next : List ℕ) (page : ℕ) (change : Bool) (after : Machines) → Hears (heard.Touch page change) rest next → HaveServed groups pool (s.touches ++ (page, change) ∷ []) after → IsServed groups pool octets next (number + 1) after
-  served_more next page change after hears served = record {
-    touches = s.touches ++ (page, change) ∷ [];
-    count = let long = length-append s.touches ((page, change) ∷ []) in let count = s.count in omega (arith, long, count);
-    cut = cut_more octets rest next hears.0 s.touches (page, change) s.cut hears.1 hears.2;
-    served = served;
-  }
+  served_more next page change after hears served = grind (arith, common_steps, length-append, cut_more)
 
   -- the end of the trace
   pub served_all : (next : List ℕ) → Hears heard.End rest next → number ≤ most → IsTrace octets s.touches
-  served_all next hears few = all_cut octets rest s.touches s.cut hears (let count = s.count in omega (arith, count, few))
+  served_all next hears few = all_cut _ _ _ s.cut hears (let count = s.count in omega (arith, count, few))
 
   -- a line that is no touch, and one that is one too many
   pub stopped : (next : List ℕ) → Hears heard.Wrong rest next → number ≤ most → IsFirstWrong octets (number + 1)
-  stopped next hears few =
-      let count = s.count in
-      wrong_here octets rest s.touches hears.0 hears.1 (number + 1) s.cut hears.2 (omega (arith, count, few)) (omega (arith, count)) (inr hears.3)
+  stopped next hears few = grind (arith, wrong_here)
 
   pub overfull : (next : List ℕ) (page : ℕ) (change : Bool) → Hears (heard.Touch page change) rest next → number ≡ most → IsFirstWrong octets (number + 1)
-  overfull next page change hears full =
-      let count = s.count in
-      wrong_here octets rest s.touches hears.0 (lines_of true next) (number + 1) s.cut hears.1 (omega (arith, count, full)) (omega (arith, count)) (inl (omega (arith, count, full)))
+  overfull next page change hears full = grind (arith, wrong_here)

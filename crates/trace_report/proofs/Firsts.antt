@@ -23,12 +23,7 @@ abbrev AnswersOtherwise : ℕ → Type 0
 AnswersOtherwise status = (status ≡ 0) ⊎ ((status ≡ 4) ⊎ (status ≡ 16))
 
 otherwise : (status : ℕ) → (status ≡ 5) ⊎ (status ≡ 6) → AnswersOtherwise status → ⊥
-otherwise status (inl is) (inl e) = omega (arith, is, e)
-otherwise status (inl is) (inr (inl e)) = omega (arith, is, e)
-otherwise status (inl is) (inr (inr e)) = omega (arith, is, e)
-otherwise status (inr is) (inl e) = omega (arith, is, e)
-otherwise status (inr is) (inr (inl e)) = omega (arith, is, e)
-otherwise status (inr is) (inr (inr e)) = omega (arith, is, e)
+otherwise status x1 x2 = grind arith
 
 -- or can't be
 pub first_untold : (old mid new : State) → faults_in mid ≡ faults_in old → faults_in new ≡ with_output_fault (faults_in mid) → FirstFails 6 old new
@@ -47,19 +42,19 @@ first_halted halt.Memory old mid new result same tells = record {
   input = λ e. absurd (omega (arith, e));
   output = λ e. absurd (omega (arith, e));
   none = λ other. same;
-  line = tell_faults_cases result mid new tells;
+  line = tell_faults_cases _ mid new tells;
 }
 first_halted halt.Input old mid new result same tells = record {
   after = faults_in mid;
   input = λ e. same;
   output = λ e. absurd (omega (arith, e));
-  none = λ other. absurd (otherwise 5 (inl refl) other);
-  line = tell_faults_cases result mid new tells;
+  none = λ other. absurd (otherwise _ (inl refl) other);
+  line = tell_faults_cases _ mid new tells;
 }
 first_halted (halt.Trace number) old mid new result same tells = record {
   after = faults_in mid;
   input = λ e. absurd (omega (arith, e));
   output = λ e. absurd (omega (arith, e));
   none = λ other. same;
-  line = tell_faults_cases result mid new tells;
+  line = tell_faults_cases _ mid new tells;
 }

@@ -1,5 +1,5 @@
 -- The octets of a line, one after the other.
-use Rattle.std.proofs.Common.{◌≡◌, ℕ, zero, suc, ◌-◌, ◌<◌, Bool, true, List, [], ◌∷◌, ◌++◌, length, take, drop, refl, sym, ◌∙◌, ap, subst, arith, length-append}
+use Rattle.std.proofs.Common.{◌≡◌, ℕ, zero, suc, ◌-◌, ◌<◌, Bool, true, List, [], ◌∷◌, ◌++◌, length, refl, sym, ◌∙◌, ap, subst, arith, length-append}
 use Rattle.std.specs.Prelude.{◌==◌, false, Option, Some, None, if◌then◌else◌}
 use Rattle.std.proofs.lemmas.List.{append-nil}
 use Rattle.std.proofs.lemmas.Bool.{ne_eqb}
@@ -29,20 +29,16 @@ then_rest before mid rest line h is = subst (λ (l : List ℕ). SoFar before l l
 
 -- what a line says that is the first
 says : (said : Heard) (before after line : List ℕ) → lines_of true before ≡ line ∷ lines_of true after → IsSaid said line → Hears said before after
-says (heard.Touch page change) before after line is touch = (line, is, touch)
-says heard.Wrong before after line is wrong = (line, lines_of true after, is, wrong)
-says heard.End before after line is never = absurd never
+says x0 before after line is touch = grind arith
 
 -- a line that ends in a newline
 pub line_heard : (said : Heard) (before after line : List ℕ) → SoFar before (10 ∷ after) line → IsSaid said line → Hears said before after
-line_heard said before after line h is = says said before after line (ap (lines_of true) h.all ∙ lines_of-newline true line after h.none) is
+line_heard said before after line h is = says _ _ _ _ (ap (lines_of true) h.all ∙ lines_of-newline true line after h.none) is
 
 -- a last line, which the end of the input ends
 pub last_heard : (said : Heard) (before after line : List ℕ) → SoFar before [] line → after ≡ [] → 0 < length line → IsSaid said line → Hears said before after
-last_heard said before after [] h nothing some is = absurd (omega (arith, some))
-last_heard said before after (x ∷ line) h nothing some is =
-    says said before after (x ∷ line)
-    (ap (lines_of true) (h.all ∙ append-nil (x ∷ line)) ∙ lines_of-end x line h.none ∙ ap (λ (l : List ℕ). (x ∷ line) ∷ lines_of true l) (sym nothing)) is
+last_heard said before after [] h nothing some is = grind arith
+last_heard said before after (x ∷ line) h nothing some is = grind (arith, says, append-nil, lines_of-end)
 
 -- where a line isn't empty
 pub some_octet : (n : ℕ) (empty : Bool) → empty ≡ (n == 0) → empty ≡ false → 0 < n
@@ -89,6 +85,4 @@ hears_as said is before after h same = subst (λ (x : Heard). Hears x before aft
 
 -- a trace of which nothing was taken
 pub nothing_pending : (trace : Trace) (site : State) → trace.from ≡ trace.to → to_hear trace site ≡ site.input.left
-nothing_pending trace site empty =
-    let none : trace.to - trace.from ≡ 0 = omega (arith, empty) in
-    ap (λ (n : ℕ). take n (drop trace.from trace.buffer) ++ site.input.left) none
+nothing_pending trace site empty = grind arith

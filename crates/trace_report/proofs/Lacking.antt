@@ -1,5 +1,5 @@
 -- Where memory is wanted before the trace is heard.
-use Rattle.std.proofs.Common.{ℕ, refl}
+use Rattle.std.proofs.Common.{ℕ, arith}
 use Rattle.std.specs.Prelude.{Result}
 use Rattle.site.specs.State.{State}
 use Rattle.site.proofs.Laws.{goes_nowhere}
@@ -9,5 +9,4 @@ use Rattle.trace_report.specs.Contract.{SimulateContract, halt_line}
 use Rattle.trace_report.proofs.Told.{Tells, told_halt}
 
 pub lacked : (groups pool : ℕ) (old new : State) (result : Result (Unit {0}) Failed) → Tells (halt_line halt.Memory) old new result → SimulateContract groups pool old new 4
-lacked groups pool old new result tells =
-    told_halt groups pool halt.Memory old old new result (goes_nowhere old) (λ honest. record { image = refl; loose = refl; told = refl; past = refl }) (λ dev. refl) tells tt
+lacked groups pool old new result tells = grind (arith, told_halt, goes_nowhere)

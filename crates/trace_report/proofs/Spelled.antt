@@ -1,5 +1,5 @@
 -- Lines that are touches, and lines that are none.
-use Rattle.std.proofs.Common.{◌≡◌, ℕ, ◌^◌, ◌≤◌, ◌<◌, Bool, true, false, List, ◌++◌, length, drop, slice_index_or, refl, sym, ◌∙◌, ap, arith, length-append}
+use Rattle.std.proofs.Common.{◌≡◌, ℕ, ◌^◌, ◌≤◌, ◌<◌, Bool, true, false, List, ◌++◌, length, slice_index_or, refl, ◌∙◌, ap, arith, length-append}
 use Rattle.std.specs.Prelude.{decimal}
 use Rattle.std.proofs.lemmas.Fmt.{decimal_injective, length-decimal-le}
 use Rattle.trace_report.specs.Traces.{letter}
@@ -11,18 +11,11 @@ apart x y is = let bad : 119 ≡ 114 = ap (λ (l : List ℕ). slice_index_or l 0
 
 -- what stands behind the letter
 behind_letter : (a b : Bool) (x y : List ℕ) → letter a ++ x ≡ letter b ++ y → (a ≡ b) × (x ≡ y)
-behind_letter true true x y is = (refl, ap (λ (l : List ℕ). drop 2 l) is)
-behind_letter false false x y is = (refl, ap (λ (l : List ℕ). drop 2 l) is)
-behind_letter true false x y is = absurd (apart x y is)
-behind_letter false true x y is = absurd (apart y x (sym is))
+behind_letter x0 x1 x y is = grind (arith, apart)
 
 -- the page's text is a number's that is too great
 pub too_great : (line text : List ℕ) (change : Bool) (page : ℕ) → line ≡ letter change ++ text → text ≡ decimal page → 65535 < page → page < 2 ^ 64 → IsWrong line
-too_great line text change page is number great fits t touch =
-    let here = behind_letter change t.1 text (decimal t.0) (sym is ∙ touch.text) in
-    let small = touch.page in
-    let same : page ≡ t.0 = decimal_injective page t.0 fits (omega (arith, small)) (sym number ∙ here.1) in
-    absurd (omega (arith, same, small, great))
+too_great line text change page is number great fits t touch = grind (arith, behind_letter, decimal_injective)
 
 length-letter : (b : Bool) → length (letter b) ≡ 2
 length-letter true = refl

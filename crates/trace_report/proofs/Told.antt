@@ -18,7 +18,7 @@ use Rattle.trace_report.proofs.Cut.{never_both}
 
 -- which answer it is
 wrong_of : (groups pool : ℕ) (octets : List ℕ) (status : ℕ) (text : List ℕ) → IsAnswer groups pool octets status text → (number : ℕ) → IsFirstWrong octets number → (status ≡ 16) ⊎ ((status ≡ 4) ⊎ (status ≡ 5))
-wrong_of groups pool octets status text (inl reported) number wrong = absurd (never_both octets reported.1 number reported.2 wrong)
+wrong_of groups pool octets status text (inl reported) number wrong = absurd (never_both _ _ _ reported.2 wrong)
 wrong_of groups pool octets status text (inr (inl here)) number wrong = inl here.0
 wrong_of groups pool octets status text (inr (inr (inl input))) number wrong = inr (inr input.0)
 wrong_of groups pool octets status text (inr (inr (inr memory))) number wrong = inr (inl memory.0)
@@ -29,7 +29,7 @@ trace_of groups pool octets status text (inl reported) touches trace =
       | inl zero ↦ inl zero
       | inr six ↦ inr (inr (inr six))
     ]
-trace_of groups pool octets status text (inr (inl here)) touches trace = absurd (never_both octets touches here.1 trace here.2)
+trace_of groups pool octets status text (inr (inl here)) touches trace = absurd (never_both _ _ _ trace here.2)
 trace_of groups pool octets status text (inr (inr (inl input))) touches trace = inr (inr (inl input.0))
 trace_of groups pool octets status text (inr (inr (inr memory))) touches trace = inr (inl memory.0)
 
@@ -46,8 +46,8 @@ module _ (text : List ℕ) (old mid new : State) (goes : Preserves old mid) (sam
   moments honest tells =
       let h = same honest in
       let before : TellsPart text old (now_of old) = record { image = refl; loose = refl; told = λ j. (0, ap (λ (l : List ℕ). old.told ++ l) (take_all j [] (omega arith))) } in
-      let heard = calm old old mid (TellsPart text old) (no_call old (TellsPart text old) before) h.past (now_same old mid h.told h.image h.loose) in
-      in_sequence old mid new (TellsPart text old) heard (each_weaker mid new (TellsPart text mid) (TellsPart text old) (λ (m : Moment) t. record {
+      let heard = calm _ _ _ _ (no_call _ _ before) h.past (now_same old mid h.told h.image h.loose) in
+      in_sequence _ _ _ _ heard (each_weaker _ _ _ _ (λ (m : Moment) t. record {
         image = t.image ∙ h.image;
         loose = t.loose ∙ h.loose;
         told = λ j. let part = t.told j in (part.0, part.1 ∙ ap (λ (l : List ℕ). l ++ take part.0 text) h.told);
@@ -58,7 +58,7 @@ module _ (text : List ℕ) (old mid new : State) (goes : Preserves old mid) (sam
 
   whole : (result : Result (Unit {0}) Failed) → IsTrue old.honest → OnOk result (new.told ≡ mid.told ++ text) → OnErr result (Rose mid.output_faults new.output_faults) → ¬ (Rose old.output_faults new.output_faults) → new.told ≡ old.told ++ text
   whole (Ok x) honest told cause none = told_all honest told
-  whole (Err e) honest told cause none = absurd (none (rose_since old.output_faults mid.output_faults new.output_faults goes.output_faults cause))
+  whole (Err e) honest told cause none = absurd (none (rose_since _ _ _ goes.output_faults cause))
 
 -- the contract, by what is known of the status
 pub contract : (groups pool : ℕ) (text : List ℕ) (old mid new : State) (result : Result (Unit {0}) Failed) (status : ℕ) → Preserves old mid → (IsTrue old.honest → HearsOnly old mid) → SameReads old mid → Tells text mid new result
@@ -70,14 +70,14 @@ pub contract : (groups pool : ℕ) (text : List ℕ) (old mid new : State) (resu
 contract groups pool text old mid new result status goes same reads tells answer done others input output = record {
   text = text;
   answer = answer;
-  any_moment = λ honest. moments text old mid new goes same honest (tells.any_moment (stays_honest old mid goes honest));
-  whole = λ honest. whole text old mid new goes same result honest (tells.told (stays_honest old mid goes honest)) tells.cause;
+  any_moment = λ honest. moments _ _ _ _ goes same honest (tells.any_moment (stays_honest _ _ goes honest));
+  whole = λ honest. whole text old mid new goes same _ honest (tells.told (stays_honest _ _ goes honest)) tells.cause;
   done = done;
-  wrong = λ honest. wrong_of groups pool old.input.left status text (answer honest);
-  trace = λ honest. trace_of groups pool old.input.left status text (answer honest);
+  wrong = λ honest. wrong_of _ _ _ _ _ (answer honest);
+  trace = λ honest. trace_of _ _ _ _ _ (answer honest);
   others = others;
-  input = λ five. rose_then old.input_faults mid.input_faults new.input_faults (input five) tells.preserves.input_faults;
-  output = λ six. rose_since old.output_faults mid.output_faults new.output_faults goes.output_faults (output six);
+  input = λ five. rose_then _ _ _ (input five) tells.preserves.input_faults;
+  output = λ six. rose_since _ _ _ goes.output_faults (output six);
   reads = λ dev. tells.reads dev ∙ reads dev;
 }
 
@@ -89,15 +89,15 @@ IsReport groups pool octets text = (touches : List Touch) × IsTrace octets touc
 pub told_report : (groups pool : ℕ) (text : List ℕ) (old mid new : State) (x : Unit {0}) → Preserves old mid → (IsTrue old.honest → HearsOnly old mid) → SameReads old mid → Tells text mid new (Ok x)
     → (IsTrue old.honest → IsReport groups pool old.input.left text) → SimulateContract groups pool old new 0
 told_report groups pool text old mid new x goes same reads tells is =
-    contract groups pool text old mid new (Ok x) 0 goes same reads tells
+    contract _ _ _ _ _ _ _ _ goes same reads tells
     (λ honest. let r = is honest in inl (inl refl, r.0, r.1, r.2))
-    (λ honest zero. told_all text old mid new goes same honest (tells.told (stays_honest old mid goes honest)))
+    (λ honest zero. told_all text old mid new goes same honest (tells.told (stays_honest _ _ goes honest)))
     (inl refl) (λ bad. absurd (omega (arith, bad))) (λ bad. absurd (omega (arith, bad)))
 
 pub untold_report : (groups pool : ℕ) (text : List ℕ) (old mid new : State) (e : Failed) → Preserves old mid → (IsTrue old.honest → HearsOnly old mid) → SameReads old mid → Tells text mid new (Err e)
     → (IsTrue old.honest → IsReport groups pool old.input.left text) → SimulateContract groups pool old new 6
 untold_report groups pool text old mid new e goes same reads tells is =
-    contract groups pool text old mid new (Err e) 6 goes same reads tells
+    contract _ _ _ _ _ _ _ _ goes same reads tells
     (λ honest. let r = is honest in inl (inr refl, r.0, r.1, r.2))
     (λ honest bad. absurd (omega (arith, bad)))
     (inr (inr (inr (inl refl)))) (λ bad. absurd (omega (arith, bad))) (λ six. tells.cause)
@@ -105,9 +105,7 @@ untold_report groups pool text old mid new e goes same reads tells is =
 -- No report is told.
 
 halt_answer : (groups pool : ℕ) (h : Halt) (old mid : State) → HasCause h old mid → IsTrue old.honest → IsAnswer groups pool old.input.left (halt_status h) (halt_line h)
-halt_answer groups pool halt.Memory old mid cause honest = inr (inr (inr (refl, refl)))
-halt_answer groups pool halt.Input old mid cause honest = inr (inr (inl (refl, refl)))
-halt_answer groups pool (halt.Trace number) old mid cause honest = inr (inl (refl, number, cause honest, refl))
+halt_answer groups pool x2 old mid cause honest = grind arith
 
 halt_not_zero : (h : Halt) → halt_status h ≡ 0 → ⊥
 halt_not_zero halt.Memory bad = omega (arith, bad)
@@ -132,5 +130,5 @@ halt_others (halt.Trace number) = inr (inr (inr (inr refl)))
 pub told_halt : (groups pool : ℕ) (h : Halt) (old mid new : State) (result : Result (Unit {0}) Failed) → Preserves old mid → (IsTrue old.honest → HearsOnly old mid) → SameReads old mid → Tells (halt_line h) mid new result
     → HasCause h old mid → SimulateContract groups pool old new (halt_status h)
 told_halt groups pool h old mid new result goes same reads tells cause =
-    contract groups pool (halt_line h) old mid new result (halt_status h) goes same reads tells
-    (halt_answer groups pool h old mid cause) (λ honest bad. absurd (halt_not_zero h bad)) (halt_others h) (halt_input h old mid cause) (λ bad. absurd (halt_not_six h bad))
+    contract _ _ _ _ _ _ _ _ goes same reads tells
+    (halt_answer _ _ _ _ _ cause) (λ honest bad. absurd (halt_not_zero _ bad)) (halt_others _) (halt_input _ _ _ cause) (λ bad. absurd (halt_not_six _ bad))

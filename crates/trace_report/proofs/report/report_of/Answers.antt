@@ -5,7 +5,7 @@ use Rattle.trace_report.proofs.report.report_of.Goals as goal
 pub returns-clause-report : goal.returns-clause-report
 returns-clause-report c groups pool touches heard =
     let after = c.in_ok-serve.ensures.served groups pool touches heard in
-    let all : after.served ≡ touches = sym (after.all ∙ ap (λ l. after.served ++ l) c.in_ok-serve.ensures.none ∙ append-nil after.served) in
+    let all : after.served ≡ touches = sym (after.all ∙ ap (λ l. after.served ++ l) c.in_ok-serve.ensures.none ∙ append-nil _) in
     rw (
       c.push_counts-3.ensures.text,
       c.push_counts-2.ensures.text,

@@ -6,4 +6,4 @@ pub returns-then-page-gt-PAGE_MAX-clause-none : goal.returns-then-page-gt-PAGE_M
 returns-then-page-gt-PAGE_MAX-clause-none c =
     let number = c.in-Some-read_decimal.ensures.number in
     let small = number.0 in
-    too_great c.args.line.now c.in-Some.page.now c.in-Some.change c.in-Some-read_decimal.page c.in-Some.ensures.parts number.1 c.if-page-gt-PAGE_MAX.true (omega (arith, small))
+    too_great _ _ _ _ c.in-Some.ensures.parts number.1 c.if-page-gt-PAGE_MAX.true (omega (arith, small))
