@@ -55,7 +55,7 @@ returns-in-Err-clause-hears g c honest =
 pub returns-in-Ok-clause-judged : goal.returns-in-Ok-clause-judged
 returns-in-Ok-clause-judged g c honest =
     let judged = c.in-Ok.ensures.judged honest in
-    record { done = λ zero. judged.done; taken = judged.taken; }
+    record { done = λ zero. judged.done; taken = judged.taken }
 
 pub returns-in-Err-clause-judged : goal.returns-in-Err-clause-judged
 returns-in-Err-clause-judged g c honest =
