@@ -5,6 +5,7 @@ pub mod RunInProgress
 pub mod Headline
 pub mod Hearing
 pub mod Image
+pub mod Judged
 pub mod Lives
 pub mod Living
 pub mod Loads

@@ -1,5 +1,5 @@
 // A stated workload: its sets, the gets on the same records, and its summary.
-ghost use Rattle.std.specs.Prelude.{◌≡◌, ◌≢◌, ◌≤◌, ◌<◌, ◌+◌, ◌*◌, ◌&&◌, [], IfOk, IfErr, if◌then◌else◌};
+ghost use Rattle.std.specs.Prelude.{◌≡◌, ◌≢◌, ◌≤◌, ◌<◌, ◌+◌, ◌*◌, ◌&&◌, [], IsTrue, OnOk, IfOk, IfErr, if◌then◌else◌};
 ghost use Rattle.front_end.specs.Faults.{FirstDecides, SameFaults};
 ghost use Rattle.site.specs.Calls.{Preserves};
 ghost use Rattle.site.specs.declared.geometry.Geometry.{Geometry};
@@ -12,6 +12,7 @@ ghost use Rattle.engine.specs.Leaves.{HasNoSizes};
 ghost use Rattle.face.specs.Causes.{WorkEnds};
 ghost use Rattle.face.specs.TopCall.{LoadContract};
 ghost use Rattle.face.specs.Headline.{IsGood};
+ghost use Rattle.face.specs.Judged.{KeepsRules};
 ghost use Rattle.command_line.specs.Words.{HasLoadLimits};
 ghost use Rattle.front_end.specs.Refusals.{RefusesDevices};
 ghost use Rattle.face.specs.Workload as stated;
@@ -159,6 +160,7 @@ fn run_load<S: Site>(alloc: Global, load: &Load, site: &mut S) -> Result<Counts,
         HasCounted (load_run g opening load.now) counts.committed counts.checkpoints counts.found) }
     ensures halts { IfErr result (λ halt. (halt ≢ Halt.Input) × (halt ≢ Halt.Limit)) }
     ensures ends { WorkEnds result (S.state site.old) (S.state site.new) }
+    ensures judged { IsTrue (S.state site.old).honest → OnOk result (KeepsRules (S.state site.old).image) }
 {
     queue_is_on_flash();
     versions_are_seen();
@@ -196,6 +198,7 @@ fn load_and_tell<S: Site>(alloc: Global, load: &Load, site: &mut S) -> Result<()
         (summary_text (load_run g opening load.now) load.now) [] (S.state site.old)) }
     ensures halts { IfErr result (λ halt. (halt ≢ Halt.Input) × (halt ≢ Halt.Limit)) }
     ensures ends { WorkEnds result (S.state site.old) (S.state site.new) }
+    ensures judged { IsTrue (S.state site.old).honest → OnOk result (KeepsRules (S.state site.old).image) }
 {
     let counts = match run_load(alloc, load, site) {
         Ok(counts) => counts,
@@ -221,6 +224,8 @@ pub fn serve_load<S: Site>(alloc: Global, load: &Load, site: &mut S) -> u8
     ensures preserves { Preserves (S.state site.old) (S.state site.new) }
     ensures faults { result ≡ 0 → SameFaults (S.state site.old) (S.state site.new) }
     ensures first { FirstDecides result (S.state site.old) (S.state site.new) }
+    // Of every honest site: over records that break a rule of those that are judged no load goes well.
+    ensures judged { IsTrue (S.state site.old).honest → result ≡ 0 → KeepsRules (S.state site.old).image }
 {
     match load_and_tell(alloc, load, site) {
         Ok(()) => 0,

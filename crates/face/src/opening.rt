@@ -1,8 +1,9 @@
 // How a run or a load begins.
-ghost use Rattle.std.specs.Prelude.{◌≡◌, ◌≢◌, ◌≤◌, IsTrue, IfOk, IfErr};
+ghost use Rattle.std.specs.Prelude.{◌≡◌, ◌≢◌, ◌≤◌, IsTrue, IfOk, IfErr, OnOk};
 ghost use Rattle.front_end.specs.declared.halt.Halt.{Halt};
 ghost use Rattle.face.specs.Causes.{WorkEnds};
 ghost use Rattle.face.specs.Headline.{IsGood};
+ghost use Rattle.face.specs.Judged.{KeepsRules};
 ghost use Rattle.face.specs.Run.{Run};
 ghost use Rattle.face.specs.RunInProgress.{GoesOn, NeverOpens, RunInProgress};
 
@@ -26,6 +27,8 @@ pub fn open<S: Site>(alloc: Global, pool: u32, site: &mut S) -> Result<Engine, H
     ensures left { IsTrue (S.state site.old).honest → (S.state site.new).input ≡ (S.state site.old).input }
     ensures halts { IfErr result (λ halt. (halt ≢ Halt.Input) × (halt ≢ Halt.Limit)) }
     ensures ends { WorkEnds result (S.state site.old) (S.state site.new) }
+    // Of every honest site: records that break a rule of those that are judged aren't opened.
+    ensures judged { IsTrue (S.state site.old).honest → OnOk result (KeepsRules (S.state site.old).image) }
 {
     queue_is_on_flash();
     versions_are_seen();

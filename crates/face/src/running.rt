@@ -9,6 +9,7 @@ ghost use Rattle.record_model.specs.Run.{is_quit};
 ghost use Rattle.engine.specs.Leaves.{HasNoSizes};
 ghost use Rattle.face.specs.Causes.{WorkEnds};
 ghost use Rattle.face.specs.Hearing.{HearsInTime, WorkHears};
+ghost use Rattle.face.specs.Judged.{RunsJudged, WorkJudged};
 ghost use Rattle.face.specs.TopCall.{LoadContract, NewContract, RunContract};
 ghost use Rattle.face.specs.Run.{Run, Begins};
 ghost use Rattle.face.specs.Working.{RunOutcome};
@@ -49,6 +50,7 @@ fn run_lines<S: Site>(alloc: Global, pool: u32, site: &mut S) -> Result<(), Halt
         × ((run : Run) → Begins run (S.state site.old) → run.listings ≡ listings
         → RunOutcome pool run (S.state site.old) (S.state site.new) result) }
     ensures hears { IsTrue (S.state site.old).honest → WorkHears result (S.state site.old) (S.state site.new) }
+    ensures judged { IsTrue (S.state site.old).honest → WorkJudged result (S.state site.old) (S.state site.new) }
     ensures ends { WorkEnds result (S.state site.old) (S.state site.new) }
 {
     queue_is_on_flash();
@@ -92,6 +94,8 @@ pub fn serve<S: Site>(alloc: Global, pool: u32, site: &mut S) -> u8
     ensures run { RunContract pool (S.state site.old) (S.state site.new) result }
     // Of every honest site, whatever stands on its devices: which octets were taken, and with which status.
     ensures hears { IsTrue (S.state site.old).honest → HearsInTime result (S.state site.old) (S.state site.new) }
+    // Of every honest site: over records that break a rule of those that are judged no run goes well or takes input.
+    ensures judged { IsTrue (S.state site.old).honest → RunsJudged result (S.state site.old) (S.state site.new) }
     // Devices without sizes have status 9.
     ensures sizes { HasNoSizes (S.state site.old)
         → RefusesDevices result (S.state site.old) (S.state site.new) }

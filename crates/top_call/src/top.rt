@@ -5,6 +5,7 @@ ghost use Rattle.site.specs.Calls.{Preserves};
 ghost use Rattle.site.specs.declared.geometry.Geometry.{Geometry};
 ghost use Rattle.engine.specs.Leaves.{HasNoSizes};
 ghost use Rattle.face.specs.Hearing.{HearsInTime};
+ghost use Rattle.face.specs.Judged.{KeepsRules, RunsJudged};
 ghost use Rattle.face.specs.TopCall.{LoadContract, NewContract, RunContract};
 ghost use Rattle.command_line.specs.declared.request.Load.{Load};
 ghost use Rattle.command_line.specs.declared.request.Simulation.{Simulation};
@@ -53,6 +54,12 @@ pub fn face<S: Site>(alloc: Global, words: &[String], site: &mut S) -> u8
     // Which octets a run takes of an honest site, and with which status, whatever stands on its devices.
     ensures hears { ((pool : ℕ) × IsRun (words_of words.now) pool) → IsTrue (S.state site.old).honest
         → HearsInTime result (S.state site.old) (S.state site.new) }
+    // Over an honest site whose records break a rule of those that are judged no run goes well or takes input, and no
+    // load goes well.
+    ensures judged { ((pool : ℕ) × IsRun (words_of words.now) pool) → IsTrue (S.state site.old).honest
+        → RunsJudged result (S.state site.old) (S.state site.new) }
+    ensures load_judged { ((load : Load) × IsLoad (words_of words.now) load) → IsTrue (S.state site.old).honest
+        → result ≡ 0 → KeepsRules (S.state site.old).image }
     // Devices without sizes have status 9, or memory was wanted before anything was done.
     ensures sizes { ((pool : ℕ) × IsRun (words_of words.now) pool) → HasNoSizes (S.state site.old)
         → RefusesDevices result (S.state site.old) (S.state site.new)

@@ -81,3 +81,12 @@ returns-in-Ok-tell_all-clause-tells g c = done g (goal.at.returns-in-Ok-tell_all
 
 pub returns-in-Err-tell_all-clause-tells : goal.returns-in-Err-tell_all-clause-tells
 returns-in-Err-tell_all-clause-tells g c = done g (goal.at.returns-in-Err-tell_all-clause-tells g c).After-tell_all
+
+pub returns-in-Err-clause-judged : goal.returns-in-Err-clause-judged
+returns-in-Err-clause-judged g c honest = tt
+
+pub returns-in-Ok-tell_all-clause-judged : goal.returns-in-Ok-tell_all-clause-judged
+returns-in-Ok-tell_all-clause-judged g c honest = c.in-Ok.ensures.judged honest
+
+pub returns-in-Err-tell_all-clause-judged : goal.returns-in-Err-tell_all-clause-judged
+returns-in-Err-tell_all-clause-judged g c honest = tt

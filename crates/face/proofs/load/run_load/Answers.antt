@@ -172,3 +172,12 @@ returns-in-Err-carry_out-clause-opens g c geometry opening good =
 
 pub returns-clause-opens : goal.returns-clause-opens
 returns-clause-opens g c geometry opening good = (c.loop-place.invariant.progress geometry opening good).tells
+
+pub returns-in-Err-clause-judged : goal.returns-in-Err-clause-judged
+returns-in-Err-clause-judged g c honest = tt
+
+pub returns-in-Err-carry_out-clause-judged : goal.returns-in-Err-carry_out-clause-judged
+returns-in-Err-carry_out-clause-judged g c honest = tt
+
+pub returns-clause-judged : goal.returns-clause-judged
+returns-clause-judged g c honest = c.in-Ok.ensures.judged honest

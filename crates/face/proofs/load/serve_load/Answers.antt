@@ -1,10 +1,11 @@
-use Rattle.std.proofs.Common.{arith}
+use Rattle.std.proofs.Common.{arith, sym, ◌∙◌}
 use Rattle.site.proofs.Laws.{stays_honest}
 use Rattle.face.proofs.CauseLaws.{cause_then, no_causes, status_causes}
 use Rattle.front_end.proofs.Endings.{refuses_devices}
 use Rattle.face.proofs.ToldFaults.{tells_fault, tells_none}
 use Rattle.face.proofs.LoadFaults.{load_contract, load_done, load_halted, not_taken}
 use Rattle.front_end.proofs.Firsts.{first_halted, first_none}
+use Rattle.face.proofs.Statuses.{not_zero}
 use Rattle.face.proofs.load.serve_load.Goals as goal
 
 pub returns-in-Ok-clause-load : goal.returns-in-Ok-clause-load
@@ -38,3 +39,9 @@ returns-in-Ok-clause-first g c = first_none _ _ c.in-Ok.ensures.ends.faults
 pub returns-in-Err-clause-first : goal.returns-in-Err-clause-first
 returns-in-Err-clause-first g c =
     first_halted c.in-Err.halt c.status.result (g.S.Site.state c.args.site.now) (g.S.Site.state c.load_and_tell.new.site) (g.S.Site.state c.tell_halt.new.site) c.tell_halt.result c.status.ensures c.in-Err.ensures.ends.faults c.tell_halt.ensures.faults
+
+pub returns-in-Ok-clause-judged : goal.returns-in-Ok-clause-judged
+returns-in-Ok-clause-judged g c honest zero = c.in-Ok.ensures.judged honest
+
+pub returns-in-Err-clause-judged : goal.returns-in-Err-clause-judged
+returns-in-Err-clause-judged g c honest zero = absurd (not_zero c.in-Err.halt (sym c.status.ensures ∙ zero))

@@ -168,3 +168,12 @@ returns-in-Ok-tell_all-clause-going g c =
           let next = (c.in-Ok.ensures.next honest geometry limits lengths).next in
           (next_later engine.store mid new (c.tell_all.ensures.same (stays_honest old mid c.start.ensures.calls.preserves honest)).image next.0, next.1);
     }
+
+pub returns-in-Err-clause-judged : goal.returns-in-Err-clause-judged
+returns-in-Err-clause-judged g c honest = tt
+
+pub returns-in-Err-tell_all-clause-judged : goal.returns-in-Err-tell_all-clause-judged
+returns-in-Err-tell_all-clause-judged g c honest = tt
+
+pub returns-in-Ok-tell_all-clause-judged : goal.returns-in-Ok-tell_all-clause-judged
+returns-in-Ok-tell_all-clause-judged g c honest = c.in-Ok.ensures.judged honest

@@ -293,3 +293,24 @@ pub returns-clause-hears : goal.returns-clause-hears
 returns-clause-hears g c honest =
     let few = cut_few_octets _ c.loop-line.source (g.S.Site.state c.loop-line.site) c.loop-line._line (c.loop-line.invariant.cut honest) c.loop-line.invariant.source in
     absurd (omega (arith, few, c.loop-line-test.false))
+
+-- The records that stood there.
+
+pub returns-in-Err-clause-judged : goal.returns-in-Err-clause-judged
+returns-in-Err-clause-judged g c honest =
+    record { done = tt; taken = λ ne. absurd (ne (ap (λ (i : Input). i.left) (c.open.ensures.left honest))) }
+
+pub returns-in-Err-next-clause-judged : goal.returns-in-Err-next-clause-judged
+returns-in-Err-next-clause-judged g c honest = record { done = tt; taken = λ ne. c.in-Ok.ensures.judged honest }
+
+pub returns-in-End-clause-judged : goal.returns-in-End-clause-judged
+returns-in-End-clause-judged g c honest = record { done = c.in-Ok.ensures.judged honest; taken = λ ne. c.in-Ok.ensures.judged honest }
+
+pub returns-in-Err-answer-clause-judged : goal.returns-in-Err-answer-clause-judged
+returns-in-Err-answer-clause-judged g c honest = record { done = tt; taken = λ ne. c.in-Ok.ensures.judged honest }
+
+pub returns-then-last-clause-judged : goal.returns-then-last-clause-judged
+returns-then-last-clause-judged g c honest = record { done = c.in-Ok.ensures.judged honest; taken = λ ne. c.in-Ok.ensures.judged honest }
+
+pub returns-clause-judged : goal.returns-clause-judged
+returns-clause-judged g c honest = record { done = tt; taken = λ ne. c.in-Ok.ensures.judged honest }

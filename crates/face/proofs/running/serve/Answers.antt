@@ -1,4 +1,5 @@
-use Rattle.std.proofs.Common.{refl}
+use Rattle.std.proofs.Common.{ap, refl, sym, ◌∙◌}
+use Rattle.site.specs.State.{Input}
 use Rattle.site.proofs.Laws.{stays_honest}
 use Rattle.face.proofs.CauseLaws.{cause_then, status_causes, no_causes}
 use Rattle.front_end.proofs.Endings.{refuses_devices}
@@ -6,6 +7,7 @@ use Rattle.face.proofs.ToldFaults.{tells_fault, tells_none}
 use Rattle.face.proofs.Faults.{begins, halted, finished, run_contract}
 use Rattle.front_end.proofs.Firsts.{first_halted, first_none}
 use Rattle.face.proofs.Hearings.{heard_done, heard_halted}
+use Rattle.face.proofs.Statuses.{not_zero}
 use Rattle.face.proofs.running.serve.Goals as goal
 
 pub returns-in-Ok-clause-run : goal.returns-in-Ok-clause-run
@@ -49,3 +51,16 @@ returns-in-Err-clause-hears g c honest =
     let old = g.S.Site.state c.args.site.now in
     let mid = g.S.Site.state c.run_lines.new.site in
     heard_halted c.in-Err.halt c.status.result old mid (g.S.Site.state c.tell_halt.new.site) c.status.ensures (c.tell_halt.ensures.devices (stays_honest old mid c.run_lines.ensures.ends.preserves honest)).left (c.in-Err.ensures.hears honest)
+
+pub returns-in-Ok-clause-judged : goal.returns-in-Ok-clause-judged
+returns-in-Ok-clause-judged g c honest =
+    let judged = c.in-Ok.ensures.judged honest in
+    record { done = λ zero. judged.done; taken = judged.taken }
+
+pub returns-in-Err-clause-judged : goal.returns-in-Err-clause-judged
+returns-in-Err-clause-judged g c honest =
+    let left = (c.tell_halt.ensures.devices (stays_honest (g.S.Site.state c.args.site.now) (g.S.Site.state c.run_lines.new.site) c.run_lines.ensures.ends.preserves honest)).left in
+    record {
+      done = λ zero. absurd (not_zero c.in-Err.halt (sym c.status.ensures ∙ zero));
+      taken = λ ne. (c.in-Err.ensures.judged honest).taken (λ e. ne (ap (λ (i : Input). i.left) left ∙ e));
+    }

@@ -1,4 +1,5 @@
-use Rattle.std.proofs.Common.{arith, inl, inr, rules, subst, ℕ, List, [], ◌∷◌}
+use Rattle.std.proofs.Common.{ap, arith, inl, inr, rules, subst, ℕ, List, [], ◌∷◌}
+use Rattle.site.specs.State.{Input}
 use Rattle.site.specs.declared.geometry.Geometry.{Geometry}
 use Rattle.face.specs.TopCall.{LoadContract, NewContract, RunContract}
 use Rattle.command_line.specs.declared.request.Load.{Load}
@@ -116,3 +117,32 @@ pub returns-in-Err-Words-clause-hears : goal.returns-in-Err-Words-clause-hears
 returns-in-Err-Words-clause-hears g c is_run honest =
     let never : IsRight (words_of c.args.words.now) → ⊥ = search rules in
     absurd (never (inl is_run))
+
+pub returns-in-Ok-Run-clause-judged : goal.returns-in-Ok-Run-clause-judged
+returns-in-Ok-Run-clause-judged g c is_run honest = c.serve.ensures.judged honest
+
+pub returns-in-Err-Memory-clause-judged : goal.returns-in-Err-Memory-clause-judged
+returns-in-Err-Memory-clause-judged g c is_run honest =
+    let lacks = c.lack_memory.ensures.lacks in
+    record {
+      done = λ zero. absurd (omega (arith, lacks.0, zero));
+      taken = λ ne. absurd (ne (ap (λ (i : Input). i.left) (lacks.1.devices honest).left));
+    }
+
+pub returns-in-Err-Words-clause-judged : goal.returns-in-Err-Words-clause-judged
+returns-in-Err-Words-clause-judged g c is_run honest =
+    let never : IsRight (words_of c.args.words.now) → ⊥ = search rules in
+    absurd (never (inl is_run))
+
+pub returns-in-Ok-Load-clause-load_judged : goal.returns-in-Ok-Load-clause-load_judged
+returns-in-Ok-Load-clause-load_judged g c is_load honest zero = c.serve_load.ensures.judged honest zero
+
+pub returns-in-Err-Memory-clause-load_judged : goal.returns-in-Err-Memory-clause-load_judged
+returns-in-Err-Memory-clause-load_judged g c is_load honest zero =
+    let lacks = c.lack_memory.ensures.lacks in
+    absurd (omega (arith, lacks.0, zero))
+
+pub returns-in-Err-Words-clause-load_judged : goal.returns-in-Err-Words-clause-load_judged
+returns-in-Err-Words-clause-load_judged g c is_load honest zero =
+    let never : IsRight (words_of c.args.words.now) → ⊥ = search rules in
+    absurd (never (inr (inr (inl is_load))))
