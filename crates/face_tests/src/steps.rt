@@ -90,7 +90,7 @@ fn feed_long_set(site: &mut MemSite, octets: usize) -> Result<(), Fail> {
 
 fn feed_sets(site: &mut MemSite, lines: usize) -> Result<bool, Fail> {
     for line in 0..lines {
-        feed_long_set(site, 197 + line % 51)?;
+        feed_long_set(site, 201 + line % 47)?;
     }
     Ok(true)
 }

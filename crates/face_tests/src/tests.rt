@@ -250,7 +250,7 @@ const LONG_VALUES: &[Step<'static>] = &[
     Step::Told("open 0\ncommitted 1\nrefused long\ncommitted 2\nvalue -\nnone\n"),
 ];
 
-// 135 lines of 400, 402, .. up to 500 octets, again and again: 60,291 octets with their newlines.
+// 135 lines of 408, 410, .. up to 500 octets, again and again: 61,179 octets with their newlines.
 const LONG_INPUT: &[Step<'static>] = &[
     Step::FeedSets(135),
     Step::Feed("get 3\n"),

@@ -181,8 +181,8 @@ fn refuses_other_octets(rt: HostRuntime) {
     assert_eq!(rt; check_block(&slot), Err(BadRecord));
 
     let mut value = first_block();
-    value[26] = 122;
+    value[26] = 202;
     assert_eq!(rt; read_record(&value, 3, 503), Err(BadRecord));
-    value[26] = 121;
+    value[26] = 201;
     assert_eq!(rt; read_record(&value, 3, 503).is_ok(), true);
 }
