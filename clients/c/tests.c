@@ -55,7 +55,7 @@ static void try_values(void) {
     uint64_t seed = 1;
     for (size_t i = 0; i < sizeof octets; i++) octets[i] = (unsigned char)random_below(&seed, 256);
     while (vulzhorn_set(database, 2 * (uint32_t)longest, octets + longest % 7, longest) == VULZHORN_OK) longest++;
-    check(longest == 200, "values of 0 to 200 octets are taken");
+    check(longest == 201, "values of 0 to 200 octets are taken");
     for (size_t length = longest; length < sizeof octets; length++)
         check(vulzhorn_set(database, 0, octets, length) == VULZHORN_TOO_LONG, "a longer value is told to be too long");
     check(vulzhorn_set(database, 0, octets, SIZE_MAX / 2 + 1) == VULZHORN_TOO_LONG, "so is one beyond all memory");
