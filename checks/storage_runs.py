@@ -4,6 +4,7 @@ import collections
 import os
 import shutil
 import subprocess
+import tempfile
 
 import storage_model
 import storage_trace
@@ -52,9 +53,13 @@ class Program:
             environment['RECORD_TO'] = self.trace
         if fault:
             environment['RECORD_FAULT'] = '%d:%s' % fault
-        ended = subprocess.run(
-            [self.face] + words, cwd=self.folder, env=environment, timeout=60, close_fds=False,
-            input=''.join(line + '\n' for line in lines).encode(), stdout=subprocess.PIPE, stderr=subprocess.DEVNULL)
+        # from a file, since a pipe may hand on any part of what was written, and a call is found again by its number
+        with tempfile.TemporaryFile() as given:
+            given.write(''.join(line + '\n' for line in lines).encode())
+            given.seek(0)
+            ended = subprocess.run(
+                [self.face] + words, cwd=self.folder, env=environment, timeout=60, close_fds=False,
+                stdin=given, stdout=subprocess.PIPE, stderr=subprocess.DEVNULL)
         calls = []
         if record and os.path.exists(self.trace):
             calls = storage_trace.read_calls(self.trace)
