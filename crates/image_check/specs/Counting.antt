@@ -1,5 +1,6 @@
 -- The numbers of the commits, counted record by record.
-use Rattle.std.specs.Prelude.{◌≡◌, ◌⊎◌, ℕ, ◌+◌, ◌*◌, ◌≤◌, ◌<◌, Bool, if◌then◌else◌, Option, Some, None, List, ◌++◌, length}
+use Rattle.std.specs.Prelude.{◌≡◌, ◌⊎◌, ℕ, ◌+◌, ◌*◌, ◌≤◌, ◌<◌, Bool, if◌then◌else◌}
+use Rattle.std.specs.Prelude.{Option, Some, None, List, ◌++◌, length}
 use Rattle.std.specs.List.{range_with_len}
 use Rattle.log_records.specs.Log.{Entry}
 use Rattle.log_records.specs.Sound.{LogicalImage, AreNumbered, commit_count, commit_numbers, before_block, from_block}
