@@ -68,13 +68,13 @@ pub kept_of : (opened : Opened) (site : State) (newest : Option Master) (blocks 
     opened.log.ring.hi - opened.log.kept ≡ length blocks
 kept_of opened site newest blocks table commits h = omega (arith, h.opened_is.ready.blocks.hi, h.opened_is.ready.records.blocks.next, h.opened_is.kept)
 
--- the commits that it stands for are no more
-pub few_commits : (opened : Opened) (site : State) (newest : Option Master) (blocks : List (List LogRecord)) (table : List Content) (commits : ℕ) → IsReady opened site newest blocks table commits → commits ≤ opened.log.ring.hi
+-- the commits that it stands for are no more than the octets of the sealed blocks
+pub few_commits : (opened : Opened) (site : State) (newest : Option Master) (blocks : List (List LogRecord)) (table : List Content) (commits : ℕ) → IsReady opened site newest blocks table commits → commits ≤ 512 * opened.log.ring.hi
 few_commits opened site newest blocks table commits h =
     omega (arith, h.opened_is.means.count_is, h.opened_is.sound.records.commits.fit, next_of opened site newest blocks table commits h)
 
 -- so it is of a log and pages that hold together
-pub commits_fit : (log : LogStore) (pages : PageStore) (site : State) (newest : Option Master) (records : List Entry) (table : List Content) (commits : ℕ) → Represents log pages site newest records table commits → commits ≤ log.ring.hi
+pub commits_fit : (log : LogStore) (pages : PageStore) (site : State) (newest : Option Master) (records : List Entry) (table : List Content) (commits : ℕ) → Represents log pages site newest records table commits → commits ≤ 512 * log.ring.hi
 commits_fit log pages site newest records table commits h =
     let held = h.log_holds in
     let last = next_block_is newest held.blocks in

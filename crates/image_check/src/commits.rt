@@ -1,5 +1,5 @@
 // The numbers of the commits.
-ghost use Rattle.std.specs.Prelude.{◌≡◌, ◌⊎◌, ◌↔◌, ◌+◌, ◌^◌, ◌<◌, ◌≤◌, ◌++◌, ◌∷◌, [], List, length, IsTrue};
+ghost use Rattle.std.specs.Prelude.{◌≡◌, ◌⊎◌, ◌↔◌, ◌+◌, ◌*◌, ◌^◌, ◌<◌, ◌≤◌, ◌++◌, ◌∷◌, [], List, length, IsTrue};
 ghost use Rattle.site.specs.State.{State};
 ghost use Rattle.log_records.specs.declared.log_record.LogRecord.{LogRecord};
 ghost use Rattle.log_records.specs.Log.{Entry};
@@ -73,14 +73,15 @@ impl Numbers {
         Some(self.with(*number, lsn / 512 < redo))
     }
 
-    // Whether they run on from the master's count, and are no more than the blocks.
+    // Whether they run on from the master's count, and are no more than the octets of the sealed blocks.
     fn fit(&self, commits: u64, hi: u64) -> bool
         requires { hi ≤ 2 ^ 40 }
         ensures fit { self.now.early + self.now.late < 2 ^ 62
             → IsTrue result ↔ Fit self.now.first self.now.early self.now.late commits hi }
-        ensures room { IsTrue result → commits + self.now.late ≤ hi }
+        ensures room { IsTrue result → commits + self.now.late ≤ 512 * hi }
     {
-        if self.late > hi || commits > hi - self.late {
+        let most = 512 * hi;
+        if self.late > most || commits > most - self.late {
             return false;
         }
         let count = self.early.saturating_add(self.late);
@@ -90,8 +91,8 @@ impl Numbers {
 }
 
 /// The eleventh rule, by the numbers of the commits: how many were made, or `None` exactly where they aren't numbered
-/// on by one, up to the master's count before the redo block and from there on, or are more than the blocks that were
-/// sealed.
+/// on by one, up to the master's count before the redo block and from there on, or are more than the octets of the
+/// sealed blocks.
 pub fn rule_commits(found: &Found, numbers: &Option<Numbers>) -> Option<u64>
     requires { (site : State) × MayBeJudged found.now site }
 

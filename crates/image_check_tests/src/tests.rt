@@ -74,6 +74,28 @@ const UNFINISHED: &[u8] = &[
     0x03, 0x0a, 0x0b, // after
 ];
 
+// What a second transaction has written behind the finished one, from octet 55 on, with its own Commit.
+const ALSO: &[u8] = &[
+    0x01, // Begin
+    0x02, // Update
+    0x00, 0x00, 0x00, 0x00, 0x00, 0x00, 0x00, 0x2e, // txn
+    0x00, 0x00, 0x00, 0x00, 0x00, 0x00, 0x00, 0x2e, // prev
+    0x00, 0x00, 0x00, 0x00, // page
+    0x06, // slot
+    0x00, // before
+    0x02, 0x0c, // after
+    0x04, // Commit
+    0x00, 0x00, 0x00, 0x00, 0x00, 0x00, 0x00, 0x2e, // txn
+    0x00, 0x00, 0x00, 0x00, 0x00, 0x00, 0x00, 0x02, // commit number
+];
+
+// Where its records end, and the last octet of its Commit's number; that of the commits that the master names.
+const ALSO_USED: u8 = 0x59;
+
+const ALSO_COMMIT_AT: u64 = BLOCK_AT + 97;
+
+const MASTER_COMMITS_AT: u64 = 32;
+
 // What a second transaction has written behind the unfinished one, from octet 38 on.
 const SECOND: &[u8] = &[
     0x01, // Begin
@@ -215,6 +237,21 @@ macro_rules! blank {
 macro_rules! finished {
     ($at:expr, $octet:literal) => {
         &[(Dev::Log, BLOCK_AT, BLOCK), (Dev::Log, $at, &[$octet])]
+    };
+}
+
+// Two commits in one block, behind a master: the last two octets of the master's count and of their numbers.
+macro_rules! two_commits {
+    ($count:literal, $low:literal; $first:literal, $first_low:literal; $second:literal, $second_low:literal) => {
+        &[
+            (Dev::Log, 0, &[0xa5]),
+            (Dev::Log, MASTER_COMMITS_AT - 1, &[$count, $low]),
+            (Dev::Log, BLOCK_AT, BLOCK),
+            (Dev::Log, BLOCK_AT + 55, ALSO),
+            (Dev::Log, USED_AT, &[ALSO_USED]),
+            (Dev::Log, COMMIT_AT - 1, &[$first, $first_low]),
+            (Dev::Log, ALSO_COMMIT_AT - 1, &[$second, $second_low]),
+        ]
     };
 }
 
@@ -539,7 +576,7 @@ fn play(alloc: Global, rows: &[(Written, Finds)]) -> Result<usize, Fail> {
 }
 
 // The tests by their names: devices and what is found on them.
-const TESTS: [(&str, &[(Written, Finds)]); 19] = [
+const TESTS: [(&str, &[(Written, Finds)]); 20] = [
     (
         "a finished transaction",
         &[
@@ -694,6 +731,47 @@ const TESTS: [(&str, &[(Written, Finds)]); 19] = [
             ),
             (
                 finished!(COMMIT_AT, 2),
+                Finds::Judged(Verdict::Unsound {
+                    rule: 11,
+                    place: Place::Blocks,
+                }),
+            ),
+        ],
+    ),
+    // One block may hold any number of Commits, whose numbers run on from the master's count; it lets at most 512 be.
+    (
+        "verdicts on two commits in one block",
+        &[
+            (
+                two_commits!(0x00, 0x00; 0x00, 0x01; 0x00, 0x02),
+                Finds::Judged(Verdict::Sound {
+                    records: 2,
+                    commits: 2,
+                }),
+            ),
+            (
+                two_commits!(0x00, 0x00; 0x00, 0x01; 0x00, 0x01),
+                Finds::Judged(Verdict::Unsound {
+                    rule: 11,
+                    place: Place::Blocks,
+                }),
+            ),
+            (
+                two_commits!(0x00, 0x00; 0x00, 0x01; 0x00, 0x03),
+                Finds::Judged(Verdict::Unsound {
+                    rule: 11,
+                    place: Place::Blocks,
+                }),
+            ),
+            (
+                two_commits!(0x01, 0xfe; 0x01, 0xff; 0x02, 0x00),
+                Finds::Judged(Verdict::Sound {
+                    records: 2,
+                    commits: 512,
+                }),
+            ),
+            (
+                two_commits!(0x01, 0xff; 0x02, 0x00; 0x02, 0x01),
                 Finds::Judged(Verdict::Unsound {
                     rule: 11,
                     place: Place::Blocks,

@@ -80,7 +80,7 @@ UndoHasRoom = HasRoom
 abbrev pub MasterNamesTheActive : LogicalImage → Type 0
 MasterNamesTheActive p = p.master.active ≡ active_in (before_block p.master.redo p.log)
 
--- 11. The commits are numbered on by one, and each has sealed a block of its own.
+-- 11. The commits are numbered on by one, and are no more than the octets of the sealed blocks.
 abbrev pub CommitsAreNumbered : LogicalImage → Type 0
 CommitsAreNumbered = AreNumbered
 

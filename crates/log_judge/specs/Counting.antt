@@ -1,5 +1,6 @@
 -- The numbers of the commits, counted record by record.
-use Rattle.std.specs.Prelude.{◌≡◌, ◌⊎◌, ℕ, ◌+◌, ◌≤◌, ◌<◌, Bool, if◌then◌else◌, Option, Some, None, List, ◌++◌, length}
+use Rattle.std.specs.Prelude.{◌≡◌, ◌⊎◌, ℕ, ◌+◌, ◌*◌, ◌≤◌, ◌<◌, Bool, if◌then◌else◌}
+use Rattle.std.specs.Prelude.{Option, Some, None, List, ◌++◌, length}
 use Rattle.std.specs.List.{range_with_len}
 use Rattle.log_records.specs.Log.{Entry}
 use Rattle.log_records.specs.Sound.{commit_numbers, before_block, from_block}
@@ -23,7 +24,7 @@ pub record Counts (old : Numbers) (number : ℕ) (early : Bool) (new : Numbers) 
   pub first : old.early + old.late ≡ 0 → new.first ≡ number
   pub kept : 0 < old.early + old.late → new.first ≡ old.first
 
--- the last Commit before the redo block has the master's count, and there are no more than blocks
+-- the last Commit before the redo block has the master's count, and there are no more than octets of sealed blocks
 pub record Fit (first early late commits hi : ℕ) : Type 0 where
   pub run_on : (early + late ≡ 0) ⊎ (first + early ≡ commits + 1)
-  pub room : commits + late ≤ hi
+  pub room : commits + late ≤ 512 * hi

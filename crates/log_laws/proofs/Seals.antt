@@ -1,18 +1,20 @@
 -- Sealing a block that goes on keeps a logical image sound, and changes what it means by the block's commits alone.
 use Rattle.std.proofs.lemmas.Grind.{common_steps}
-use Rattle.std.proofs.Common.{◌≡◌, ℕ, ◌+◌, ◌-◌, ◌*◌, ◌<◌, ◌≤◌, ◌⊎◌, inl, inr, List, [], ◌∷◌, ◌++◌, length, sym, ap, subst, ◌∙◌, append_assoc, arith}
+use Rattle.std.proofs.Common.{◌≡◌, ℕ, zero, suc, ◌+◌, ◌-◌, ◌*◌, ◌<◌, ◌≤◌, List, [], ◌∷◌, ◌++◌, length, sym, ap, subst, ◌∙◌, append_assoc, arith}
 use Rattle.std.specs.Prelude.{flat_map, IsTrue, ◌==◌, ◌||◌, nat_lt}
 use Rattle.std.specs.List.{AllByRecursion, range_with_len}
 use Rattle.std.proofs.lemmas.Bool.{le-ltb, le-leb, lt-leb, and_right}
 use Rattle.std.proofs.lemmas.Bool.Decides.{nat_tests}
 use Rattle.std.proofs.lemmas.List.{append-nil, length-append}
+use Rattle.std.proofs.lemmas.List.FromFn.{length-range_with_len}
 use Rattle.std.proofs.lemmas.List.Elements.{filter-append, filter_map-append}
 use Rattle.std_lemmas.proofs.AllOf.{all_append, all_weaker}
-use Rattle.std_lemmas.proofs.Lists.{range_push, filter_all}
+use Rattle.std_lemmas.proofs.Lists.{filter_all}
 use Rattle.record_model.specs.State.{Content}
 use Rattle.log_records.specs.declared.log_record.LogRecord.{LogRecord}
+use Rattle.log_records.specs.declared.log_record.LogRecord.TheVariants.{Begin, Update, Clr, Commit, End}
 use Rattle.log_records.specs.Spelling.{spelling, AreBlock}
-use Rattle.log_records.specs.Log.{Entry, Version, version_at, table_of}
+use Rattle.log_records.specs.Log.{Entry, Version, entries_from, version_at, table_of}
 use Rattle.log_records.specs.Sound.{Master, AreNumbered, LogicalImage, InTurn, IsInOrder, IsSound, Means, IsOfOpenTransaction, before_block, from_block, last_known, FitsLog, IsInTable, active_in, commit_number, commit_numbers, commit_count}
 use Rattle.log_laws.specs.Follow.{Follows, IsUndoable, GoesOn, sealed, next_entries, table_after_all}
 use Rattle.log_laws.proofs.Values.{with}
@@ -21,6 +23,7 @@ use Rattle.log_laws.proofs.Follow.{table_behind, undoable_behind}
 use Rattle.log_laws.proofs.Parts.{commits_parts}
 use Rattle.log_laws.proofs.Rooms.{rooms_behind_all}
 use Rattle.log_laws.proofs.Orders.{InTurn-all, entries_in_order, in_order_to, in_order-append, all_from, none_passes, filter_none, InTurn-append_all, InTurn-weaker}
+use Rattle.log_records.proofs.Blocks.{some_octet}
 use Rattle.log_records.proofs.Lists.{last_where-append}
 use Rattle.log_records.proofs.Entries.{in_order_from}
 
@@ -37,6 +40,35 @@ pub table_behind_all : (m : Master) (pages : List Version) (log entries : List E
     table_of (log ++ entries) pages ≡ table_after_all (table_of log pages) log entries
 table_behind_all m pages log [] u f = grind (arith, append-nil)
 table_behind_all m pages log (e ∷ entries) u f = grind (arith, split, with, undoable_behind, table_behind, (table_behind_all m pages (with log e) entries (undoable_behind m pages log u e f.0) f.1))
+
+-- numbers behind numbers
+range_join : (a n m : ℕ) → range_with_len a n ++ range_with_len (a + n) m ≡ range_with_len a (n + m)
+range_join a zero m =
+    let here : a + 0 ≡ a = omega arith in
+    let there : 0 + m ≡ m = omega arith in
+    ap (λ (k : ℕ). range_with_len k m) here ∙ ap (range_with_len a) (sym there)
+range_join a (suc n) m =
+    let here : a + suc n ≡ (a + 1) + n = omega arith in
+    let there : suc n + m ≡ suc (n + m) = omega arith in
+    ap (λ (k : ℕ). (a ∷ range_with_len (a + 1) n) ++ range_with_len k m) here ∙ ap (λ (l : List ℕ). a ∷ l) (range_join (a + 1) n m) ∙ ap (range_with_len a) (sym there)
+
+-- records have no more Commits than octets
+few_here : (rec : LogRecord) (lsn : ℕ) (entries : List Entry) → length (commit_numbers (record { lsn = lsn; rec = rec } ∷ entries)) ≤ 1 + length (commit_numbers entries)
+few_here Begin lsn entries = omega arith
+few_here (Update txn prev page slot before after) lsn entries = omega arith
+few_here (Clr txn prev undo_next page slot after) lsn entries = omega arith
+few_here (Commit txn number) lsn entries = omega arith
+few_here (End txn) lsn entries = omega arith
+
+few_commits : (lsn : ℕ) (records : List LogRecord) → length (commit_numbers (entries_from lsn records)) ≤ length (flat_map spelling records)
+few_commits lsn [] = omega arith
+few_commits lsn (rec ∷ records) = omega (
+  arith,
+  few_here rec lsn (entries_from (lsn + length (spelling rec)) records),
+  some_octet rec,
+  few_commits (lsn + length (spelling rec)) records,
+  length-append (spelling rec) (flat_map spelling records),
+)
 
 module _ (p : LogicalImage) (records : List LogRecord) (sound : IsSound p) (block : AreBlock records) where
   pub undoable : IsUndoable p.log
@@ -107,40 +139,37 @@ module _ (p : LogicalImage) (records : List LogRecord) (sound : IsSound p) (bloc
       Means (sealed p records) (table_after_all table p.log (next_entries p records)) (count + length (commit_numbers (next_entries p records)))
   means_with goes table count means = grind (arith, table_behind_all, undoable, sealed_count)
 
-  -- the commits run on where the block has none, or one with the next number
-  pub numbered_with : (commit_numbers (next_entries p records) ≡ []) ⊎ (commit_numbers (next_entries p records) ≡ (commit_count p + 1) ∷ []) → AreNumbered (sealed p records)
-  numbered_with new = record {
+  -- the commits run on where those of the block do
+  pub numbered_with : (more : ℕ) → commit_numbers (next_entries p records) ≡ range_with_len (commit_count p + 1) more → AreNumbered (sealed p records)
+  numbered_with more new = record {
     before_redo = let b = sound.commits.before_redo in omega (arith, b, ap (λ (l : List Entry). length (commit_numbers l)) before_same);
-    run_on = all_run_on new;
-    fit = let f = sound.commits.fit in omega (arith, f, sealed_count, at_most new);
+    run_on = all_run_on;
+    fit = let f = sound.commits.fit in omega (arith, f, sealed_count, few_commits (512 * p.hi + 2) records, block.room);
   }
     where
-      at_most : (commit_numbers (next_entries p records) ≡ []) ⊎ (commit_numbers (next_entries p records) ≡ (commit_count p + 1) ∷ []) → length (commit_numbers (next_entries p records)) ≤ 1
-      at_most (inl e) = omega (arith, ap length e)
-      at_most (inr e) = omega (arith, ap length e)
+      size : length (commit_numbers (next_entries p records)) ≡ more
+      size = ap length new ∙ length-range_with_len (commit_count p + 1) more
 
       numbers : commit_numbers (p.log ++ next_entries p records) ≡ commit_numbers p.log ++ commit_numbers (next_entries p records)
       numbers = filter_map-append commit_number p.log (next_entries p records)
 
-      first : ℕ
-      first = p.master.commits + 1 - length (commit_numbers (before_block p.master.redo p.log))
+      before : ℕ
+      before = length (commit_numbers (before_block p.master.redo p.log))
 
-      all_run_on : (commit_numbers (next_entries p records) ≡ []) ⊎ (commit_numbers (next_entries p records) ≡ (commit_count p + 1) ∷ []) →
-          commit_numbers (p.log ++ next_entries p records) ≡ range_with_len (p.master.commits + 1 - length (commit_numbers (before_block p.master.redo (p.log ++ next_entries p records)))) (length (commit_numbers (p.log ++ next_entries p records)))
-      all_run_on (inl e) =
-          let same = numbers ∙ ap (λ (l : List ℕ). commit_numbers p.log ++ l) e ∙ append-nil (commit_numbers p.log) in
-          same ∙ sound.commits.run_on
-          ∙ sym (ap (λ (l : List ℕ). range_with_len (p.master.commits + 1 - length (commit_numbers (before_block p.master.redo (p.log ++ next_entries p records)))) (length l)) same
-          ∙ ap (λ (l : List Entry). range_with_len (p.master.commits + 1 - length (commit_numbers l)) (length (commit_numbers p.log))) before_same)
-      all_run_on (inr e) =
-          let old = length (commit_numbers p.log) in
-          let before = length (commit_numbers (before_block p.master.redo p.log)) in
-          let more = numbers ∙ ap (λ (l : List ℕ). commit_numbers p.log ++ l) e in
+      old : ℕ
+      old = length (commit_numbers p.log)
+
+      all : length (commit_numbers (p.log ++ next_entries p records)) ≡ old + more
+      all = ap length numbers ∙ length-append (commit_numbers p.log) (commit_numbers (next_entries p records)) ∙ ap (λ (n : ℕ). old + n) size
+
+      all_run_on : commit_numbers (p.log ++ next_entries p records) ≡ range_with_len (p.master.commits + 1 - length (commit_numbers (before_block p.master.redo (p.log ++ next_entries p records)))) (length (commit_numbers (p.log ++ next_entries p records)))
+      all_run_on =
           let b = sound.commits.before_redo in
-          more ∙ ap (λ (l : List ℕ). l ++ (commit_count p + 1) ∷ []) sound.commits.run_on
-          ∙ ap (λ n. range_with_len (p.master.commits + 1 - before) old ++ n ∷ []) (omega (arith, b, commits_parts p.master.redo (512 * p.master.kept) p.log (512 * p.hi) sound.in_order))
-          ∙ range_push (p.master.commits + 1 - before) old
-          ∙ ap (range_with_len (p.master.commits + 1 - before)) (omega (arith, ap length more, length-append (commit_numbers p.log) ((commit_count p + 1) ∷ [])))
+          numbers ∙ ap (λ (l : List ℕ). commit_numbers p.log ++ l) new
+          ∙ ap (λ (l : List ℕ). l ++ range_with_len (commit_count p + 1) more) sound.commits.run_on
+          ∙ ap (λ n. range_with_len (p.master.commits + 1 - before) old ++ range_with_len n more) (omega (arith, b, commits_parts p.master.redo (512 * p.master.kept) p.log (512 * p.hi) sound.in_order))
+          ∙ range_join (p.master.commits + 1 - before) old more
+          ∙ ap (range_with_len (p.master.commits + 1 - before)) (sym all)
           ∙ sym (ap (λ (l : List Entry). range_with_len (p.master.commits + 1 - length (commit_numbers l)) (length (commit_numbers (p.log ++ next_entries p records)))) before_same)
 
 pub sealed_is_sound : (p : LogicalImage) (records : List LogRecord) → IsSound p → GoesOn p records → IsSound (sealed p records)

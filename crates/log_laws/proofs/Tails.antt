@@ -1,8 +1,9 @@
 -- A log that goes on record by record.
-use Rattle.std.proofs.Common.{◌≡◌, ℕ, ◌+◌, ◌*◌, List, [], ◌∷◌, ◌++◌, length, Some, None, ap, ◌∙◌, append_assoc, arith}
+use Rattle.std.proofs.Common.{◌≡◌, ℕ, ◌+◌, ◌*◌, List, [], ◌∷◌, ◌++◌, length, Some, None, ap, subst, ◌∙◌, append_assoc, arith}
 use Rattle.std.specs.Prelude.{Option, flat_map}
 use Rattle.std.specs.List.{AllByRecursion, cons_option}
 use Rattle.std.proofs.lemmas.List.{append-nil, length-append}
+use Rattle.std.proofs.lemmas.List.FromFn.{length-range_with_len}
 use Rattle.std.proofs.lemmas.List.Elements.{filter_map-append}
 use Rattle.std_lemmas.proofs.AllOf.{all_append}
 use Rattle.record_model.specs.State.{Content, table_with}
@@ -10,13 +11,13 @@ use Rattle.log_records.specs.declared.log_record.LogRecord.{LogRecord}
 use Rattle.log_records.specs.declared.log_record.LogRecord.TheVariants.{Commit}
 use Rattle.log_records.specs.Spelling.{spelling, AreBlock}
 use Rattle.log_records.specs.Log.{Entry, entries_from, log_from, table_of}
-use Rattle.log_records.specs.Sound.{LogicalImage, IsSound, IsInOrder, InTurn, IsInTable, HasRoom, AreOrderly, commit_number, commit_numbers}
-use Rattle.log_laws.specs.Follow.{Follows, IsUndoable, sealed, next_entries, table_after, writes_in}
-use Rattle.log_laws.specs.Tail.{Carries, CommitsOnceAtMost, whole, next_lsn}
+use Rattle.log_records.specs.Sound.{LogicalImage, IsSound, IsInOrder, InTurn, IsInTable, HasRoom, AreOrderly, Means, commit_number, commit_numbers, commit_count}
+use Rattle.log_laws.specs.Follow.{Follows, IsUndoable, sealed, next_entries, table_after, table_after_all, writes_in}
+use Rattle.log_laws.specs.Tail.{Carries, CommitsRunOn, whole, next_lsn}
 use Rattle.log_laws.proofs.Parts.{InTurn-right}
 use Rattle.log_laws.proofs.Follow.{table_behind}
 use Rattle.log_laws.proofs.Orders.{InTurn-all, InTurn-append, entries_in_order, in_order_to, in_order-append}
-use Rattle.log_laws.proofs.Seals.{undoable_behind_all, table_behind_all, sealed_is_sound, numbered_with}
+use Rattle.log_laws.proofs.Seals.{undoable_behind_all, table_behind_all, sealed_is_sound, sealed_means, numbered_with}
 use Rattle.log_laws.proofs.Commits.{table_none}
 use Rattle.log_laws.proofs.Orderly.{orderly_behind}
 use Rattle.log_records.proofs.Entries.{in_order_from}
@@ -69,9 +70,16 @@ commits_stay log e h = filter_map-append commit_number log (e ∷ []) ∙ ap (λ
 pub tail_without_commit : (p : LogicalImage) (tail : List LogRecord) → Carries p tail → commit_numbers (next_entries p tail) ≡ [] → table_of (whole p tail) p.pages ≡ table_of p.log p.pages
 tail_without_commit p tail c none = grind (arith, table_behind_all, undoable_of, table_none)
 
-pub sealed_tail : (p : LogicalImage) (tail : List LogRecord) → Carries p tail → AreBlock tail → HasRoom (sealed p tail) → CommitsOnceAtMost p tail → IsSound (sealed p tail)
-sealed_tail p tail c block room commits =
-    sealed_is_sound p tail c.sound (record { are_block = block; follow = c.follow; numbered = numbered_with p tail c.sound block commits; room = room })
+pub sealed_tail : (p : LogicalImage) (tail : List LogRecord) → Carries p tail → AreBlock tail → HasRoom (sealed p tail) → (more : ℕ) → CommitsRunOn p tail more → IsSound (sealed p tail)
+sealed_tail p tail c block room more commits =
+    sealed_is_sound p tail c.sound (record { are_block = block; follow = c.follow; numbered = numbered_with p tail c.sound block more commits; room = room })
+
+-- the sealed logical image stands for the table behind the tail's records, and so many commits more
+pub sealed_tail_means : (p : LogicalImage) (tail : List LogRecord) → Carries p tail → AreBlock tail → HasRoom (sealed p tail) → (more : ℕ) → CommitsRunOn p tail more → (table : List Content) (count : ℕ) → Means p table count →
+    Means (sealed p tail) (table_after_all table p.log (next_entries p tail)) (count + more)
+sealed_tail_means p tail c block room more commits table count means =
+    subst (λ (n : ℕ). Means (sealed p tail) (table_after_all table p.log (next_entries p tail)) (count + n)) (ap length commits ∙ length-range_with_len (commit_count p + 1) more)
+    (sealed_means p tail c.sound (record { are_block = block; follow = c.follow; numbered = numbered_with p tail c.sound block more commits; room = room }) table count means)
 
 -- Logs without checkpoints.
 

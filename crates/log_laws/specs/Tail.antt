@@ -1,5 +1,6 @@
 -- A log whose last records aren't sealed yet.
-use Rattle.std.specs.Prelude.{◌≡◌, ◌⊎◌, ℕ, ◌+◌, ◌*◌, List, [], ◌∷◌, ◌++◌}
+use Rattle.std.specs.Prelude.{◌≡◌, ℕ, ◌+◌, ◌*◌, List, ◌++◌}
+use Rattle.std.specs.List.{range_with_len}
 use Rattle.log_records.specs.declared.log_record.LogRecord.{LogRecord}
 use Rattle.log_records.specs.Spelling.{used_by}
 use Rattle.log_records.specs.Log.{Entry}
@@ -19,7 +20,6 @@ pub record Carries (p : LogicalImage) (tail : List LogRecord) : Type 0 where
   pub sound : IsSound p
   pub follow : InTurn (Follows p.master p.pages) p.log (next_entries p tail)
 
--- the tail has no Commit, or one, which is the next
-abbrev pub CommitsOnceAtMost : LogicalImage → List LogRecord → Type 0
-CommitsOnceAtMost p tail = (commit_numbers (next_entries p tail) ≡ [])
-    ⊎ (commit_numbers (next_entries p tail) ≡ (commit_count p + 1) ∷ [])
+-- the tail has so many Commits, numbered on by one behind those of the logical image
+abbrev pub CommitsRunOn : LogicalImage → List LogRecord → ℕ → Type 0
+CommitsRunOn p tail more = commit_numbers (next_entries p tail) ≡ range_with_len (commit_count p + 1) more

@@ -168,13 +168,13 @@ commit_numbers log = filter_map commit_number log
 abbrev pub commit_count : LogicalImage → ℕ
 commit_count p = p.master.commits + length (commit_numbers (from_block p.master.redo p.log))
 
--- The commits are numbered on by one, up to the master's count before the redo block and from there on. Each has sealed
--- a block of its own.
+-- The commits are numbered on by one, up to the master's count before the redo block and from there on. They are no
+-- more than the octets of the sealed blocks.
 pub record AreNumbered (p : LogicalImage) : Type 0 where
   pub before_redo : length (commit_numbers (before_block p.master.redo p.log)) ≤ p.master.commits + 1
   pub run_on : let before = length (commit_numbers (before_block p.master.redo p.log)) in
       commit_numbers p.log ≡ range_with_len (p.master.commits + 1 - before) (length (commit_numbers p.log))
-  pub fit : commit_count p ≤ p.hi
+  pub fit : commit_count p ≤ 512 * p.hi
 
 -- Room.
 

@@ -155,7 +155,8 @@ fn broken(rule: u8) -> &'static str {
         8 => "the live segments don't follow the live groups",
         9 => "the log has no room for what undo writes",
         10 => "the master doesn't name the transactions that were active at the redo block",
-        11 => "the commits aren't numbered on by one, or two have sealed one block",
+        11 =>
+            "the commits aren't numbered on by one, or are more than 512 for each block ever sealed",
         12 => "a page has no room for what redo and undo write on it",
         _ => "of the rules none is called so",
     }

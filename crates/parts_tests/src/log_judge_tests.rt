@@ -166,7 +166,7 @@ const FIRST: [(&str, &[Row], Outcome); 9] = [
         Outcome::AtEnd,
     ),
     (
-        "more commits than blocks",
+        "four commits in three blocks",
         &[
             Row::Begin(2),
             Row::Commit(3, 2, 1),
@@ -177,7 +177,7 @@ const FIRST: [(&str, &[Row], Outcome); 9] = [
             Row::Begin(1_026),
             Row::Commit(1_027, 1_026, 4),
         ],
-        Outcome::AtEnd,
+        Outcome::Kept,
     ),
     (
         "an Update that doesn't name the one before it",
@@ -217,8 +217,25 @@ const LATER: &[Row] = &[
     Row::Commit(1_026, 600, 2),
 ];
 
+// Behind 1,534 commits two more stand in block 2: 512 for each block; or one more still.
+const MANY: &[Row] = &[
+    Row::Begin(1_026),
+    Row::Commit(1_027, 1_026, 1_535),
+    Row::Begin(1_044),
+    Row::Commit(1_045, 1_044, 1_536),
+];
+
+const TOO_MANY: &[Row] = &[
+    Row::Begin(1_026),
+    Row::Commit(1_027, 1_026, 1_535),
+    Row::Begin(1_044),
+    Row::Commit(1_045, 1_044, 1_536),
+    Row::Begin(1_062),
+    Row::Commit(1_063, 1_062, 1_537),
+];
+
 // What a master says of it, and where that is told.
-const MASTERS: [(&str, Log, Outcome); 8] = [
+const MASTERS: [(&str, Log, Outcome); 10] = [
     (
         "closed",
         Log {
@@ -282,6 +299,28 @@ const MASTERS: [(&str, Log, Outcome); 8] = [
             commits: 0,
             named: (2, 30),
             rows: LATER,
+        },
+        Outcome::AtEnd,
+    ),
+    (
+        "512 commits for each block",
+        Log {
+            redo: 2,
+            kept: 2,
+            commits: 1_534,
+            named: (0, 0),
+            rows: MANY,
+        },
+        Outcome::Kept,
+    ),
+    (
+        "a commit more than the blocks hold",
+        Log {
+            redo: 2,
+            kept: 2,
+            commits: 1_534,
+            named: (0, 0),
+            rows: TOO_MANY,
         },
         Outcome::AtEnd,
     ),

@@ -75,7 +75,7 @@ module _ (p : LogicalImage) (front : List LogRecord) (txn number lsn : ℕ) (rec
       let tail : List LogRecord = front ++ Commit txn number ∷ [] in
       let count_is = runs.means.count_is in
       let expected : number ≡ commit_count p + 1 = omega (arith, is, count_is) in
-      let sound = sealed_tail p tail carries_commit block room (inr (numbers_are ∙ ap (λ (n : ℕ). n ∷ []) expected)) in
+      let sound = sealed_tail p tail carries_commit block room 1 (numbers_are ∙ ap (λ (n : ℕ). n ∷ []) expected) in
       record {
         carries = carries_nothing (sealed p tail) sound;
         means = grind (arith, common_steps, tail_with_commit, carries_commit, sealed_count, numbers_are);

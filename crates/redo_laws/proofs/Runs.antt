@@ -3,9 +3,9 @@ use Rattle.std.proofs.lemmas.Grind.{common_steps}
 use Rattle.image_meaning.proofs.Behind.{carries_still, shown_stays}
 use Rattle.image_meaning.proofs.OtherVersions.{versions_mean}
 use Rattle.image_meaning.proofs.Versions.{length-versions}
-use Rattle.log_laws.proofs.Seals.{sealed_count}
-use Rattle.log_laws.proofs.Tails.{carries_more, carries_nothing, commits_stay, sealed_tail, tail_without_commit, whole_more, whole_sealed}
-use Rattle.std.proofs.Common.{◌≡◌, ℕ, ◌+◌, ◌*◌, ◌<◌, List, [], ◌∷◌, ◌++◌, None, inl, refl, sym, ap, subst, ◌∙◌, arith, Option}
+use Rattle.log_laws.proofs.Commits.{table_none}
+use Rattle.log_laws.proofs.Tails.{carries_more, carries_nothing, commits_stay, sealed_tail, sealed_tail_means, whole_more, whole_sealed}
+use Rattle.std.proofs.Common.{◌≡◌, ℕ, ◌+◌, ◌*◌, ◌<◌, List, [], ◌∷◌, ◌++◌, None, refl, sym, ap, subst, ◌∙◌, arith, Option}
 use Rattle.site.specs.declared.geometry.Geometry.{Geometry}
 use Rattle.site.specs.State.{Image}
 use Rattle.record_model.specs.State.{Content}
@@ -25,8 +25,8 @@ use Rattle.redo_laws.specs.Running.{RunsOn}
 pub resealed : (p : LogicalImage) (tail : List LogRecord) (records : List Entry) (table : List Content) (commits : ℕ) → RunsOn p tail records table commits → AreBlock tail → HasRoom (sealed p tail) → RunsOn (sealed p tail) [] records table commits
 resealed p tail records table commits runs block room =
     record {
-      carries = carries_nothing (sealed p tail) (sealed_tail p tail runs.carries block room (inl runs.no_commit));
-      means = grind (arith, common_steps, tail_without_commit, sealed_count);
+      carries = carries_nothing (sealed p tail) (sealed_tail p tail runs.carries block room 0 runs.no_commit);
+      means = grind (arith, common_steps, table_none, (sealed_tail_means p tail runs.carries block room 0 runs.no_commit table commits runs.means));
       no_commit = refl;
       records_are = whole_sealed p tail ∙ runs.records_are;
     }

@@ -116,7 +116,7 @@ returns-in-Err-undo_all-clause-recovers g c newest blocks table commits h =
       last = λ quiet. tt;
     }
 
--- there are no more commits than blocks
+-- there are no more commits than octets of sealed blocks
 pub returns-then-commits-sealed_end-clause-recovers : goal.returns-then-commits-sealed_end-clause-recovers
 returns-then-commits-sealed_end-clause-recovers g c newest blocks table commits h =
     let records = log_under newest blocks in
