@@ -1,0 +1,23 @@
+// Facts about probes. The functions do nothing: each states its law as a clause.
+ghost use Rattle.name_table.specs.Laws.{NamesAreAMap, StrangeIsTold, FullIsTold, ReadsAreFew};
+
+/// Over a well-formed table the names are a map: find answers what stands under the name; put and remove, with the
+/// write made that they ask for, leave a well-formed table that differs under that name alone, in one record at most.
+pub fn names_are_a_map()
+    ensures { NamesAreAMap }
+{}
+
+/// Strange comes exactly where the value of a probed record isn't of the form, and carries the first such record.
+pub fn strange_is_told()
+    ensures { StrangeIsTold }
+{}
+
+/// NamesFull comes, for put alone, exactly where each bucket has the entry of another name, and carries their number.
+pub fn full_is_told()
+    ensures { FullIsTold }
+{}
+
+/// A probe is told at most as many values as there are buckets, and behind a write it answers Done.
+pub fn reads_are_few()
+    ensures { ReadsAreFew }
+{}

@@ -1,0 +1,11 @@
+//! The work of one line about a name: a machine that asks for the values of records and for at most one write.
+#![tactic(auto)]
+
+mod buckets;
+mod laws;
+mod probe;
+
+pub use laws::{full_is_told, names_are_a_map, reads_are_few, strange_is_told};
+pub use buckets::{NAME_MAX, VALUE_MAX};
+pub use probe::Probe;
+pub use record_model::{Ask, NameAnswer};
