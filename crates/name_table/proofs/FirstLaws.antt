@@ -126,7 +126,7 @@ other_not_own : (name value : List ℕ) (b : Bucket) → b ≡ Entry name value 
 other_not_own name value b e other = subst (IsOther name) e other refl
 
 other_not : (name : List ℕ) (b c : Bucket) → b ≡ c → (IsOther name c → ⊥) → IsOther name b → ⊥
-other_not name b c e no other = no (subst (IsOther name) e other)
+other_not name b c e never other = never (subst (IsOther name) e other)
 
 tells_full : (table : List Content) (name value : List ℕ) → 1 ≤ bucket_count table →
     ((steps : ℕ) → IsOther name (bucket_on table name steps)) → (next : Ask) → Comes table (Put value) name next → next ≡ End (answer.NamesFull (bucket_count table))

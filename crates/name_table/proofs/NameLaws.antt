@@ -1,5 +1,5 @@
 -- Names are a map: what each line's probing comes to, over the values of a table.
-use Rattle.std.proofs.Common.{◌≡◌, ℕ, ◌+◌, ◌<◌, ◌≤◌, Bool, true, false, List, [], ◌∷◌, ◌++◌, length, Option, Some, None, inl, inr, refl, ap, sym, ◌∙◌, subst, arith, length-append}
+use Rattle.std.proofs.Common.{◌≡◌, ℕ, zero, suc, ◌+◌, ◌<◌, ◌≤◌, Bool, true, false, List, [], ◌∷◌, ◌++◌, length, replicate, Option, Some, None, inl, inr, refl, ap, sym, ◌∙◌, subst, arith, length-append}
 use Rattle.std.specs.Prelude.{◌⊎◌, ◌/◌, ◌&&◌, nat_le, take, drop, slice_set, slice_index_or, if◌then◌else◌}
 use Rattle.std.specs.Option.{option_or}
 use Rattle.std.proofs.Math.Seq.{take-append_seam, drop-append_seam}
@@ -17,7 +17,7 @@ use Rattle.record_model.specs.State.{Content, content_at}
 use Rattle.record_model.specs.Names.{entry, has_name, bucket_of, home, probed, bucket_count, bucket_at, value_under, value_among, names, AreWellFormed, IsWellFormed}
 use Rattle.record_model.specs.Probes.{record_at, met, missed, with_write, run_over}
 use Rattle.name_table.specs.Probing.{IsName, IsRead}
-use Rattle.name_table.specs.Laws.{IsOther, IsPassed, found, Writes, IsFull, IsMap, NamesAreAMap, reached}
+use Rattle.name_table.specs.Laws.{IsOther, IsPassed, found, Writes, IsFull, IsMap, NamesAreAMap, BlankIsWellFormed, reached}
 use Rattle.name_table.proofs.Ring.{steps_to}
 use Rattle.std.proofs.Math.Nat.{mod-lt}
 use Rattle.name_table.proofs.Values.{IsAbsent, under_other, stands, absent_none}
@@ -192,3 +192,21 @@ names_are_a_map table name some formed = record {
   remove_none = λ none. remove_none table name some formed none _ (comes_to table Remove name some).comes;
   remove_some = λ value there. remove_some table name some formed value there _ (comes_to table Remove name some).comes;
 }
+
+pub blank_is_well_formed : BlankIsWellFormed
+blank_is_well_formed records = record {
+  formed = λ place below e. not_strange (sym (free place) ∙ e);
+  differ = λ place other name value more below under e o. absurd (not_free name value (sym e ∙ free place));
+  reached = λ name value steps fewer few before e f. not_free name value (sym e ∙ free (probed name (bucket_count (replicate records None)) steps));
+}
+  where
+    nothing : (many place : ℕ) → content_at (replicate many None) place ≡ None
+    nothing zero place = refl
+    nothing (suc many) zero = refl
+    nothing (suc many) (suc place) = nothing many place
+
+    free : (place : ℕ) → bucket_at (replicate records None) place ≡ Free
+    free place = ap bucket_of (nothing records (bucket_count (replicate records None) + place))
+
+    not_strange : Free ≡ Strange → ⊥
+    not_strange e = cc

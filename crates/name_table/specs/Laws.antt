@@ -1,5 +1,6 @@
 -- What probing does to the names of a table.
-use Rattle.std.specs.Prelude.{◌≡◌, ◌≢◌, ◌↔◌, ◌⊎◌, ℕ, ◌+◌, ◌<◌, ◌≤◌, List, [], length, Option, Some, None}
+use Rattle.std.specs.Prelude.{◌≡◌, ◌≢◌, ◌↔◌, ◌⊎◌, ℕ, ◌+◌, ◌<◌, ◌≤◌, List, [], length, replicate, Option}
+use Rattle.std.specs.Prelude.{Some, None}
 use Rattle.record_model.specs.declared.names.Bucket.{Bucket}
 use Rattle.record_model.specs.declared.names.Bucket.TheVariants.{Free, Tombstone, Entry, Strange}
 use Rattle.record_model.specs.declared.names.Job.{Job}
@@ -63,6 +64,10 @@ pub record IsMap (table : List Content) (name : List ℕ) : Type 0 where
 
 abbrev pub NamesAreAMap : Type 0
 NamesAreAMap = (table : List Content) (name : List ℕ) → 1 ≤ bucket_count table → IsWellFormed table → IsMap table name
+
+-- so it is from the start: where no record has a value, the buckets are well formed
+abbrev pub BlankIsWellFormed : Type 0
+BlankIsWellFormed = (records : ℕ) → IsWellFormed (replicate records None)
 
 -- Over any table. The record is that of the first bucket, of those that are probed, which isn't of the form.
 pub record IsFirstStrange (table : List Content) (name : List ℕ) (number : ℕ) : Type 0 where

@@ -1,10 +1,15 @@
 // Facts about probes. The functions do nothing: each states its law as a clause.
-ghost use Rattle.name_table.specs.Laws.{NamesAreAMap, StrangeIsTold, FullIsTold, ReadsAreFew};
+ghost use Rattle.name_table.specs.Laws.{NamesAreAMap, BlankIsWellFormed, StrangeIsTold, FullIsTold, ReadsAreFew};
 
 /// Over a well-formed table the names are a map: find answers what stands under the name; put and remove, with the
 /// write made that they ask for, leave a well-formed table that differs under that name alone, in one record at most.
 pub fn names_are_a_map()
     ensures { NamesAreAMap }
+{}
+
+/// A table without values is well formed.
+pub fn blank_is_well_formed()
+    ensures { BlankIsWellFormed }
 {}
 
 /// Strange comes exactly where the value of a probed record isn't of the form, and carries the first such record.

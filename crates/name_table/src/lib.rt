@@ -4,8 +4,10 @@
 mod buckets;
 mod laws;
 mod probe;
+mod rows;
 
-pub use laws::{full_is_told, names_are_a_map, reads_are_few, strange_is_told};
+pub use laws::{blank_is_well_formed, full_is_told, names_are_a_map, reads_are_few, strange_is_told};
 pub use buckets::{NAME_MAX, VALUE_MAX};
 pub use probe::Probe;
 pub use record_model::{Ask, NameAnswer};
+pub use rows::{rows_of_buckets, rows_of_names};
