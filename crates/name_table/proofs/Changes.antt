@@ -1,13 +1,12 @@
 -- What one changed bucket does to well-formed buckets.
-use Rattle.std.proofs.Common.{◌≡◌, ℕ, ◌+◌, ◌<◌, ◌≤◌, List, Option, Some, None, inl, inr, refl, ap, sym, ◌∙◌, subst, arith}
-use Rattle.std.specs.Prelude.{◌%◌, ◌⊎◌}
-use Rattle.std.proofs.lemmas.Bool.{cases_eq, cases_lt, cases_order}
+use Rattle.std.proofs.Common.{◌≡◌, ℕ, ◌<◌, List, Some, None, inl, inr, refl, ap, sym, ◌∙◌, subst, arith}
+use Rattle.std.proofs.lemmas.Bool.{cases_eq, cases_order}
 use Rattle.record_model.specs.declared.names.Bucket.{Bucket}
 use Rattle.record_model.specs.declared.names.Bucket.TheVariants.{Free, Tombstone, Entry, Strange}
 use Rattle.record_model.specs.Names.{home, probed, value_under, value_among, AreWellFormed}
 use Rattle.name_table.specs.Laws.{IsPassed}
 use Rattle.name_table.proofs.Ring.{same_steps, steps_to}
-use Rattle.name_table.proofs.Values.{IsAbsent, under_other, stands, stands_alike, absent_none}
+use Rattle.name_table.proofs.Values.{IsAbsent, stands, stands_alike, absent_none}
 use Rattle.std.proofs.Math.Nat.{mod-lt}
 
 -- the bucket of one place changes
@@ -104,8 +103,8 @@ module _ (f : ℕ → Bucket) (n : ℕ) (some : 0 < n) (formed : AreWellFormed f
         reached_still : (own more : List ℕ) (steps fewer : ℕ) → steps < n → fewer < steps → g (probed own n steps) ≡ Entry own more → g (probed own n fewer) ≡ Free → ⊥
         reached_still own more steps fewer few before e = stays_taken (probed own n fewer) (elim (cases_eq (probed own n steps) (probed name n d)) [
           | inl same ↦
-            let is : name ≡ own = entries_differ name own value more (sym change.here ∙ ap g (sym same) ∙ e) in
-            subst (λ (l : List ℕ). probed l n steps ≡ probed name n d → f (probed l n fewer) ≡ Free → ⊥) is (own_way steps fewer few before) same
+              let is : name ≡ own = entries_differ name own value more (sym change.here ∙ ap g (sym same) ∙ e) in
+              subst (λ (l : List ℕ). probed l n steps ≡ probed name n d → f (probed l n fewer) ≡ Free → ⊥) is (own_way steps fewer few before) same
           | inr apart ↦ formed.reached own more steps fewer few before (sym (change.elsewhere _ apart) ∙ e)
         ])
 

@@ -1,5 +1,5 @@
 -- Over any table: where Strange and NamesFull come, and that reads are few.
-use Rattle.std.proofs.Common.{◌≡◌, ℕ, ◌+◌, ◌<◌, ◌≤◌, List, [], Option, Some, None, inl, inr, refl, ap, sym, ◌∙◌, subst, arith}
+use Rattle.std.proofs.Common.{◌≡◌, ℕ, ◌≤◌, List, Option, Some, None, inl, inr, refl, ap, sym, ◌∙◌, subst}
 use Rattle.std.specs.Option.{option_or}
 use Rattle.std.proofs.lemmas.Bool.{cases_order}
 use Rattle.std.proofs.Math.Nat.{mod-lt}
@@ -8,15 +8,15 @@ use Rattle.record_model.specs.declared.names.Bucket.TheVariants.{Free, Tombstone
 use Rattle.record_model.specs.declared.names.Job.{Job}
 use Rattle.record_model.specs.declared.names.Job.TheVariants.{Find, Put, Remove}
 use Rattle.record_model.specs.declared.names.Ask.{Ask}
-use Rattle.record_model.specs.declared.names.Ask.TheVariants.{Read, Write, End}
+use Rattle.record_model.specs.declared.names.Ask.TheVariants.{End}
 use Rattle.record_model.specs.declared.names.NameAnswer.TheVariants as answer
 use Rattle.record_model.specs.State.{Content}
-use Rattle.record_model.specs.Names.{probed, bucket_count, bucket_at}
-use Rattle.record_model.specs.Probes.{record_at, met, missed, run_over}
+use Rattle.record_model.specs.Names.{bucket_count}
+use Rattle.record_model.specs.Probes.{record_at, met, missed}
 use Rattle.name_table.specs.Probing.{IsRead}
 use Rattle.name_table.specs.Laws.{IsOther, IsPassed, reached, IsFirstStrange, StrangeIsTold, HasNoRoom, FullIsTold, ReadsAreFew}
 use Rattle.name_table.proofs.NameLaws.{each_other}
-use Rattle.name_table.proofs.Runs.{bucket_on, ArePassed, HasTombstone, Comes, Ends, meets, is_strange, is_free, passes_all, comes_to, met_settled, missed_settled}
+use Rattle.name_table.proofs.Runs.{bucket_on, ArePassed, HasTombstone, Comes, meets, is_strange, is_free, passes_all, comes_to, met_settled, missed_settled}
 
 -- What comes where the name is met, and where it is missed, is neither of the two.
 
@@ -53,20 +53,20 @@ strange_not_full : (a b : ℕ) → End (answer.Strange a) ≡ End (answer.NamesF
 strange_not_full a b e = cc
 
 -- There is one step at most whose bucket isn't passed, and all before it are.
-ends_once : (table : List Content) (name : List ℕ) (steps other : ℕ) → ArePassed table name steps → ArePassed table name other →
+pub ends_once : (table : List Content) (name : List ℕ) (steps other : ℕ) → ArePassed table name steps → ArePassed table name other →
     (IsPassed name (bucket_on table name steps) → ⊥) → (IsPassed name (bucket_on table name other) → ⊥) → steps ≡ other
 ends_once table name steps other passed before stop halt = elim (cases_order steps other) [
   | inl same ↦ same
   | inr apart ↦ elim apart [ inl less ↦ absurd (stop (before steps less)) | inr more ↦ absurd (halt (passed other more)) ]
 ]
 
-not_passed_strange : (name : List ℕ) (b : Bucket) → b ≡ Strange → IsPassed name b → ⊥
+pub not_passed_strange : (name : List ℕ) (b : Bucket) → b ≡ Strange → IsPassed name b → ⊥
 not_passed_strange name b e passed = subst (IsPassed name) e passed
 
-not_passed_free : (name : List ℕ) (b : Bucket) → b ≡ Free → IsPassed name b → ⊥
+pub not_passed_free : (name : List ℕ) (b : Bucket) → b ≡ Free → IsPassed name b → ⊥
 not_passed_free name b e passed = subst (IsPassed name) e passed
 
-not_passed_own : (name value : List ℕ) (b : Bucket) → b ≡ Entry name value → IsPassed name b → ⊥
+pub not_passed_own : (name value : List ℕ) (b : Bucket) → b ≡ Entry name value → IsPassed name b → ⊥
 not_passed_own name value b e passed = subst (IsPassed name) e passed refl
 
 strange_not_entry : (name value : List ℕ) (b : Bucket) → b ≡ Strange → b ≡ Entry name value → ⊥
@@ -102,9 +102,10 @@ tells_strange table job name number first next (is_free steps tombstone less fre
 tells_strange table job name number first next (passes_all tombstone passed has e) = absurd (not_passed_strange name _ first.strange (passed first.steps first.among))
 
 pub strange_is_told : StrangeIsTold
-strange_is_told table job name number some =
-    (first_strange table job name number _ (comes_to table job name some).comes,
-    λ first. tells_strange table job name number first _ (comes_to table job name some).comes)
+strange_is_told table job name number some = (
+  first_strange table job name number _ (comes_to table job name some).comes,
+  λ first. tells_strange table job name number first _ (comes_to table job name some).comes,
+)
 
 -- NamesFull.
 
@@ -137,11 +138,12 @@ tells_full table name value some each next (passes_all None passed has e) = e
 tells_full table name value some each next (passes_all (Some number) passed has e) = absurd (other_not name _ Tombstone has.3 (λ h. h) (each has.0))
 
 pub full_is_told : FullIsTold
-full_is_told table job name many some =
-    (no_room table job name many some _ (comes_to table job name some).comes,
-    λ none. subst (λ (j : Job). reached table j name ≡ End (answer.NamesFull many)) (sym none.puts)
-    (tells_full table name none.value some (λ steps. none.each _ (mod-lt _ some)) _ (comes_to table (Put none.value) name some).comes
-    ∙ ap (λ (k : ℕ). End (answer.NamesFull k)) (sym none.counts)))
+full_is_told table job name many some = (
+  no_room table job name many some _ (comes_to table job name some).comes,
+  λ none. subst (λ (j : Job). reached table j name ≡ End (answer.NamesFull many)) (sym none.puts)
+      (tells_full table name none.value some (λ steps. none.each _ (mod-lt _ some)) _ (comes_to table (Put none.value) name some).comes
+      ∙ ap (λ (k : ℕ). End (answer.NamesFull k)) (sym none.counts)),
+)
 
 -- Reads.
 

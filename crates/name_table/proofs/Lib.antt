@@ -4,3 +4,4 @@ pub mod Changes
 pub mod Runs
 pub mod NameLaws
 pub mod FirstLaws
+pub mod MetLaws

@@ -1,28 +1,25 @@
 -- Names are a map: what each line's probing comes to, over the values of a table.
-use Rattle.std.proofs.Common.{◌≡◌, ℕ, zero, suc, ◌+◌, ◌<◌, ◌≤◌, Bool, true, false, List, [], ◌∷◌, ◌++◌, length, replicate, Option, Some, None, inl, inr, refl, ap, sym, ◌∙◌, subst, arith, length-append}
-use Rattle.std.specs.Prelude.{◌⊎◌, ◌/◌, ◌&&◌, nat_le, take, drop, slice_set, slice_index_or, if◌then◌else◌}
-use Rattle.std.specs.Option.{option_or}
+use Rattle.std.proofs.Common.{◌≡◌, ℕ, zero, suc, ◌+◌, ◌<◌, ◌≤◌, Bool, true, List, [], ◌++◌, length, replicate, Option, Some, None, inl, inr, refl, ap, sym, ◌∙◌, subst, arith, length-append}
+use Rattle.std.specs.Prelude.{◌⊎◌, ◌/◌, take, drop, slice_set, if◌then◌else◌}
 use Rattle.std.proofs.Math.Seq.{take-append_seam, drop-append_seam}
-use Rattle.std.proofs.lemmas.Bool.{and_from, le-leb, cases_order}
+use Rattle.std.proofs.lemmas.Bool.{and_from, le-leb}
 use Rattle.std.proofs.lemmas.List.{get_or-set_other, get_or-set_same, length-set}
 use Rattle.record_model.specs.declared.names.Bucket.{Bucket}
 use Rattle.record_model.specs.declared.names.Bucket.TheVariants.{Free, Tombstone, Entry, Strange}
-use Rattle.record_model.specs.declared.names.Job.{Job}
 use Rattle.record_model.specs.declared.names.Job.TheVariants.{Find, Put, Remove}
 use Rattle.record_model.specs.declared.names.Ask.{Ask}
-use Rattle.record_model.specs.declared.names.Ask.TheVariants.{Read, Write, End}
-use Rattle.record_model.specs.declared.names.NameAnswer.{NameAnswer}
+use Rattle.record_model.specs.declared.names.Ask.TheVariants.{Write, End}
 use Rattle.record_model.specs.declared.names.NameAnswer.TheVariants as answer
 use Rattle.record_model.specs.State.{Content, content_at}
 use Rattle.record_model.specs.Names.{entry, has_name, bucket_of, home, probed, bucket_count, bucket_at, value_under, value_among, names, AreWellFormed, IsWellFormed}
-use Rattle.record_model.specs.Probes.{record_at, met, missed, with_write, run_over}
-use Rattle.name_table.specs.Probing.{IsName, IsRead}
-use Rattle.name_table.specs.Laws.{IsOther, IsPassed, found, Writes, IsFull, IsMap, NamesAreAMap, BlankIsWellFormed, reached}
+use Rattle.record_model.specs.Probes.{record_at}
+use Rattle.name_table.specs.Probing.{IsName}
+use Rattle.name_table.specs.Laws.{IsOther, found, Writes, IsFull, NamesAreAMap, BlankIsWellFormed}
 use Rattle.name_table.proofs.Ring.{steps_to}
 use Rattle.std.proofs.Math.Nat.{mod-lt}
 use Rattle.name_table.proofs.Values.{IsAbsent, under_other, stands, absent_none}
-use Rattle.name_table.proofs.Changes.{Changed, probed_below, absent_behind, absent_all, put_formed, put_names, others_stay, removed_formed, removed_none, entries_differ, not_free, not_tombstone}
-use Rattle.name_table.proofs.Runs.{bucket_on, ArePassed, HasTombstone, Comes, Ends, meets, is_strange, is_free, passes_all, comes_to}
+use Rattle.name_table.proofs.Changes.{Changed, probed_below, absent_behind, absent_all, put_formed, put_names, others_stay, removed_formed, removed_none, entries_differ, not_free}
+use Rattle.name_table.proofs.Runs.{bucket_on, ArePassed, HasTombstone, Comes, meets, is_strange, is_free, passes_all, comes_to}
 
 -- The octets of an entry are read as one.
 pub reads_entry : (name value : List ℕ) → IsName name → length value ≤ 100 → bucket_of (Some (entry name value)) ≡ Entry name value
@@ -118,7 +115,7 @@ module _ (table : List Content) (name : List ℕ) (some : 1 ≤ bucket_count tab
   put_writes value is short steps less passed had alone =
       let place : ℕ = probed name (bucket_count table) steps in
       let change : Changed (bucket_at table) (behind table place (among steps) (entry name value)) place (Entry name value) =
-          changed table place (among steps) (entry name value) (Entry name value) (reads_entry name value is short) in
+      changed table place (among steps) (entry name value) (Entry name value) (reads_entry name value is short) in
       writes table place (among steps) (entry name value) name (Some value)
       (put_formed (bucket_at table) (bucket_count table) some formed name _ steps less value change passed alone)
       (put_names (bucket_at table) (bucket_count table) some formed name _ steps less value change passed alone)
@@ -177,7 +174,7 @@ module _ (table : List Content) (name : List ℕ) (some : 1 ≤ bucket_count tab
       (removed_formed (bucket_at table) (bucket_count table) some formed name _ place (among steps) old own change)
       (removed_none (bucket_at table) (bucket_count table) some formed name _ place (among steps) old own change)
       (λ other ne. others_stay (bucket_at table) (bucket_count table) some formed name _ place Tombstone change other
-          (ap (value_under other) own ∙ other_entry name other old ne) refl)
+      (ap (value_under other) own ∙ other_entry name other old ne) refl)
 
   remove_some : (value : List ℕ) → names table name ≡ Some value → (next : Ask) → Comes table Remove name next → Writes table name [] None next
   remove_some value there next (meets steps old less own passed e) = subst (Writes table name [] None) (sym e) (remove_writes old steps own)

@@ -16,8 +16,8 @@ same_steps n h d e hn dn en same = elim (cases_lt (h + d) n) [
   | inr high ↦ elim (cases_lt (h + e) n) [
     | inl below ↦ let p : h + d - n ≡ h + e = sym (around n (h + d) high (omega arith)) ∙ same ∙ mod-eq_of_lt below in omega arith
     | inr over ↦
-      let p : h + d - n ≡ h + e - n = sym (around n (h + d) high (omega arith)) ∙ same ∙ around n (h + e) over (omega arith) in
-      omega arith
+        let p : h + d - n ≡ h + e - n = sym (around n (h + d) high (omega arith)) ∙ same ∙ around n (h + e) over (omega arith) in
+        omega arith
   ]
 ]
 

@@ -1,6 +1,6 @@
 -- Where a probe comes to over the values of a table.
-use Rattle.std.proofs.Common.{◌≡◌, ℕ, zero, suc, ◌+◌, ◌<◌, ◌≤◌, Bool, true, false, List, [], Option, Some, None, inl, inr, refl, ap, sym, ◌∙◌, subst, arith, below_more}
-use Rattle.std.specs.Prelude.{nat_lt, ◌≢◌, if◌then◌else◌}
+use Rattle.std.proofs.Common.{◌≡◌, ℕ, zero, suc, ◌+◌, ◌<◌, ◌≤◌, Bool, true, false, List, Option, Some, None, refl, ap, sym, ◌∙◌, subst, arith, below_more}
+use Rattle.std.specs.Prelude.{nat_lt, if◌then◌else◌}
 use Rattle.std.specs.Option.{option_or}
 use Rattle.std.specs.Str.{bytes_eq}
 use Rattle.std.proofs.lemmas.Bool.{ltb-true, ltb-false}
@@ -12,9 +12,9 @@ use Rattle.record_model.specs.declared.names.Job.TheVariants.{Find, Put, Remove}
 use Rattle.record_model.specs.declared.names.Ask.{Ask}
 use Rattle.record_model.specs.declared.names.Ask.TheVariants.{Read, Write, End}
 use Rattle.record_model.specs.declared.names.NameAnswer.TheVariants as answer
-use Rattle.record_model.specs.State.{Content, content_at}
+use Rattle.record_model.specs.State.{Content}
 use Rattle.record_model.specs.Names.{probed, bucket_count, bucket_at}
-use Rattle.record_model.specs.Probes.{Probe, record_at, begun, met, missed, passed_on, after_bucket, after_told, told_of, told_times, run_over}
+use Rattle.record_model.specs.Probes.{Probe, record_at, met, missed, passed_on, after_bucket, told_of, told_times, run_over}
 use Rattle.name_table.specs.Probing.{IsRead}
 use Rattle.name_table.specs.Laws.{IsOther, IsPassed}
 
@@ -106,7 +106,7 @@ counted table job name steps tombstone next = record {
 -- One more value, in front of the rest of the run.
 module _ (table : List Content) (job : Job) (name : List ℕ) (times steps : ℕ) (sum : steps + suc times ≡ bucket_count table)
     (rest : (tombstone : Option ℕ) → 0 < times → ArePassed table name (steps + 1) → HasTombstone table name (steps + 1) tombstone →
-        Ends table job name (told_times table times (at_step table job name (steps + 1) tombstone))) where
+    Ends table job name (told_times table times (at_step table job name (steps + 1) tombstone))) where
   -- the probe asks for no read any more
   ended : (tombstone : Option ℕ) (next : Ask) → (IsRead next → ⊥) → Comes table job name next →
       Ends table job name (told_times table times (counted table job name steps tombstone next))
@@ -117,7 +117,7 @@ module _ (table : List Content) (job : Job) (name : List ℕ) (times steps : ℕ
   goes_on : (tombstone : Option ℕ) (test : Bool) → nat_lt (steps + 1) (bucket_count table) ≡ test → ArePassed table name (steps + 1) →
       HasTombstone table name (steps + 1) tombstone →
       Ends table job name (told_times table times (counted table job name steps tombstone
-          (if test then Read (record_at name (bucket_count table) (steps + 1)) else missed job name (bucket_count table) tombstone)))
+      (if test then Read (record_at name (bucket_count table) (steps + 1)) else missed job name (bucket_count table) tombstone)))
   goes_on tombstone true e passed has =
       let less : steps + 1 < bucket_count table = ltb-true (steps + 1) (bucket_count table) e in
       rest tombstone (omega arith) passed has
@@ -137,8 +137,8 @@ module _ (table : List Content) (job : Job) (name : List ℕ) (times steps : ℕ
     -- an entry, of the name or of another one
     at_entry : (other value : List ℕ) → bucket_on table name steps ≡ Entry other value → (test : Bool) → bytes_eq other name ≡ test →
         Ends table job name (told_times table times (if test
-            then counted table job name steps tombstone (met job name (record_at name (bucket_count table) steps) value)
-            else passed_on (counted table job name steps tombstone (Read (record_at name (bucket_count table) steps)))))
+        then counted table job name steps tombstone (met job name (record_at name (bucket_count table) steps) value)
+        else passed_on (counted table job name steps tombstone (Read (record_at name (bucket_count table) steps)))))
     at_entry other value is true e =
         let own : bucket_on table name steps ≡ Entry name value = is ∙ ap (λ (l : List ℕ). Entry l value) ((bytes_eq-Decides other name).0 e) in
         ended tombstone (met job name (record_at name (bucket_count table) steps) value) (met_settled job name _ value)
@@ -153,7 +153,7 @@ module _ (table : List Content) (job : Job) (name : List ℕ) (times steps : ℕ
 
     at_bucket : (b : Bucket) → bucket_on table name steps ≡ b →
         Ends table job name (told_times table times (after_bucket
-            (counted table job name steps tombstone (Read (record_at name (bucket_count table) steps))) (record_at name (bucket_count table) steps) b))
+        (counted table job name steps tombstone (Read (record_at name (bucket_count table) steps))) (record_at name (bucket_count table) steps) b))
     at_bucket Free is =
         ended tombstone (missed job name (bucket_count table) (option_or tombstone (Some (record_at name (bucket_count table) steps))))
         (missed_settled job name (bucket_count table) _) (is_free steps tombstone less is passed has refl)

@@ -1,10 +1,10 @@
 -- What stands under a name, among buckets that are any function of their places.
-use Rattle.std.proofs.Common.{◌≡◌, ℕ, zero, suc, ◌+◌, ◌<◌, ◌≤◌, Bool, true, false, List, Option, Some, None, inl, inr, refl, ap, sym, ◌∙◌, subst, arith}
+use Rattle.std.proofs.Common.{◌≡◌, ℕ, zero, suc, ◌<◌, ◌≤◌, Bool, true, false, List, Option, Some, None, inl, inr, refl, ap, sym, ◌∙◌, arith}
 use Rattle.std.specs.Prelude.{if◌then◌else◌}
 use Rattle.std.specs.Option.{option_or}
 use Rattle.std.specs.Str.{bytes_eq}
 use Rattle.std.proofs.lemmas.Slice.Eq.{bytes_eq-Decides}
-use Rattle.std.proofs.lemmas.Bool.{cases_eq, cases_Bool, false_from_ne_true}
+use Rattle.std.proofs.lemmas.Bool.{cases_eq, false_from_ne_true}
 use Rattle.record_model.specs.declared.names.Bucket.{Bucket}
 use Rattle.record_model.specs.declared.names.Bucket.TheVariants.{Free, Tombstone, Entry, Strange}
 use Rattle.record_model.specs.Names.{value_under, value_among, AreWellFormed}
@@ -45,16 +45,16 @@ pub among_first : (f : ℕ → Bucket) (name : List ℕ) (n : ℕ) → AreWellFo
 among_first f name n formed place value less is zero few low = absurd (omega arith)
 among_first f name n formed place value less is (suc m) few low = elim (cases_eq place m) [
   | inl same ↦
-    let here : value_under name (f m) ≡ Some value =
-        ap (λ (k : ℕ). value_under name (f k)) (sym same) ∙ ap (value_under name) is ∙ under_own name value in
-    ap (λ (o : Option (List ℕ)). option_or o (value_among f name m)) here
+      let here : value_under name (f m) ≡ Some value =
+      ap (λ (k : ℕ). value_under name (f k)) (sym same) ∙ ap (value_under name) is ∙ under_own name value in
+      ap (λ (o : Option (List ℕ)). option_or o (value_among f name m)) here
   | inr apart ↦
-    let mine : m < n = omega arith in
-    let here : value_under name (f m) ≡ None =
-        under_other name (f m) (λ more e. apart (formed.differ place m name value more less mine is e)) in
-    let rest : value_among f name m ≡ Some value =
-        among_first f name n formed place value less is m (omega arith) (below place m low apart) in
-    ap (λ (o : Option (List ℕ)). option_or o (value_among f name m)) here ∙ rest
+      let mine : m < n = omega arith in
+      let here : value_under name (f m) ≡ None =
+      under_other name (f m) (λ more e. apart (formed.differ place m name value more less mine is e)) in
+      let rest : value_among f name m ≡ Some value =
+      among_first f name n formed place value less is m (omega arith) (below place m low apart) in
+      ap (λ (o : Option (List ℕ)). option_or o (value_among f name m)) here ∙ rest
 ]
   where
     below : (k m : ℕ) → k < suc m → (k ≡ m → ⊥) → k < m

@@ -6,12 +6,12 @@ use Rattle.record_model.specs.declared.names.Bucket.TheVariants.{Free, Tombstone
 use Rattle.record_model.specs.declared.names.Job.{Job}
 use Rattle.record_model.specs.declared.names.Job.TheVariants.{Find, Put, Remove}
 use Rattle.record_model.specs.declared.names.Ask.{Ask}
-use Rattle.record_model.specs.declared.names.Ask.TheVariants.{Read, Write, End}
+use Rattle.record_model.specs.declared.names.Ask.TheVariants.{Write, End}
 use Rattle.record_model.specs.declared.names.NameAnswer.{NameAnswer}
 use Rattle.record_model.specs.declared.names.NameAnswer.TheVariants as answer
 use Rattle.record_model.specs.State.{Content, content_at}
 use Rattle.record_model.specs.Names.{entry, probed, bucket_count, bucket_at, names, IsWellFormed}
-use Rattle.record_model.specs.Probes.{Probe, record_at, after_written, run_over, with_write}
+use Rattle.record_model.specs.Probes.{record_at, ask, after_written, run_over, with_write}
 use Rattle.name_table.specs.Probing.{IsRead, IsName}
 
 -- a bucket with the entry of another name, and one behind which the probing for a name goes on
@@ -51,7 +51,7 @@ pub record IsFull (table : List Content) (name : List ℕ) (next : Ask) : Type 0
 
 -- where a probe comes to, which does this with a name over the values of a table
 abbrev pub reached : List Content → Job → List ℕ → Ask
-reached table job name = (run_over table job name).next
+reached table job name = ask (run_over table job name)
 
 pub record IsMap (table : List Content) (name : List ℕ) : Type 0 where
   pub find : reached table Find name ≡ End (found (names table name))
@@ -82,6 +82,30 @@ abbrev pub StrangeIsTold : Type 0
 StrangeIsTold = (table : List Content) (job : Job) (name : List ℕ) (number : ℕ) → 1 ≤ bucket_count table →
     (reached table job name ≡ End (answer.Strange number)) ↔ IsFirstStrange table name number
 
+-- the probing meets the name's entry, with this value
+pub record IsMet (table : List Content) (name value : List ℕ) : Type 0 where
+  pub steps : ℕ
+  pub among : steps < bucket_count table
+  pub own : bucket_at table (probed name (bucket_count table) steps) ≡ Entry name value
+  pub before : (fewer : ℕ) → fewer < steps →
+      IsPassed name (bucket_at table (probed name (bucket_count table) fewer))
+
+-- It ends without it, and with no strange bucket: at a free one, or behind all.
+pub record IsMissed (table : List Content) (name : List ℕ) : Type 0 where
+  pub steps : ℕ
+  pub ends : (steps ≡ bucket_count table)
+      ⊎ ((steps < bucket_count table) × (bucket_at table (probed name (bucket_count table) steps) ≡ Free))
+  pub before : (fewer : ℕ) → fewer < steps →
+      IsPassed name (bucket_at table (probed name (bucket_count table) fewer))
+
+abbrev pub MetIsTold : Type 0
+MetIsTold = (table : List Content) (name value : List ℕ) → 1 ≤ bucket_count table →
+    (reached table Find name ≡ End (answer.Found value)) ↔ IsMet table name value
+
+abbrev pub MissedIsTold : Job → Type 0
+MissedIsTold job = (table : List Content) (name : List ℕ) → 1 ≤ bucket_count table →
+    (reached table job name ≡ End answer.Nothing) ↔ IsMissed table name
+
 -- a put finds as many buckets as there are, each with the entry of another name
 pub record HasNoRoom (table : List Content) (job : Job) (name : List ℕ) (many : ℕ) : Type 0 where
   pub value : List ℕ
@@ -97,7 +121,7 @@ FullIsTold = (table : List Content) (job : Job) (name : List ℕ) (many : ℕ) �
 pub record ReadsFew (table : List Content) (job : Job) (name : List ℕ) : Type 0 where
   pub few : (run_over table job name).told ≤ bucket_count table
   pub no_more : ¬ IsRead (reached table job name)
-  pub done : (after_written (run_over table job name)).next ≡ End answer.Done
+  pub done : ask (after_written (run_over table job name)) ≡ End answer.Done
 
 abbrev pub ReadsAreFew : Type 0
 ReadsAreFew = (table : List Content) (job : Job) (name : List ℕ) → 1 ≤ bucket_count table → ReadsFew table job name

@@ -1,7 +1,6 @@
 -- Homes, buckets and lines about names that were worked out by hand. The tables have 32 records, so 16 buckets.
 use Rattle.std.specs.Prelude.{◌≡◌, ℕ, ◌^◌, List, [], ◌∷◌, ◌++◌, replicate, map, slice_set, Some, None}
 use Rattle.std.specs.List.{range_with_len}
-use Rattle.record_model.specs.declared.names.Bucket.{Bucket}
 use Rattle.record_model.specs.declared.names.Bucket.TheVariants.{Free, Tombstone, Entry, Strange}
 use Rattle.record_model.specs.declared.names.Job.{Job}
 use Rattle.record_model.specs.declared.names.Job.TheVariants.{Find, Put, Remove}

@@ -50,10 +50,7 @@ fn read_entry(size: usize, octets: &[u8]) -> Bucket
     let (Some(name), Some(value)) = (Octets::from_slice(name), Octets::from_slice(value)) else {
         unreachable!();
     };
-    Bucket::Entry {
-        name,
-        value,
-    }
+    Bucket::Entry { name, value }
 }
 
 /// The octets of an entry.

@@ -185,10 +185,7 @@ impl Probe {
             tombstone: None,
         };
         let next = Ask::Read(record_next(&work));
-        Probe {
-            work,
-            next,
-        }
+        Probe { work, next }
     }
 
     /// Looks up the value of a name of 1 to 32 octets among so many buckets, at most 1,048,576.

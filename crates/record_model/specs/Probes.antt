@@ -1,5 +1,5 @@
 -- The work of one line about a name: it asks for the values of buckets, one after the other, and for at most one write.
-use Rattle.std.specs.Prelude.{ℕ, zero, suc, ◌+◌, nat_lt, Bool, List, [], Option, Some, None, slice_set, if◌then◌else◌}
+use Rattle.std.specs.Prelude.{ℕ, zero, suc, ◌+◌, nat_lt, List, [], Option, Some, None, slice_set, if◌then◌else◌}
 use Rattle.std.specs.Option.{option_or}
 use Rattle.std.specs.Str.{bytes_eq}
 use Rattle.record_model.specs.declared.names.Bucket.{Bucket}
