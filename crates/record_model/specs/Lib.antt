@@ -6,3 +6,6 @@ pub mod Serial
 pub mod Laws
 pub mod Rows
 pub mod Faults
+pub mod Numbers
+pub mod Names
+pub mod Probes

@@ -3,6 +3,8 @@
 
 mod laws;
 mod lists;
+mod names;
+mod numbers;
 mod rows;
 mod value;
 mod words;
@@ -12,6 +14,8 @@ pub use laws::{
     serial_order, sessions_stay_sound, sizes_stay, turns_follow,
 };
 pub use lists::{Items, Listing};
+pub use names::{Ask, Bucket, Job, NameAnswer};
+pub use numbers::next;
 pub use rows::{
     rows_of_faulty_steps, rows_of_full_pages, rows_of_marks, rows_of_ranges, rows_of_serial_order,
     rows_of_sessions, rows_of_the_budget, rows_of_touches, rows_of_values,

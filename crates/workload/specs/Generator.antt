@@ -1,10 +1,7 @@
 -- The numbers of a workload.
-use Rattle.std.specs.Prelude.{ℕ, zero, suc, ◌+◌, ◌*◌, ◌/◌, ◌%◌, ◌^◌, List}
+use Rattle.std.specs.Prelude.{ℕ, zero, suc, ◌/◌, ◌%◌, ◌^◌, List}
 use Rattle.std.specs.Int.{w64, to_be_bytes}
-
--- the number after another one
-abbrev pub following : ℕ → ℕ
-following x = (x * 6364136223846793005 + 1442695040888963407) % 2 ^ 64
+pub use Rattle.record_model.specs.Numbers.{following}
 
 -- the number that a seed gives after so many turns
 abbrev pub generated : ℕ → ℕ → ℕ

@@ -8,8 +8,9 @@ mod lives;
 mod rows;
 mod scripts;
 
-pub use generator::{load_set, next};
+pub use generator::load_set;
 pub use laws::{scripts_are_cut, stop_lines_are_read};
 pub use lives::{STOPS_MAX, life};
+pub use record_model::next;
 pub use rows::{rows_of_generated_numbers, rows_of_scripts};
 pub use scripts::Life;

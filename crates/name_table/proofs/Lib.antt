@@ -1,0 +1,7 @@
+pub mod Ring
+pub mod Values
+pub mod Changes
+pub mod Runs
+pub mod NameLaws
+pub mod FirstLaws
+pub mod MetLaws

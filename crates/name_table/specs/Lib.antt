@@ -1,0 +1,3 @@
+pub mod Probing
+pub mod Laws
+pub mod Rows

@@ -1,0 +1,5 @@
+//! Tests of `name_table`.
+#![tactic(auto)]
+
+#[cfg(test)]
+mod tests;
