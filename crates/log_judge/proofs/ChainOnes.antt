@@ -7,7 +7,7 @@ use Rattle.std.proofs.Math.Seq.{get_or-append_seam}
 use Rattle.log_records.specs.declared.log_record.LogRecord.{LogRecord}
 use Rattle.log_records.specs.declared.log_record.LogRecord.TheVariants.{Begin, Update, Clr, Commit, End}
 use Rattle.log_records.specs.Log.{Entry, is_update}
-use Rattle.log_records.specs.Unfinished.{is_clr, prev_of, open_by, open_updates}
+use Rattle.log_records.specs.Unfinished.{is_clr, open_by, open_updates}
 use Rattle.log_records.specs.Sound.{Compensates, Undoes, last_number}
 use Rattle.log_laws.proofs.Orders.{InTurn-append}
 use Rattle.log_judge.specs.declared.chain.Pending.{Pending}
