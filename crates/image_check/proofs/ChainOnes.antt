@@ -113,7 +113,7 @@ last_written records e m old new on updates are = grind (arith, common_steps, na
 pub other_same : (t : ℕ) (records : List Entry) (e : Entry) → is_of t e ≡ false → entries_of t (records ++ e ∷ []) ≡ entries_of t records
 other_same t records e other = filter-append (is_of t) records (e ∷ []) ∙ ap (λ (b : Bool). entries_of t records ++ cond b (e ∷ []) []) other ∙ append-nil (entries_of t records)
 
-own_more : (t : ℕ) (records : List Entry) (e : Entry) → is_of t e ≡ true → entries_of t (records ++ e ∷ []) ≡ entries_of t records ++ e ∷ []
+pub own_more : (t : ℕ) (records : List Entry) (e : Entry) → is_of t e ≡ true → entries_of t (records ++ e ∷ []) ≡ entries_of t records ++ e ∷ []
 own_more t records e own = filter-append (is_of t) records (e ∷ []) ∙ ap (λ (b : Bool). entries_of t records ++ cond b (e ∷ []) []) own
 
 pub kept_other : (t : ℕ) (c : Chain) (records : List Entry) (e : Entry) → is_of t e ≡ false → IsKept t c (drop 1 (entries_of t records)) → IsKept t c (drop 1 (entries_of t (records ++ e ∷ [])))

@@ -22,7 +22,7 @@ use Rattle.image_check.specs.Chaining.{IsKept, Keeps, StandsIn, StandsThere, Bre
 use Rattle.image_form.specs.Verdict.{LosersCanBeUndone}
 use Rattle.log_laws.proofs.Parts.{InTurn-right, all_below}
 use Rattle.log_records.proofs.Entries.{in_order_left}
-use Rattle.image_check.proofs.ChainOnes.{other_same}
+use Rattle.image_check.proofs.ChainOnes.{other_same, own_more}
 use Rattle.image_check.proofs.HeldOnes.{chain_listed}
 use Rattle.image_check.proofs.OpenOnes.{begin_only}
 use Rattle.log_laws.proofs.Orderly.{fresh_of}
@@ -128,6 +128,21 @@ module _ (log records : List Entry) (e : Entry) (at : StandsIn log records e) (o
   pub chains_break : goes_on ≡ false → ((t : ℕ) → get nat_eq new.chains t ≡ cond (txn_of e == t) None (get nat_eq old.chains t)) →
       (least : ℕ) → (least ≡ txn_of e) ⊎ (old.broken ≡ Some least) → new.broken ≡ Some least → AreChains log (records ++ e ∷ []) new
   chains_break off updates least which found = grind (arith, common_steps, none-some, eqb-true, elsewhere, nat_eq, there_of, chain_broken)
+
+-- its Begin
+pub chains_begin : (log records : List Entry) (e : Entry) → StandsIn log records e → (chains : Chains) → e.lsn ≡ txn_of e → AreChains log records chains → AreChains log (records ++ e ∷ []) chains
+chains_begin log records e at chains begins is = record {
+  kept = λ t listed stands. subst (Keeps t (get nat_eq chains.chains t)) (sym (same t listed)) (is.kept t listed stands);
+  broken = is.broken;
+}
+  where
+    same : (t : ℕ) → Listed log t → drop 1 (entries_of t (records ++ e ∷ [])) ≡ drop 1 (entries_of t records)
+    same t listed = elim (cases_Bool (is_of t e)) [
+      | inl own ↦
+          let none : entries_of t records ≡ [] = (there_of log records e at t listed).first own (begins ∙ eqb-true (txn_of e) t own) in
+          ap (drop 1) (own_more t records e own ∙ ap (λ (l : List Entry). l ++ e ∷ []) none) ∙ sym (ap (drop 1) none)
+      | inr other ↦ ap (drop 1) (other_same t records e other)
+    ]
 
 -- one of another one
 pub chains_same : (log records : List Entry) (e : Entry) (chains : Chains) → list_any (λ n. n == txn_of e) (losers log) ≡ false → AreChains log records chains → AreChains log (records ++ e ∷ []) chains

@@ -17,8 +17,8 @@ use log_records::LogRecord;
 use site::Stop;
 use std::alloc::Global;
 
-/// What is kept of each unfinished transaction that has its Begin in the log, and the least of those that their records
-/// don't undo.
+/// What is kept of each unfinished transaction that has its Begin in the log and a record behind it, and the least of
+/// those that their records don't undo.
 #[derive(Drop)]
 pub struct Chains {
     pub alloc: Global,
@@ -97,6 +97,9 @@ impl Chains {
             → AreChains log (records ++ record { lsn = lsn; rec = rec } ∷ []) self.new) }
     {
         let txn = txn_of(lsn, &rec);
+        if lsn == txn {
+            return Ok(());
+        }
         let mut chain = self.take(txn);
         let goes_on = match chain.hear(txn, lsn, rec) {
             Ok(goes_on) => goes_on,

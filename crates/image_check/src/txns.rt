@@ -1,6 +1,6 @@
 // The transactions that are open, record by record.
-ghost use Rattle.std.specs.Prelude.{◌≡◌, ◌↔◌, ◌++◌, ◌∷◌, [], ◌==◌, ℕ, nat_eq, true, false, if◌then◌else◌, List, IsTrue};
-ghost use Rattle.indexmap.specs.IndexSet.{contains};
+ghost use Rattle.std.specs.Prelude.{◌≡◌, ◌↔◌, ◌++◌, ◌∷◌, [], ◌==◌, ℕ, true, false, if◌then◌else◌, List, IsTrue};
+ghost use Rattle.lsn_set.specs.Held.{has};
 ghost use Rattle.log_records.specs.declared.log_record.LogRecord.{LogRecord};
 ghost use Rattle.log_records.specs.Log.{Entry, txn_by, is_closing};
 ghost use Rattle.log_records.specs.Unfinished.{is_begin};
@@ -11,8 +11,8 @@ ghost use Rattle.image_check.specs.Judging.{OrMemory};
 ghost use Rattle.image_check.specs.Opening.{AreOpen, MayStand};
 
 use checkpoint::Master;
-use indexmap::IndexSet;
 use log_records::LogRecord;
+use lsn_set::LsnSet;
 use site::Stop;
 use std::alloc::Global;
 
@@ -53,7 +53,7 @@ pub fn closes(rec: &LogRecord) -> bool
 /// The transactions that are known from the redo block on, and that no record has closed.
 #[derive(Drop)]
 pub struct OpenTxns {
-    txns: IndexSet<u64>,
+    txns: LsnSet,
 }
 
 impl OpenTxns {
@@ -61,10 +61,10 @@ impl OpenTxns {
     pub fn start(alloc: Global, master: &Master) -> Result<OpenTxns, Stop>
         ensures { OrMemory result (λ set. AreOpen (seen master.now) [] set.txns) }
     {
-        let mut txns = IndexSet::new(alloc);
+        let mut txns = LsnSet::new(alloc);
         for place in 0..master.active.len() {
             let (begin, _last) = master.active.at(place);
-            let Ok(_) = txns.insert(begin) else {
+            let Ok(()) = txns.insert(begin) else {
                 return Err(Stop::Memory);
             };
         }
@@ -87,15 +87,15 @@ impl OpenTxns {
         if begins(rec) {
             return true;
         }
-        self.txns.contains(&txn)
+        self.txns.contains(txn)
     }
 
     // A transaction begins.
     fn begin(&mut self, txn: u64) -> Result<(), Stop>
-        ensures { OrMemory result (λ done. (t : ℕ) → contains nat_eq self.new.txns t
-            ≡ (if txn == t then true else contains nat_eq self.old.txns t)) }
+        ensures { OrMemory result (λ done. (t : ℕ) → has self.new.txns t
+            ≡ (if txn == t then true else has self.old.txns t)) }
     {
-        let Ok(_) = self.txns.insert(txn) else {
+        let Ok(()) = self.txns.insert(txn) else {
             return Err(Stop::Memory);
         };
         Ok(())
@@ -103,10 +103,10 @@ impl OpenTxns {
 
     // A transaction is closed.
     fn close(&mut self, txn: u64)
-        ensures { (t : ℕ) → contains nat_eq self.new.txns t
-            ≡ (if txn == t then false else contains nat_eq self.old.txns t) }
+        ensures { (t : ℕ) → has self.new.txns t
+            ≡ (if txn == t then false else has self.old.txns t) }
     {
-        self.txns.swap_remove(&txn);
+        self.txns.remove(txn);
     }
 
     /// Hears a record that may come next.

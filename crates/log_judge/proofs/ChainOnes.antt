@@ -7,12 +7,11 @@ use Rattle.std.proofs.Math.Seq.{get_or-append_seam}
 use Rattle.log_records.specs.declared.log_record.LogRecord.{LogRecord}
 use Rattle.log_records.specs.declared.log_record.LogRecord.TheVariants.{Begin, Update, Clr, Commit, End}
 use Rattle.log_records.specs.Log.{Entry, is_update}
-use Rattle.log_records.specs.Unfinished.{is_clr, prev_of, open_by, open_updates}
+use Rattle.log_records.specs.Unfinished.{is_clr, open_by, open_updates}
 use Rattle.log_records.specs.Sound.{Compensates, Undoes, last_number}
 use Rattle.log_laws.proofs.Orders.{InTurn-append}
-use Rattle.log_judge.specs.declared.chain.Chain.{Chain}
 use Rattle.log_judge.specs.declared.chain.Pending.{Pending}
-use Rattle.log_judge.specs.Chaining.{IsKept, begin_at, pending_of}
+use Rattle.log_judge.specs.Chaining.{IsKept, Kept, begin_at, pending_of}
 use Rattle.log_judge.specs.Rules.{Links}
 
 -- One record more.
@@ -32,8 +31,8 @@ map_drop : (us : List Entry) → drop 1 (map kept_of us) ≡ map kept_of (drop 1
 map_drop [] = refl
 map_drop (u ∷ us) = refl
 
-pub kept_update : (t : ℕ) (c : Chain) (new : List Pending) (rest : List Entry) (lsn : ℕ) (rec : LogRecord) → is_update rec ≡ true → reverse new ≡ pending_of rec ∷ reverse c.updates.items → IsKept t c rest →
-    Links (begin_at t ∷ rest) (record { lsn = lsn; rec = rec }) → (d : Chain) → d.last ≡ lsn → d.updates.items ≡ new → IsKept t d (rest ++ record { lsn = lsn; rec = rec } ∷ [])
+pub kept_update : (t : ℕ) (c : Kept) (new : List Pending) (rest : List Entry) (lsn : ℕ) (rec : LogRecord) → is_update rec ≡ true → reverse new ≡ pending_of rec ∷ reverse c.updates → IsKept t c rest →
+    Links (begin_at t ∷ rest) (record { lsn = lsn; rec = rec }) → (d : Kept) → d.last ≡ lsn → d.updates ≡ new → IsKept t d (rest ++ record { lsn = lsn; rec = rec } ∷ [])
 kept_update t c new rest lsn (Update txn prev page slot before after) is pushed k goes d last items =
     let e : Entry = record { lsn = lsn; rec = Update txn prev page slot before after } in
     record {
@@ -56,8 +55,8 @@ undoes_none (u ∷ us) (Commit txn number) a b undoes = undoes
 undoes_none [] (End txn) a b undoes = undoes
 undoes_none (u ∷ us) (End txn) a b undoes = undoes
 
-pub kept_clr : (t : ℕ) (c : Chain) (new : List Pending) (rest : List Entry) (lsn : ℕ) (rec : LogRecord) → is_update rec ≡ false → reverse new ≡ drop 1 (reverse c.updates.items) → IsKept t c rest →
-    Links (begin_at t ∷ rest) (record { lsn = lsn; rec = rec }) → (d : Chain) → d.last ≡ lsn → d.updates.items ≡ new → IsKept t d (rest ++ record { lsn = lsn; rec = rec } ∷ [])
+pub kept_clr : (t : ℕ) (c : Kept) (new : List Pending) (rest : List Entry) (lsn : ℕ) (rec : LogRecord) → is_update rec ≡ false → reverse new ≡ drop 1 (reverse c.updates) → IsKept t c rest →
+    Links (begin_at t ∷ rest) (record { lsn = lsn; rec = rec }) → (d : Kept) → d.last ≡ lsn → d.updates ≡ new → IsKept t d (rest ++ record { lsn = lsn; rec = rec } ∷ [])
 kept_clr t c new rest lsn (Clr txn prev undo_next page slot after) is popped k goes d last items =
     let e : Entry = record { lsn = lsn; rec = Clr txn prev undo_next page slot after } in
     record {

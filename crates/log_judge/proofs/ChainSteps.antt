@@ -6,7 +6,6 @@ use Rattle.std.proofs.lemmas.Bool.{eqb-true, eq-eqb, and_right}
 use Rattle.std.proofs.lemmas.List.Folds.{list_any-append}
 use Rattle.std.proofs.lemmas.Option.{none-some}
 use Rattle.std_lemmas.proofs.Bools.{or_without_last}
-use Rattle.indexmap.specs.IndexMap.{get}
 use Rattle.indexmap.specs.IndexSet.{IndexSet, contains, index_set_len}
 use Rattle.log_records.specs.declared.log_record.LogRecord.{LogRecord}
 use Rattle.log_records.specs.declared.log_record.LogRecord.TheVariants.{Begin, Update, Clr, Commit, End}
@@ -18,9 +17,8 @@ use Rattle.log_laws.proofs.Values.{closed_push, closed_same}
 use Rattle.log_laws.proofs.Appends.{fresh_open, fresh_entries}
 use Rattle.log_laws.proofs.Losers.{entries_other, entries_own}
 use Rattle.log_laws.proofs.Parts.{InTurn-right}
-use Rattle.log_judge.specs.declared.chain.Chain.{Chain}
 use Rattle.log_judge.specs.declared.chains.Chains.{Chains}
-use Rattle.log_judge.specs.Chaining.{AreChains, Knows, IsKept, begin_at}
+use Rattle.log_judge.specs.Chaining.{AreChains, Kept, Knows, IsKept, begin_at, kept_of}
 use Rattle.log_judge.specs.Rules.{Links, IsLinked, LosersAreLinked, is_unfinished}
 
 abbrev with : List Entry → Entry → List Entry
@@ -87,67 +85,67 @@ unfinished_fresh records lsn fresh = ap (λ (b : Bool). b && not (is_closed reco
 -- What is known of each.
 
 pub chains_step : (records : List Entry) (e : Entry) (old new : Chains) →
-    ((t : ℕ) → is_of t e ≡ false → (get nat_eq new.chains t ≡ get nat_eq old.chains t) × (contains nat_eq new.broken t ≡ contains nat_eq old.broken t)) →
-    (is_unfinished (with records e) (txn_of e) ≡ true → Knows (txn_of e) (get nat_eq new.chains (txn_of e)) (contains nat_eq new.broken (txn_of e)) (entries_of (txn_of e) (with records e))) →
-    (is_unfinished (with records e) (txn_of e) ≡ false → (get nat_eq new.chains (txn_of e) ≡ None) × (contains nat_eq new.broken (txn_of e) ≡ false)) →
+    ((t : ℕ) → is_of t e ≡ false → (kept_of new t ≡ kept_of old t) × (contains nat_eq new.broken t ≡ contains nat_eq old.broken t)) →
+    (is_unfinished (with records e) (txn_of e) ≡ true → Knows (txn_of e) (kept_of new (txn_of e)) (contains nat_eq new.broken (txn_of e)) (entries_of (txn_of e) (with records e))) →
+    (is_unfinished (with records e) (txn_of e) ≡ false → (kept_of new (txn_of e) ≡ None) × (contains nat_eq new.broken (txn_of e) ≡ false)) →
     AreChains records old → AreChains (with records e) new
 chains_step records e old new same own none is = record {
   known = λ t lives. known t (is_of t e) refl lives;
   others = λ t gone. others t (is_of t e) refl gone;
 }
   where
-    known : (t : ℕ) (b : Bool) → is_of t e ≡ b → is_unfinished (with records e) t ≡ true → Knows t (get nat_eq new.chains t) (contains nat_eq new.broken t) (entries_of t (with records e))
+    known : (t : ℕ) (b : Bool) → is_of t e ≡ b → is_unfinished (with records e) t ≡ true → Knows t (kept_of new t) (contains nat_eq new.broken t) (entries_of t (with records e))
     known t true here lives =
         let at : txn_of e ≡ t = eqb-true (txn_of e) t here in
-        subst (λ (s : ℕ). Knows s (get nat_eq new.chains s) (contains nat_eq new.broken s) (entries_of s (with records e))) at
+        subst (λ (s : ℕ). Knows s (kept_of new s) (contains nat_eq new.broken s) (entries_of s (with records e))) at
         (own (ap (is_unfinished (with records e)) at ∙ lives))
     known t false other lives =
         let before = is.known t (sym (unfinished_other records e t other) ∙ lives) in
         let keeps = same t other in
-        let one : Knows t (get nat_eq new.chains t) (contains nat_eq old.broken t) (entries_of t records) = subst (λ (o : Option Chain). Knows t o (contains nat_eq old.broken t) (entries_of t records)) (sym keeps.0) before in
-        let two : Knows t (get nat_eq new.chains t) (contains nat_eq new.broken t) (entries_of t records) = subst (λ (b : Bool). Knows t (get nat_eq new.chains t) b (entries_of t records)) (sym keeps.1) one in
-        subst (Knows t (get nat_eq new.chains t) (contains nat_eq new.broken t)) (sym (entries_other records e t other)) two
+        let one : Knows t (kept_of new t) (contains nat_eq old.broken t) (entries_of t records) = subst (λ (o : Option Kept). Knows t o (contains nat_eq old.broken t) (entries_of t records)) (sym keeps.0) before in
+        let two : Knows t (kept_of new t) (contains nat_eq new.broken t) (entries_of t records) = subst (λ (b : Bool). Knows t (kept_of new t) b (entries_of t records)) (sym keeps.1) one in
+        subst (Knows t (kept_of new t) (contains nat_eq new.broken t)) (sym (entries_other records e t other)) two
 
-    others : (t : ℕ) (b : Bool) → is_of t e ≡ b → is_unfinished (with records e) t ≡ false → (get nat_eq new.chains t ≡ None) × (contains nat_eq new.broken t ≡ false)
+    others : (t : ℕ) (b : Bool) → is_of t e ≡ b → is_unfinished (with records e) t ≡ false → (kept_of new t ≡ None) × (contains nat_eq new.broken t ≡ false)
     others t true here gone =
         let at : txn_of e ≡ t = eqb-true (txn_of e) t here in
-        subst (λ (s : ℕ). (get nat_eq new.chains s ≡ None) × (contains nat_eq new.broken s ≡ false)) at (none (ap (is_unfinished (with records e)) at ∙ gone))
+        subst (λ (s : ℕ). (kept_of new s ≡ None) × (contains nat_eq new.broken s ≡ false)) at (none (ap (is_unfinished (with records e)) at ∙ gone))
     others t false other gone =
         let before = is.others t (sym (unfinished_other records e t other) ∙ gone) in
         let keeps = same t other in
         (keeps.0 ∙ before.0, keeps.1 ∙ before.1)
 
 -- A transaction begins.
-pub chains_begin : (records : List Entry) (lsn : ℕ) (c : Chain) (old new : Chains) → IsFresh lsn records → c.last ≡ lsn → c.updates.items ≡ [] →
-    ((t : ℕ) → get nat_eq new.chains t ≡ cond (lsn == t) (Some c) (get nat_eq old.chains t)) → new.broken ≡ old.broken → AreChains records old → AreChains (with records (begin_at lsn)) new
+pub chains_begin : (records : List Entry) (lsn : ℕ) (c : Kept) (old new : Chains) → IsFresh lsn records → c.last ≡ lsn → c.updates ≡ [] →
+    ((t : ℕ) → kept_of new t ≡ cond (lsn == t) (Some c) (kept_of old t)) → new.broken ≡ old.broken → AreChains records old → AreChains (with records (begin_at lsn)) new
 chains_begin records lsn c old new fresh last none puts same is =
     let e : Entry = begin_at lsn in
     let before = is.others lsn (unfinished_fresh records lsn fresh) in
-    let there : get nat_eq new.chains lsn ≡ Some c = puts lsn ∙ ap (λ (b : Bool). cond b (Some c) (get nat_eq old.chains lsn)) (eq-eqb lsn lsn refl) in
+    let there : kept_of new lsn ≡ Some c = puts lsn ∙ ap (λ (b : Bool). cond b (Some c) (kept_of old lsn)) (eq-eqb lsn lsn refl) in
     let whole : contains nat_eq new.broken lsn ≡ false = ap (λ s. contains nat_eq s lsn) same ∙ before.1 in
     let entries : entries_of lsn (with records e) ≡ begin_at lsn ∷ [] = entries_own records e lsn (own_is e) ∙ ap (λ (l : List Entry). l ++ e ∷ []) (fresh_entries lsn records fresh) in
-    chains_step records e old new (λ t other. (puts t ∙ ap (λ (b : Bool). cond b (Some c) (get nat_eq old.chains t)) other, ap (λ s. contains nat_eq s t) same))
+    chains_step records e old new (λ t other. (puts t ∙ ap (λ (b : Bool). cond b (Some c) (kept_of old t)) other, ap (λ s. contains nat_eq s t) same))
     (λ lives. knows there whole entries)
     (λ gone. absurd (true≢false (sym (unfinished_begun records lsn fresh) ∙ gone))) is
   where
     first : IsKept lsn c []
     first = record { links = tt; last = last; left = ap (λ (l : List _). reverse l) none }
 
-    knows : {o : Option Chain} {b : Bool} {entries : List Entry} → o ≡ Some c → b ≡ false → entries ≡ begin_at lsn ∷ [] → Knows lsn o b entries
+    knows : {o : Option Kept} {b : Bool} {entries : List Entry} → o ≡ Some c → b ≡ false → entries ≡ begin_at lsn ∷ [] → Knows lsn o b entries
     knows {o = o} {b = b} {entries = entries} at whole are =
-        subst (λ (x : Option Chain). Knows lsn x b entries) (sym at)
+        subst (λ (x : Option Kept). Knows lsn x b entries) (sym at)
         (subst (λ (l : List Entry). (b ≡ false) × (l ≡ begin_at lsn ∷ drop 1 l) × IsKept lsn c (drop 1 l)) (sym are) (whole, refl, first))
 
 -- A transaction is closed.
 pub chains_closed : (records : List Entry) (e : Entry) (old new : Chains) → is_closing e.rec ≡ true →
-    ((t : ℕ) → get nat_eq new.chains t ≡ cond (txn_of e == t) None (get nat_eq old.chains t)) → ((t : ℕ) → contains nat_eq new.broken t ≡ cond (txn_of e == t) false (contains nat_eq old.broken t)) →
+    ((t : ℕ) → kept_of new t ≡ cond (txn_of e == t) None (kept_of old t)) → ((t : ℕ) → contains nat_eq new.broken t ≡ cond (txn_of e == t) false (contains nat_eq old.broken t)) →
     AreChains records old → AreChains (with records e) new
 chains_closed records e old new closing takes heals is =
     chains_step records e old new
-    (λ t other. (takes t ∙ ap (λ (b : Bool). cond b None (get nat_eq old.chains t)) other, heals t ∙ ap (λ (b : Bool). cond b false (contains nat_eq old.broken t)) other))
+    (λ t other. (takes t ∙ ap (λ (b : Bool). cond b None (kept_of old t)) other, heals t ∙ ap (λ (b : Bool). cond b false (contains nat_eq old.broken t)) other))
     (λ lives. absurd (true≢false (sym lives ∙ unfinished_closed records e closing)))
     (λ gone. (
-      takes (txn_of e) ∙ ap (λ (b : Bool). cond b None (get nat_eq old.chains (txn_of e))) (own_is e),
+      takes (txn_of e) ∙ ap (λ (b : Bool). cond b None (kept_of old (txn_of e))) (own_is e),
       heals (txn_of e) ∙ ap (λ (b : Bool). cond b false (contains nat_eq old.broken (txn_of e))) (own_is e),
     )) is
 
@@ -187,68 +185,68 @@ module _ (records : List Entry) (e : Entry) (old new : Chains) (no_begin : is_be
   entries_now = entries_own records e t (own_is e)
 
   -- nothing is kept of it
-  pub chains_unknown : get nat_eq old.chains t ≡ None → ((s : ℕ) → get nat_eq new.chains s ≡ cond (t == s) None (get nat_eq old.chains s)) → new.broken ≡ old.broken → AreChains (with records e) new
+  pub chains_unknown : kept_of old t ≡ None → ((s : ℕ) → kept_of new s ≡ cond (t == s) None (kept_of old s)) → new.broken ≡ old.broken → AreChains (with records e) new
   chains_unknown absent takes same =
-      let gone : get nat_eq new.chains t ≡ None = takes t ∙ ap (λ (b : Bool). cond b None (get nat_eq old.chains t)) (own_is e) in
+      let gone : kept_of new t ≡ None = takes t ∙ ap (λ (b : Bool). cond b None (kept_of old t)) (own_is e) in
       let whole : contains nat_eq new.broken t ≡ contains nat_eq old.broken t = ap (λ s. contains nat_eq s t) same in
-      chains_step records e old new (λ s other. (takes s ∙ ap (λ (b : Bool). cond b None (get nat_eq old.chains s)) other, ap (λ x. contains nat_eq x s) same))
+      chains_step records e old new (λ s other. (takes s ∙ ap (λ (b : Bool). cond b None (kept_of old s)) other, ap (λ x. contains nat_eq x s) same))
       (λ lives.
-      let before : Knows t None (contains nat_eq old.broken t) (entries_of t records) = subst (λ (o : Option Chain). Knows t o (contains nat_eq old.broken t) (entries_of t records)) absent (is.known t (sym lives_still ∙ lives)) in
-      subst (λ (o : Option Chain). Knows t o (contains nat_eq new.broken t) (entries_of t (with records e))) (sym gone)
+      let before : Knows t None (contains nat_eq old.broken t) (entries_of t records) = subst (λ (o : Option Kept). Knows t o (contains nat_eq old.broken t) (entries_of t records)) absent (is.known t (sym lives_still ∙ lives)) in
+      subst (λ (o : Option Kept). Knows t o (contains nat_eq new.broken t) (entries_of t (with records e))) (sym gone)
       (whole ∙ before.0, λ linked. before.1 (linked_less t (entries_of t records) e no_begin (subst (IsLinked t) entries_now linked))))
       (λ dead. let before = is.others t (sym lives_still ∙ dead) in (gone, whole ∙ before.1)) is
 
-  module _ (c : Chain) (there : get nat_eq old.chains t ≡ Some c) where
+  module _ (c : Kept) (there : kept_of old t ≡ Some c) where
     lives_now : (b : Bool) → is_unfinished records t ≡ b → is_unfinished records t ≡ true
     lives_now true lives = lives
     lives_now false dead = absurd (none-some c (sym (is.others t dead).0 ∙ there))
 
     pub kept_there : (contains nat_eq old.broken t ≡ false) × (entries_of t records ≡ begin_at t ∷ drop 1 (entries_of t records)) × IsKept t c (drop 1 (entries_of t records))
-    kept_there = subst (λ (o : Option Chain). Knows t o (contains nat_eq old.broken t) (entries_of t records)) there (is.known t (lives_now (is_unfinished records t) refl))
+    kept_there = subst (λ (o : Option Kept). Knows t o (contains nat_eq old.broken t) (entries_of t records)) there (is.known t (lives_now (is_unfinished records t) refl))
 
     longer : entries_of t (with records e) ≡ begin_at t ∷ (drop 1 (entries_of t records) ++ e ∷ [])
     longer = entries_now ∙ ap (λ (l : List Entry). l ++ e ∷ []) kept_there.1
 
     -- it isn't linked
-    pub chains_break : (Links (begin_at t ∷ drop 1 (entries_of t records)) e → ⊥) → ((s : ℕ) → get nat_eq new.chains s ≡ cond (t == s) None (get nat_eq old.chains s)) →
+    pub chains_break : (Links (begin_at t ∷ drop 1 (entries_of t records)) e → ⊥) → ((s : ℕ) → kept_of new s ≡ cond (t == s) None (kept_of old s)) →
         ((s : ℕ) → contains nat_eq new.broken s ≡ cond (t == s) true (contains nat_eq old.broken s)) → AreChains (with records e) new
     chains_break off takes breaks =
-        let gone : get nat_eq new.chains t ≡ None = takes t ∙ ap (λ (b : Bool). cond b None (get nat_eq old.chains t)) (own_is e) in
+        let gone : kept_of new t ≡ None = takes t ∙ ap (λ (b : Bool). cond b None (kept_of old t)) (own_is e) in
         let marked : contains nat_eq new.broken t ≡ true = breaks t ∙ ap (λ (b : Bool). cond b true (contains nat_eq old.broken t)) (own_is e) in
         chains_step records e old new
-        (λ s other. (takes s ∙ ap (λ (b : Bool). cond b None (get nat_eq old.chains s)) other, breaks s ∙ ap (λ (b : Bool). cond b true (contains nat_eq old.broken s)) other))
-        (λ lives. subst (λ (o : Option Chain). Knows t o (contains nat_eq new.broken t) (entries_of t (with records e))) (sym gone)
+        (λ s other. (takes s ∙ ap (λ (b : Bool). cond b None (kept_of old s)) other, breaks s ∙ ap (λ (b : Bool). cond b true (contains nat_eq old.broken s)) other))
+        (λ lives. subst (λ (o : Option Kept). Knows t o (contains nat_eq new.broken t) (entries_of t (with records e))) (sym gone)
         (marked, λ linked. off (linked_last t (drop 1 (entries_of t records)) e (subst (IsLinked t) longer linked))))
         (λ dead. absurd (true≢false (sym (lives_now (is_unfinished records t) refl) ∙ sym lives_still ∙ dead))) is
 
     -- it is
-    pub chains_go_on : (d : Chain) → IsKept t d (drop 1 (entries_of t records) ++ e ∷ []) → ((s : ℕ) → get nat_eq new.chains s ≡ cond (t == s) (Some d) (get nat_eq old.chains s)) → new.broken ≡ old.broken → AreChains (with records e) new
+    pub chains_go_on : (d : Kept) → IsKept t d (drop 1 (entries_of t records) ++ e ∷ []) → ((s : ℕ) → kept_of new s ≡ cond (t == s) (Some d) (kept_of old s)) → new.broken ≡ old.broken → AreChains (with records e) new
     chains_go_on d kept puts same =
-        let at : get nat_eq new.chains t ≡ Some d = puts t ∙ ap (λ (b : Bool). cond b (Some d) (get nat_eq old.chains t)) (own_is e) in
+        let at : kept_of new t ≡ Some d = puts t ∙ ap (λ (b : Bool). cond b (Some d) (kept_of old t)) (own_is e) in
         let whole : contains nat_eq new.broken t ≡ false = ap (λ s. contains nat_eq s t) same ∙ kept_there.0 in
-        chains_step records e old new (λ s other. (puts s ∙ ap (λ (b : Bool). cond b (Some d) (get nat_eq old.chains s)) other, ap (λ x. contains nat_eq x s) same))
-        (λ lives. subst (λ (o : Option Chain). Knows t o (contains nat_eq new.broken t) (entries_of t (with records e))) (sym at)
+        chains_step records e old new (λ s other. (puts s ∙ ap (λ (b : Bool). cond b (Some d) (kept_of old s)) other, ap (λ x. contains nat_eq x s) same))
+        (λ lives. subst (λ (o : Option Kept). Knows t o (contains nat_eq new.broken t) (entries_of t (with records e))) (sym at)
         (whole, longer ∙ ap (λ (l : List Entry). begin_at t ∷ drop 1 l) (sym longer), subst (λ (l : List Entry). IsKept t d (drop 1 l)) (sym longer) kept))
         (λ dead. absurd (true≢false (sym (lives_now (is_unfinished records t) refl) ∙ sym lives_still ∙ dead))) is
 
 -- At the end.
 
 pub none_broken : (records : List Entry) (chains : Chains) → ((t : ℕ) → contains nat_eq chains.broken t ≡ false) → AreChains records chains → LosersAreLinked records
-none_broken records chains none is t lives = by (get nat_eq chains.chains t) (is.known t lives)
+none_broken records chains none is t lives = by (kept_of chains t) (is.known t lives)
   where
-    by : (o : Option Chain) → Knows t o (contains nat_eq chains.broken t) (entries_of t records) → IsLinked t (entries_of t records)
+    by : (o : Option Kept) → Knows t o (contains nat_eq chains.broken t) (entries_of t records) → IsLinked t (entries_of t records)
     by (Some c) knows = record { begins = knows.1; links = knows.2.links }
     by None knows = absurd (true≢false (sym knows.0 ∙ none t))
 
 pub one_broken : (records : List Entry) (chains : Chains) (t : ℕ) → contains nat_eq chains.broken t ≡ true → AreChains records chains → LosersAreLinked records → ⊥
 one_broken records chains t marked is linked = at (is_unfinished records t) refl
   where
-    by : (o : Option Chain) → Knows t o (contains nat_eq chains.broken t) (entries_of t records) → IsLinked t (entries_of t records) → ⊥
+    by : (o : Option Kept) → Knows t o (contains nat_eq chains.broken t) (entries_of t records) → IsLinked t (entries_of t records) → ⊥
     by (Some c) knows one = true≢false (sym marked ∙ knows.0)
     by None knows one = knows.1 one
 
     at : (b : Bool) → is_unfinished records t ≡ b → ⊥
-    at true lives = by (get nat_eq chains.chains t) (is.known t lives) (linked t lives)
+    at true lives = by (kept_of chains t) (is.known t lives) (linked t lives)
     at false dead = true≢false (sym marked ∙ (is.others t dead).1)
 
 -- no transaction is in a set without keys, and one in another

@@ -1,6 +1,6 @@
 -- Which transactions are open after one record more.
 use Rattle.std.proofs.Common.{◌≡◌, ℕ, ◌*◌, Bool, true, false, true≢false, not, ◌&&◌, ◌||◌, cond, List, [], ◌∷◌, ◌++◌, refl, sym, ap, ◌∙◌}
-use Rattle.std.specs.Prelude.{map, nat_eq, nat_le, ◌==◌}
+use Rattle.std.specs.Prelude.{map, nat_le, ◌==◌}
 use Rattle.std.specs.List.{list_any}
 use Rattle.std.proofs.lemmas.List.Elements.{filter-append}
 use Rattle.std.proofs.lemmas.List.Folds.{list_any-append}
@@ -15,7 +15,8 @@ use Rattle.log_laws.specs.Follow.{IsFresh}
 use Rattle.log_laws.proofs.Values.{closed_push}
 use Rattle.log_laws.proofs.Appends.{fresh_open}
 use Rattle.checkpoint.specs.declared.pairs.Pair.{Pair}
-use Rattle.indexmap.specs.IndexSet.{IndexSet, contains}
+use Rattle.lsn_set.specs.Held.{has}
+use Rattle.lsn_set.specs.declared.lsn_set.LsnSet.{LsnSet}
 use Rattle.log_judge.specs.Opening.{AreOpen}
 
 -- Which transactions are known.
@@ -44,8 +45,8 @@ known_push active redo records e t =
 -- Which are open.
 
 -- a transaction begins from the redo block on
-pub open_more : {S : Type 0} (m : Master) (records : List Entry) (e : Entry) (old new : IndexSet ℕ S) → is_closing e.rec ≡ false → is_begin e.rec ≡ true → nat_le (512 * m.redo) e.lsn ≡ true → IsFresh e.lsn records →
-    ((t : ℕ) → contains nat_eq new t ≡ cond (e.lsn == t) true (contains nat_eq old t)) → AreOpen m records old → AreOpen m (records ++ e ∷ []) new
+pub open_more : (m : Master) (records : List Entry) (e : Entry) (old new : LsnSet) → is_closing e.rec ≡ false → is_begin e.rec ≡ true → nat_le (512 * m.redo) e.lsn ≡ true → IsFresh e.lsn records →
+    ((t : ℕ) → has new t ≡ cond (e.lsn == t) true (has old t)) → AreOpen m records old → AreOpen m (records ++ e ∷ []) new
 open_more m records e old new goes_on begins late fresh updates is = record {
   are = λ t.
       let k : Bool = is_known m.active (from_block m.redo records) t in
@@ -69,8 +70,8 @@ open_more m records e old new goes_on begins late fresh updates is = record {
     by false false false h = refl
 
 -- a transaction is closed
-pub open_without : {S : Type 0} (m : Master) (records : List Entry) (e : Entry) (old new : IndexSet ℕ S) → is_closing e.rec ≡ true → is_begin e.rec ≡ false →
-    ((t : ℕ) → contains nat_eq new t ≡ cond (txn_of e == t) false (contains nat_eq old t)) → AreOpen m records old → AreOpen m (records ++ e ∷ []) new
+pub open_without : (m : Master) (records : List Entry) (e : Entry) (old new : LsnSet) → is_closing e.rec ≡ true → is_begin e.rec ≡ false →
+    ((t : ℕ) → has new t ≡ cond (txn_of e == t) false (has old t)) → AreOpen m records old → AreOpen m (records ++ e ∷ []) new
 open_without m records e old new closing no_begin updates is = record {
   are = λ t.
       let k : Bool = is_known m.active (from_block m.redo records) t in
@@ -92,8 +93,8 @@ open_without m records e old new closing no_begin updates is = record {
     by false c false = refl
 
 -- before the first record
-pub open_first : {S : Type 0} (m : Master) (pairs : List Pair) (txns : IndexSet ℕ S) → m.active ≡ map (λ pair. record { begin = pair.begin; last = pair.last }) pairs →
-    ((t : ℕ) → contains nat_eq txns t ≡ list_any (λ (pair : Pair). pair.begin == t) pairs) → AreOpen m [] txns
+pub open_first : (m : Master) (pairs : List Pair) (txns : LsnSet) → m.active ≡ map (λ pair. record { begin = pair.begin; last = pair.last }) pairs →
+    ((t : ℕ) → has txns t ≡ list_any (λ (pair : Pair). pair.begin == t) pairs) → AreOpen m [] txns
 open_first m pairs txns named is = record {
   are = λ t.
       is t ∙ all t pairs ∙ by (list_any (λ (a : Active). a.begin == t) (map (λ (pair : Pair). record { begin = pair.begin; last = pair.last }) pairs))

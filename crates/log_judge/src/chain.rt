@@ -4,13 +4,14 @@ ghost use Rattle.log_records.specs.declared.log_record.LogRecord.{LogRecord};
 ghost use Rattle.log_records.specs.Log.{Entry, is_update};
 ghost use Rattle.log_records.specs.Unfinished.{is_clr, open_updates};
 ghost use Rattle.log_records.specs.Sound.{Compensates, Undoes};
-ghost use Rattle.log_judge.specs.Chaining.{IsKept, begin_at, pending_of};
+ghost use Rattle.log_judge.specs.Chaining.{IsKept, begin_at, begun_at, kept_by, pending_of};
 ghost use Rattle.log_judge.specs.Outcomes.{OrMemory};
 ghost use Rattle.log_judge.specs.Rules.{Links};
 
 use log_records::LogRecord;
 use record_model::Octets;
 use site::Stop;
+use std::alloc::Global;
 
 /// An Update that no CLR compensates: where it stands in the table, what stood there before, and the transaction's
 /// record before it.
@@ -93,9 +94,19 @@ pub struct Chain {
 }
 
 impl Chain {
+    /// Behind its Begin.
+    pub fn begun(alloc: Global, txn: u64) -> Chain
+        ensures { kept_by result ≡ begun_at txn }
+    {
+        Chain {
+            last: txn,
+            updates: Vec::new(alloc),
+        }
+    }
+
     // Whether a record compensates the last Update that is left.
     fn undoes(&self, rec: &LogRecord) -> bool
-        ensures { (t : ℕ) (rest : List Entry) → IsKept t self.now rest → is_clr rec.now ≡ true
+        ensures { (t : ℕ) (rest : List Entry) → IsKept t (kept_by self.now) rest → is_clr rec.now ≡ true
             → IsTrue result ↔ Undoes (open_updates [] rest) rec.now }
     {
         let Some(update) = self.updates.last() else {
@@ -106,7 +117,7 @@ impl Chain {
 
     /// Whether a record may come next.
     pub fn continues(&self, rec: &LogRecord) -> bool
-        ensures { (t : ℕ) (rest : List Entry) (lsn : ℕ) → IsKept t self.now rest
+        ensures { (t : ℕ) (rest : List Entry) (lsn : ℕ) → IsKept t (kept_by self.now) rest
             → IsTrue result ↔ Links (begin_at t ∷ rest) (record { lsn = lsn; rec = rec.now }) }
     {
         match rec {
@@ -123,9 +134,9 @@ impl Chain {
 
     /// Takes a record that may come next.
     pub fn add(&mut self, lsn: u64, rec: &LogRecord) -> Result<(), Stop>
-        ensures { OrMemory result (λ done. (t : ℕ) (rest : List Entry) → IsKept t self.old rest
+        ensures { OrMemory result (λ done. (t : ℕ) (rest : List Entry) → IsKept t (kept_by self.old) rest
             → Links (begin_at t ∷ rest) (record { lsn = lsn; rec = rec.now })
-            → IsKept t self.new (rest ++ record { lsn = lsn; rec = rec.now } ∷ [])) }
+            → IsKept t (kept_by self.new) (rest ++ record { lsn = lsn; rec = rec.now } ∷ [])) }
     {
         self.last = lsn;
         let Some(update) = Pending::of(rec) else {

@@ -1,13 +1,13 @@
 // All unfinished transactions, record by record.
 ghost use Rattle.std.specs.Prelude.{◌≡◌, ◌==◌, ◌++◌, ◌∷◌, [], ◌↔◌, ℕ, nat_eq, true, false, if◌then◌else◌, Some, None};
-ghost use Rattle.std.specs.Prelude.{List, IsTrue};
-ghost use Rattle.indexmap.specs.IndexMap.{get};
+ghost use Rattle.std.specs.Prelude.{List, IsTrue, option_map};
 ghost use Rattle.indexmap.specs.IndexSet.{contains};
+ghost use Rattle.lsn_set.specs.Held.{has};
 ghost use Rattle.log_records.specs.declared.log_record.LogRecord.TheVariants.{Begin};
 ghost use Rattle.log_records.specs.Log.{Entry, txn_by, is_closing};
 ghost use Rattle.log_records.specs.Unfinished.{is_begin};
 ghost use Rattle.log_laws.specs.Follow.{IsFresh};
-ghost use Rattle.log_judge.specs.Chaining.{AreChains};
+ghost use Rattle.log_judge.specs.Chaining.{AreChains, begun_at, kept_by, kept_of};
 ghost use Rattle.log_judge.specs.Outcomes.{OrMemory};
 ghost use Rattle.log_judge.specs.Rules.{LosersAreLinked};
 
@@ -15,13 +15,16 @@ use crate::chain::Chain;
 use crate::txns::{begins, closes, txn_of};
 use indexmap::{IndexMap, IndexSet};
 use log_records::LogRecord;
+use lsn_set::LsnSet;
 use site::Stop;
 use std::alloc::Global;
 
-/// What is kept of each unfinished transaction whose Begin was heard, and those that their records can't undo.
+/// What is kept of each unfinished transaction whose Begin was heard: those of which nothing stands behind it, and the
+/// chains of the others; and those that their records can't undo.
 #[derive(Drop)]
 pub struct Chains {
     pub alloc: Global,
+    pub begun: LsnSet,
     pub chains: IndexMap<u64, Chain>,
     pub broken: IndexSet<u64>,
 }
@@ -33,15 +36,29 @@ impl Chains {
     {
         Chains {
             alloc,
+            begun: LsnSet::new(alloc),
             chains: IndexMap::new(alloc),
             broken: IndexSet::new(alloc),
         }
     }
 
-    // What is kept of a transaction.
+    // What is kept of a transaction behind which nothing stands.
+    fn put_begun(&mut self, txn: u64) -> Result<(), Stop>
+        ensures { OrMemory result (λ done. ((t : ℕ) → kept_of self.new t
+            ≡ (if txn == t then Some (begun_at txn) else kept_of self.old t))
+            × (self.new.broken ≡ self.old.broken)) }
+    {
+        let Ok(()) = self.begun.insert(txn) else {
+            return Err(Stop::Memory);
+        };
+        Ok(())
+    }
+
+    // What is kept of a transaction of which nothing was kept.
     fn put(&mut self, txn: u64, chain: Chain) -> Result<(), Stop>
-        ensures { OrMemory result (λ done. ((t : ℕ) → get nat_eq self.new.chains t
-            ≡ (if txn == t then Some chain else get nat_eq self.old.chains t))
+        requires { has self.old.begun txn ≡ false }
+        ensures { OrMemory result (λ done. ((t : ℕ) → kept_of self.new t
+            ≡ (if txn == t then Some (kept_by chain) else kept_of self.old t))
             × (self.new.broken ≡ self.old.broken)) }
     {
         let Ok(_) = self.chains.insert(txn, chain) else {
@@ -52,21 +69,26 @@ impl Chains {
 
     // Takes out what is kept of a transaction.
     fn take(&mut self, txn: u64) -> Option<Chain>
-        ensures taken { result ≡ get nat_eq self.old.chains txn }
-        ensures others { (t : ℕ) → get nat_eq self.new.chains t
-            ≡ (if txn == t then None else get nat_eq self.old.chains t) }
+        ensures taken { option_map kept_by result ≡ kept_of self.old txn }
+        ensures others { (t : ℕ) → kept_of self.new t ≡ (if txn == t then None else kept_of self.old t) }
         ensures broken { self.new.broken ≡ self.old.broken }
+        ensures begun { has self.new.begun txn ≡ false }
     {
-        self.chains.swap_remove(&txn)
+        let chain = self.chains.swap_remove(&txn);
+        if !self.begun.contains(txn) {
+            return chain;
+        }
+        self.begun.remove(txn);
+        Some(Chain::begun(self.alloc, txn))
     }
 
     // Nothing is kept of a transaction.
     fn close(&mut self, txn: u64)
-        ensures chains { (t : ℕ) → get nat_eq self.new.chains t
-            ≡ (if txn == t then None else get nat_eq self.old.chains t) }
+        ensures chains { (t : ℕ) → kept_of self.new t ≡ (if txn == t then None else kept_of self.old t) }
         ensures broken { (t : ℕ) → contains nat_eq self.new.broken t
             ≡ (if txn == t then false else contains nat_eq self.old.broken t) }
     {
+        self.begun.remove(txn);
         self.chains.swap_remove(&txn);
         self.broken.swap_remove(&txn);
     }
@@ -75,7 +97,7 @@ impl Chains {
     fn breaks(&mut self, txn: u64) -> Result<(), Stop>
         ensures { OrMemory result (λ done. ((t : ℕ) → contains nat_eq self.new.broken t
             ≡ (if txn == t then true else contains nat_eq self.old.broken t))
-            × (self.new.chains ≡ self.old.chains)) }
+            × ((t : ℕ) → kept_of self.new t ≡ kept_of self.old t)) }
     {
         let Ok(_) = self.broken.insert(txn) else {
             return Err(Stop::Memory);
@@ -108,11 +130,7 @@ impl Chains {
             → AreChains records self.old
             → AreChains (records ++ record { lsn = lsn; rec = Begin } ∷ []) self.new) }
     {
-        let first = Chain {
-            last: lsn,
-            updates: Vec::new(self.alloc),
-        };
-        self.put(lsn, first)
+        self.put_begun(lsn)
     }
 
     /// Hears the next record.

@@ -18,6 +18,8 @@ mod log_archive_tests;
 #[cfg(test)]
 mod log_judge_tests;
 #[cfg(test)]
+mod lsn_set_tests;
+#[cfg(test)]
 mod meta_segments_tests;
 #[cfg(test)]
 mod record_model_tests;

@@ -4,7 +4,7 @@ use Rattle.log_records.specs.Log.{Entry, txn_of, entries_of}
 use Rattle.image_check.specs.declared.chain.Chain.{Chain}
 use Rattle.image_check.specs.declared.chains.Chains.{Chains}
 use Rattle.image_check.specs.Chaining.{Keeps, HearsOwn}
-use Rattle.image_check.proofs.StrayOnes.{chains_go_on, chains_break}
+use Rattle.image_check.proofs.StrayOnes.{chains_begin, chains_go_on, chains_break}
 use Rattle.image_check.proofs.Walking.{goes_well, memory_as}
 use Rattle.image_check.proofs.chains.Chains.hear.Goals as goal
 use Rattle.image_check.proofs.chains.Chains.hear.Goals.{In-Ok}
@@ -19,6 +19,10 @@ module _ (c : In-Ok) (records : List Entry) where
 
   others : (t : ℕ) → get nat_eq c.take-chain.new.self.chains t ≡ cond (txn_of e == t) None (get nat_eq c.args.self.now.chains t)
   others t = c.take-chain.ensures.others t ∙ ap (λ (n : ℕ). cond (n == t) None (get nat_eq c.args.self.now.chains t)) c.txn_of-txn.ensures
+
+pub returns-then-lsn-txn : goal.returns-then-lsn-txn
+returns-then-lsn-txn c = goes_well (λ log records at own is.
+    chains_begin log records (record { lsn = c.args.lsn; rec = c.args.rec }) at c.args.self.now (c.if-lsn-txn.true ∙ c.txn_of-txn.ensures) is)
 
 put_back : (q : Bool) (x : Chain) (o : Option Chain) → cond q (Some x) (cond q None o) ≡ cond q (Some x) o
 put_back true x o = refl

@@ -1,6 +1,6 @@
-use Rattle.std.proofs.Common.{◌≡◌, ◌*◌, ◌≤◌, ◌==◌, true, false, cond, ℕ, nat_le, nat_eq, sym, ap, ◌∙◌, arith}
+use Rattle.std.proofs.Common.{◌≡◌, ◌*◌, ◌≤◌, ◌==◌, true, false, cond, ℕ, nat_le, sym, ap, ◌∙◌, arith}
 use Rattle.std.proofs.lemmas.Bool.Decides.{nat_tests}
-use Rattle.indexmap.specs.IndexSet.{contains}
+use Rattle.lsn_set.specs.Held.{has}
 use Rattle.log_records.specs.Log.{Entry, is_closing}
 use Rattle.log_records.specs.Unfinished.{is_begin}
 use Rattle.image_check.proofs.Walking.{goes_well, memory_as}
@@ -15,7 +15,7 @@ returns-then-closes c =
     goes_well (λ m records redo is fresh.
     let e : Entry = record { lsn = c.args.lsn; rec = c.args.rec.now } in
     open_without m records e old c.close.new.self.txns closing (closing_is_no_begin c.args.rec.now closing)
-    (λ t. c.close.ensures t ∙ ap (λ (n : ℕ). cond (n == t) false (contains nat_eq old t)) c.txn_of.ensures) is)
+    (λ t. c.close.ensures t ∙ ap (λ (n : ℕ). cond (n == t) false (has old t)) c.txn_of.ensures) is)
 
 pub returns : goal.returns
 returns c =

@@ -1,7 +1,7 @@
-use Rattle.std.proofs.Common.{◌≡◌, ◌==◌, ℕ, nat_eq, take}
+use Rattle.std.proofs.Common.{◌≡◌, ◌==◌, ℕ, take}
 use Rattle.std.specs.List.{list_any}
-use Rattle.indexmap.specs.IndexSet.{contains}
+use Rattle.lsn_set.specs.Held.{has}
 use Rattle.image_check.proofs.txns.OpenTxns.start.Given as goal
 
 abbrev pub invariant-loop-place : goal.invariant-loop-place
-invariant-loop-place l = (t : ℕ) → contains nat_eq l.txns t ≡ list_any (λ pair. pair.begin == t) (take l.place l.master.active)
+invariant-loop-place l = (t : ℕ) → has l.txns t ≡ list_any (λ pair. pair.begin == t) (take l.place l.master.active)

@@ -1,8 +1,7 @@
 use Rattle.std.proofs.Common.{◌∷◌, ◌++◌, [], ◌==◌, false, cond, None, nat_eq, sym, ap, subst, ◌∙◌}
-use Rattle.indexmap.specs.IndexMap.{get}
 use Rattle.indexmap.specs.IndexSet.{contains}
 use Rattle.log_records.specs.declared.log_record.LogRecord.{LogRecord}
-use Rattle.log_judge.specs.Chaining.{AreChains}
+use Rattle.log_judge.specs.Chaining.{AreChains, kept_of}
 use Rattle.log_judge.proofs.OpenOnes.{begin_only}
 use Rattle.log_judge.proofs.ChainSteps.{chains_closed}
 use Rattle.log_judge.proofs.Outcomes.{goes_well, memory_as}
@@ -16,7 +15,7 @@ returns-then-begins c = memory_as c.begin.result (λ x begun records fresh is.
 pub returns-then-closes : goal.returns-then-closes
 returns-then-closes c = goes_well (λ records fresh is.
     chains_closed records (record { lsn = c.args.lsn; rec = c.args.rec.now }) c.args.self.now c.close.new.self (sym c.closes.ensures ∙ c.if-closes.true)
-    (λ t. c.close.ensures.chains t ∙ ap (λ n. cond (n == t) None (get nat_eq c.args.self.now.chains t)) c.txn_of-txn.ensures)
+    (λ t. c.close.ensures.chains t ∙ ap (λ n. cond (n == t) None (kept_of c.args.self.now t)) c.txn_of-txn.ensures)
     (λ t. c.close.ensures.broken t ∙ ap (λ n. cond (n == t) false (contains nat_eq c.args.self.now.broken t)) c.txn_of-txn.ensures) is)
 
 pub returns : goal.returns

@@ -13,7 +13,7 @@ pub loop-place-preserved : goal.loop-place-preserved
 loop-place-preserved c = λ t.
     let a : Pair = record { begin = c.at-begin.result.0; last = c.at-begin.result.1 } in
     let named : List Pair = c.args.master.now.active in
-    c.in-Ok.ensures.updates.0 t
+    c.in-Ok.ensures.held t
     ∙ ap (λ (b : Bool). cond (a.begin == t) true b) (c.loop-place.invariant t)
     ∙ by (a.begin == t) (list_any (λ (pair : Pair). pair.begin == t) (take c.loop-place.place named))
     ∙ ap (λ (pair : Pair). list_any (λ (p : Pair). p.begin == t) (take c.loop-place.place named) || (pair.begin == t)) (sym (get_or_from_slice_get named c.loop-place.place a a c.at-begin.ensures))
