@@ -1,0 +1,4 @@
+pub mod Opens
+pub mod OpenOnes
+pub mod Nets
+pub mod Ledgers
