@@ -1,5 +1,5 @@
 -- A ledger behind a record.
-use Rattle.std.proofs.Common.{◌≡◌, ℕ, ◌+◌, ◌*◌, ◌<◌, ◌==◌, nat_eq, Bool, true, false, not, ◌&&◌, cond, List, [], ◌∷◌, ◌++◌, length, drop, refl, sym, ap, subst, ◌∙◌, arith}
+use Rattle.std.proofs.Common.{◌≡◌, ℕ, ◌+◌, ◌*◌, ◌<◌, ◌≤◌, ◌==◌, nat_eq, Bool, true, false, not, ◌&&◌, cond, List, [], ◌∷◌, ◌++◌, length, drop, refl, sym, ap, subst, ◌∙◌, arith}
 use Rattle.std.specs.Prelude.{nat_lt, Option, Some, None, Ok, Err, Result, IsErrOf, find, slice_set, option_and_then}
 use Rattle.std.specs.List.{AllByRecursion}
 use Rattle.std.proofs.lemmas.Bool.{eqb-true, eq-eqb, ne_eqb}
@@ -17,24 +17,18 @@ use Rattle.log_replay.specs.declared.transactions.Transactions.{Transactions}
 use Rattle.log_replay.specs.Opened.{AreOpen, HoldsItsOwn, begun, compensated, has_written, is_others, number_of, written}
 use Rattle.log_replay.specs.Stands.{Closes, Hears, Puts, StandsAt}
 use Rattle.log_replay.proofs.Opens.{found, no_other, owns_update, owns_clr}
-use Rattle.log_replay.proofs.OpenOnes.{begins_open, puts_open, closes_open}
+use Rattle.log_replay.proofs.OpenOnes.{begins_open, puts_open, closes_open, open_later}
 
 -- How a call ends.
 
 no_fault : {T : Type 0} (x : T) (f : ReplayFault) → IsErrOf {T = T} (Ok x) f → ⊥
 no_fault x f is = cc
 
-other_fault : {T : Type 0} → IsErrOf {T = T} (Err Memory) BadStream → ⊥
-other_fault is = cc
-
 pub heard : {after : Option Stream} {Leaves : Stream → Type 0} (now : Stream) → after ≡ Some now → Leaves now → Hears (Ok tt) after Leaves
 heard now is leaves = record { heard = (now, is, leaves); bad = λ is. absurd (no_fault tt BadStream is) }
 
 pub is_bad : {after : Option Stream} {Leaves : Stream → Type 0} → after ≡ None → Hears (Err BadStream) after Leaves
 is_bad none = record { heard = tt; bad = λ is. none }
-
-pub wants_memory : {after : Option Stream} {Leaves : Stream → Type 0} → Hears (Err Memory) after Leaves
-wants_memory = record { heard = tt; bad = λ is. absurd (other_fault is) }
 
 -- A transaction begins.
 pub begins : (pages lsn next : ℕ) (s : Stream) (popped : List (List Write)) (old : Ledger) (kept : Transactions) → lsn < next → StandsAt pages lsn s popped old →
@@ -45,22 +39,6 @@ begins pages lsn next s popped old kept later stands opened writers =
 
 -- Which Updates follow.
 
-module _ (a b c d : Bool) where
-  first_fails : a ≡ false → (a && b && not c && d) ≡ false
-  first_fails is = grind (arith, common_steps)
-
-  second_fails : b ≡ false → (a && b && not c && d) ≡ false
-  second_fails is = grind (arith, common_steps)
-
-  third_fails : c ≡ true → (a && b && not c && d) ≡ false
-  third_fails is = grind (arith, common_steps)
-
-  last_fails : d ≡ false → (a && b && not c && d) ≡ false
-  last_fails is = grind (arith, common_steps)
-
-  all_pass : a ≡ true → b ≡ true → c ≡ false → d ≡ true → (a && b && not c && d) ≡ true
-  all_pass first second third last = grind (arith, common_steps)
-
 module _ (pages lsn txn prev page slot : ℕ) (before after : Content) (s : Stream) where
   abbrev number : ℕ
   number = 32 * page + slot
@@ -68,38 +46,14 @@ module _ (pages lsn txn prev page slot : ℕ) (before after : Content) (s : Stre
   abbrev update : Standing
   update = record { prev = prev; page = page; slot = slot; before = before }
 
-  abbrev follows : Unclosed → Bool
-  follows t = (prev == t.last) && nat_lt page pages && not (is_taken txn number s.unclosed) && same_content before (content_at s.shown number)
-
   abbrev behind : Unclosed → Stream
   behind t = with_write lsn txn (number, after) (update ∷ t.standing) t s
-
-  refused : ((t : Unclosed) → follows t ≡ false) → (o : Option Unclosed) → option_and_then (after_update pages lsn update txn after s) o ≡ None
-  refused fails None = refl
-  refused fails (Some t) = ap (λ b. cond b (Some (behind t)) None) (fails t)
-
-  pub off_page : nat_lt page pages ≡ false → after_record pages lsn (Update txn prev page slot before after) s ≡ None
-  off_page is = refused (λ t. second_fails (prev == t.last) (nat_lt page pages) (is_taken txn number s.unclosed) (same_content before (content_at s.shown number)) is) (unclosed_of txn s)
-
-  pub another_stood : same_content before (content_at s.shown number) ≡ false → after_record pages lsn (Update txn prev page slot before after) s ≡ None
-  another_stood is = refused (λ t. last_fails (prev == t.last) (nat_lt page pages) (is_taken txn number s.unclosed) (same_content before (content_at s.shown number)) is) (unclosed_of txn s)
-
-  pub another_wrote : is_taken txn number s.unclosed ≡ true → after_record pages lsn (Update txn prev page slot before after) s ≡ None
-  another_wrote is = refused (λ t. third_fails (prev == t.last) (nat_lt page pages) (is_taken txn number s.unclosed) (same_content before (content_at s.shown number)) is) (unclosed_of txn s)
-
-  pub not_open : unclosed_of txn s ≡ None → after_record pages lsn (Update txn prev page slot before after) s ≡ None
-  not_open none = ap (option_and_then (after_update pages lsn update txn after s)) none
-
-  pub not_last : (t : Unclosed) → unclosed_of txn s ≡ Some t → (prev == t.last) ≡ false → after_record pages lsn (Update txn prev page slot before after) s ≡ None
-  not_last t is other =
-      ap (option_and_then (after_update pages lsn update txn after s)) is
-      ∙ ap (λ b. cond b (Some (behind t)) None) (first_fails (prev == t.last) (nat_lt page pages) (is_taken txn number s.unclosed) (same_content before (content_at s.shown number)) other)
 
   pub updates : (t : Unclosed) → unclosed_of txn s ≡ Some t → (prev == t.last) ≡ true → nat_lt page pages ≡ true → is_taken txn number s.unclosed ≡ false →
       same_content before (content_at s.shown number) ≡ true → after_record pages lsn (Update txn prev page slot before after) s ≡ Some (with_write lsn txn (32 * page + slot, after) (record { prev = prev; page = page; slot = slot; before = before } ∷ t.standing) t s)
   updates t is last on free stood =
       ap (option_and_then (after_update pages lsn update txn after s)) is
-      ∙ ap (λ b. cond b (Some (behind t)) None) (all_pass (prev == t.last) (nat_lt page pages) (is_taken txn number s.unclosed) (same_content before (content_at s.shown number)) last on free stood)
+      ∙ (λ i. cond (last i && on i && not (free i) && stood i) (Some (behind t)) None)
 
 -- Which CLRs follow.
 
@@ -112,41 +66,8 @@ pub record IsCompensated (page slot number : ℕ) (standing : List Standing) : T
   pub on : number ≡ number_of update
 
 module _ (lsn txn prev undo_next page slot : ℕ) (after : Content) (s : Stream) where
-  abbrev compensates : Standing → Bool
-  compensates u = (undo_next == u.prev) && (page == u.page) && (slot == u.slot) && same_content after u.before
-
   abbrev next_clr : Unclosed → Option Stream
   next_clr t = after_clr lsn txn prev undo_next page slot after s t t.standing
-
-  tests_same : (a b c d e : Bool) → (a && b && c && d && e) ≡ (a && (b && c && d && e))
-  tests_same true b c d e = refl
-  tests_same false b c d e = grind (arith, common_steps)
-
-  pub clr_not_open : (pages : ℕ) → unclosed_of txn s ≡ None → after_record pages lsn (Clr txn prev undo_next page slot after) s ≡ None
-  clr_not_open pages none = ap (option_and_then next_clr) none
-
-  not_next : (t : Unclosed) (standing : List Standing) → (prev == t.last) ≡ false → after_clr lsn txn prev undo_next page slot after s t standing ≡ None
-  not_next t [] other = refl
-  not_next t (u ∷ us) other =
-      ap (λ b. cond b (Some (with_write lsn txn (32 * page + slot, after) us t s)) None)
-      (tests_same (prev == t.last) (undo_next == u.prev) (page == u.page) (slot == u.slot) (same_content after u.before) ∙ ap (λ b. b && compensates u) other)
-
-  pub clr_not_last : (pages : ℕ) (t : Unclosed) → unclosed_of txn s ≡ Some t → (prev == t.last) ≡ false → after_record pages lsn (Clr txn prev undo_next page slot after) s ≡ None
-  clr_not_last pages t is other = ap (option_and_then next_clr) is ∙ not_next t t.standing other
-
-  not_that : (t : Unclosed) (standing : List Standing) → compensated undo_next page slot after standing ≡ None → after_clr lsn txn prev undo_next page slot after s t standing ≡ None
-  not_that t [] none = refl
-  not_that t (u ∷ us) none =
-      ap (λ b. cond b (Some (with_write lsn txn (32 * page + slot, after) us t s)) None)
-      (tests_same (prev == t.last) (undo_next == u.prev) (page == u.page) (slot == u.slot) (same_content after u.before) ∙ by (prev == t.last) (compensates u) none)
-    where
-      by : (a b : Bool) → cond b (Some (32 * page + slot)) None ≡ None → (a && b) ≡ false
-      by a true is = let bad : Some (32 * page + slot) ≡ None = is in cc
-      by true false is = refl
-      by false false is = refl
-
-  pub clr_of_another : (pages : ℕ) (t : Unclosed) → unclosed_of txn s ≡ Some t → compensated undo_next page slot after t.standing ≡ None → after_record pages lsn (Clr txn prev undo_next page slot after) s ≡ None
-  clr_of_another pages t is none = ap (option_and_then next_clr) is ∙ not_that t t.standing none
 
   that_one : (t : Unclosed) (standing : List Standing) (number : ℕ) → (prev == t.last) ≡ true → compensated undo_next page slot after standing ≡ Some number →
       (after_clr lsn txn prev undo_next page slot after s t standing ≡ Some (with_write lsn txn (number, after) (drop 1 standing) t s)) × IsCompensated page slot number standing
@@ -156,10 +77,11 @@ module _ (lsn txn prev undo_next page slot : ℕ) (after : Content) (s : Stream)
       by : (b c : Bool) → (page == u.page) ≡ c → (d : Bool) → (slot == u.slot) ≡ d → (e : Bool) → cond (b && c && d && e) (Some (32 * page + slot)) None ≡ Some number →
           (cond ((prev == t.last) && b && c && d && e) (Some (with_write lsn txn (32 * page + slot, after) us t s)) None ≡ Some (with_write lsn txn (number, after) us t s)) × IsCompensated page slot number (u ∷ us)
       by true true on true in_slot true same =
-          let at : 32 * page + slot ≡ number = same_Some _ _ same in
-          (ap (λ b. cond (b && true && true && true && true) (Some (with_write lsn txn (32 * page + slot, after) us t s)) None) last
-           ∙ ap (λ n. Some (with_write lsn txn (n, after) us t s)) at,
-           record { update = u; others = us; split = refl; at = sym at; on = sym at ∙ (λ i. 32 * eqb-true page u.page on i + eqb-true slot u.slot in_slot i) })
+          let at : 32 * page + slot ≡ number = same_Some _ _ same in (
+            ap (λ b. cond (b && true && true && true && true) (Some (with_write lsn txn (32 * page + slot, after) us t s)) None) last
+                ∙ ap (λ n. Some (with_write lsn txn (n, after) us t s)) at,
+            record { update = u; others = us; split = refl; at = sym at; on = sym at ∙ (λ i. 32 * eqb-true page u.page on i + eqb-true slot u.slot in_slot i) },
+          )
       by false c on d in_slot e same = let bad : None ≡ Some number = same in cc
       by true false on d in_slot e same = let bad : None ≡ Some number = same in cc
       by true true on false in_slot e same = let bad : None ≡ Some number = same in cc
@@ -221,7 +143,7 @@ module _ (pages lsn next txn : ℕ) (s : Stream) (popped : List (List Write)) (o
       let u : Standing = record { prev = prev; page = page; slot = slot; before = before } in
       heard (with_write lsn txn (number, after) (u ∷ t.standing) t s)
       (updates pages lsn txn prev page slot before after s t opens last on (subst (λ n. is_taken txn n s.unclosed ≡ false) at free) (subst (λ n. same_content before (content_at s.shown n) ≡ true) at stood)
-       ∙ ap (λ n. Some (with_write lsn txn (n, after) (u ∷ t.standing) t s)) (sym at))
+      ∙ ap (λ n. Some (with_write lsn txn (n, after) (u ∷ t.standing) t s)) (sym at))
       (puts (number, after) (u ∷ t.standing) free (owns_update lsn (number, after) u t at own) put)
 
   pub undone : (prev undo_next page slot number : ℕ) (after : Content) → (prev == t.last) ≡ true → compensated undo_next page slot after t.standing ≡ Some number →
@@ -233,7 +155,7 @@ module _ (pages lsn next txn : ℕ) (s : Stream) (popped : List (List Write)) (o
       let has : has_written (number_of one.update) t ≡ true = (subst (AllByRecursion (λ u. has_written (number_of u) t ≡ true)) one.split own).0 in
       let begins_so : t.begin ≡ txn = (found HoldsItsOwn txn s.unclosed t stands.opened.own opens).1 in
       let free : is_taken txn number s.unclosed ≡ false =
-          no_other txn number s.unclosed (get nat_eq old.transactions.writers number) (λ x. stands.opened.taken x number) t stands.opened.apart opens begins_so (ap (λ n. has_written n t) one.on ∙ has) in
+      no_other txn number s.unclosed (get nat_eq old.transactions.writers number) (λ x. stands.opened.taken x number) t stands.opened.apart opens begins_so (ap (λ n. has_written n t) one.on ∙ has) in
       let left : drop 1 t.standing ≡ one.others = ap (drop 1) one.split in
       heard (with_write lsn txn (number, after) (drop 1 t.standing) t s) both.0
       (puts (number, after) (drop 1 t.standing) free (subst (λ l. HoldsItsOwn (written lsn (number, after) l t)) (sym left) (owns_clr lsn (number, after) one.update one.others t one.split own)) put)
@@ -246,12 +168,12 @@ module _ (pages lsn next txn : ℕ) (s : Stream) (popped : List (List Write)) (o
       let more = length-append s.nets (t.net ∷ []) in
       heard (record { next = s.next; shown = s.shown; before = s.before; nets = s.nets ++ t.net ∷ []; unclosed = without txn s.unclosed })
       (ap (option_and_then (after_commit txn number s)) opens
-       ∙ ap (λ b. cond b (Some (record s { nets = s.nets ++ t.net ∷ []; unclosed = without txn s.unclosed })) None) (eq-eqb number (commits_in s + 1) right))
+      ∙ ap (λ b. cond b (Some (record s { nets = s.nets ++ t.net ∷ []; unclosed = without txn s.unclosed })) None) (eq-eqb number (commits_in s + 1) right))
       (closes (s.nets ++ t.net ∷ []) (table ∙ close.table ∙ takes.table) (omega (arith, counted, right, more))
-       (ap (λ l. l ++ t.net ∷ []) stands.nets ∙ append_assoc popped old.waiting.items (t.net ∷ [])
-        ∙ (λ i. popped ++ ((sym (close.waiting ∙ takes.waiting) i).items ++ sym close.is i ∷ [])) ∙ ap (λ l. popped ++ l) (sym waits))
-       (ap (λ (k : Transactions). k.active) same ∙ close.opened)
-       (λ n. ap (λ (k : Transactions). get nat_eq k.writers n) same ∙ close.writers n))
+      (ap (λ l. l ++ t.net ∷ []) stands.nets ∙ append_assoc popped old.waiting.items (t.net ∷ [])
+      ∙ (λ i. popped ++ ((sym (close.waiting ∙ takes.waiting) i).items ++ sym close.is i ∷ [])) ∙ ap (λ l. popped ++ l) (sym waits))
+      (ap (λ (k : Transactions). k.active) same ∙ close.opened)
+      (λ n. ap (λ (k : Transactions). get nat_eq k.writers n) same ∙ close.writers n))
 
   pub ended : (net : List Write) → Closes t.net net mid new → t.standing ≡ [] →
       Hears (Ok tt) (after_record pages lsn (End txn) s) (λ now. StandsAt pages next now popped new)
@@ -259,10 +181,15 @@ module _ (pages lsn next txn : ℕ) (s : Stream) (popped : List (List Write)) (o
       heard (record { next = s.next; shown = s.shown; before = s.before; nets = s.nets; unclosed = without txn s.unclosed })
       (ap (option_and_then (λ (u : Unclosed). after_end txn s u.standing)) opens ∙ ap (after_end txn s) empty)
       (closes s.nets (close.table ∙ takes.table) (close.commits ∙ takes.commits ∙ stands.commits)
-       (stands.nets ∙ (λ i. popped ++ (sym (close.waiting ∙ takes.waiting) i).items))
-       close.opened close.writers)
+      (stands.nets ∙ (λ i. popped ++ (sym (close.waiting ∙ takes.waiting) i).items))
+      close.opened close.writers)
 
 -- what number_of tells
 pub number_told : (b : Bool) (m n : ℕ) → Some n ≡ cond b (Some m) None → (b ≡ true) × (n ≡ m)
 number_told true m n is = (refl, same_Some n m is)
 number_told false m n is = let bad : Some n ≡ None = is in cc
+
+-- before a later LSN, too
+pub stands_later : (pages lsn next : ℕ) (s : Stream) (popped : List (List Write)) (l : Ledger) → lsn ≤ next → StandsAt pages lsn s popped l → StandsAt pages next s popped l
+stands_later pages lsn next s popped l later stands =
+    record { size = stands.size; shown = stands.shown; commits = stands.commits; nets = stands.nets; opened = open_later lsn next s.unclosed l.transactions later stands.opened }

@@ -1,5 +1,5 @@
 -- The open transactions as they are kept, behind a record.
-use Rattle.std.proofs.Common.{◌≡◌, ℕ, ◌+◌, ◌<◌, ◌==◌, nat_eq, Bool, true, false, not, ◌&&◌, ◌||◌, cond, List, [], ◌∷◌, refl, sym, ap, subst, ◌∙◌, arith}
+use Rattle.std.proofs.Common.{◌≡◌, ℕ, ◌+◌, ◌<◌, ◌≤◌, ◌==◌, nat_eq, Bool, true, false, not, ◌&&◌, ◌||◌, cond, List, [], ◌∷◌, refl, sym, ap, subst, ◌∙◌, arith}
 use Rattle.std.specs.Prelude.{Option, Some, None, find}
 use Rattle.std.specs.List.{AllByRecursion, list_any}
 use Rattle.std.proofs.lemmas.Bool.{and_right, eqb-true, eq-eqb}
@@ -56,3 +56,13 @@ module _ (lsn next txn : ℕ) (ts : List Unclosed) (t : Unclosed) (old new : Tra
     apart = once_without txn ts are.apart;
     own = all_without HoldsItsOwn txn ts are.own;
   }
+
+-- and so they are before a later LSN
+pub open_later : (lsn next : ℕ) (ts : List Unclosed) (kept : Transactions) → lsn ≤ next → AreOpen lsn ts kept → AreOpen next ts kept
+open_later lsn next ts kept later are = record {
+  known = are.known;
+  taken = are.taken;
+  early = all_weaker (λ t. t.begin < lsn) (λ t. t.begin < next) (λ t early. omega (arith, early, later)) ts are.early;
+  apart = are.apart;
+  own = are.own;
+}

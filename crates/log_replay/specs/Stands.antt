@@ -45,9 +45,10 @@ pub record StandsFor (pages : ℕ) (s : Stream) (popped : List (List Write)) (r 
   pub next : r.next ≡ s.next
   pub ledger : StandsAt pages (512 * s.next + 2) s popped r.ledger
 
--- How a call ends that hears more: it leaves the stream behind that, or there is none and the stream is bad. (It may want
--- memory, too.)
-pub record Hears (result : Result (Unit {0}) ReplayFault) (after : Option Stream) (Leaves : Stream → Type 0) : Type 0 where
+-- How a call ends that hears more: it leaves the stream behind that, or there is none and the stream is bad. (It may
+-- want memory, too.)
+pub record Hears (result : Result (Unit {0}) ReplayFault) (after : Option Stream) (Leaves : Stream → Type 0)
+    : Type 0 where
   pub heard : OnOk result ((now : Stream) × (after ≡ Some now) × Leaves now)
   pub bad : IsErrOf result BadStream → after ≡ None
 

@@ -290,7 +290,12 @@ impl Ledger {
     }
 
     /// Hears the records of a block of a number, which end at `used`. After a fault the ledger stands for no stream.
-    pub fn hear_block(&mut self, number: u64, content: &[u8], used: usize) -> Result<(), ReplayFault>
+    pub fn hear_block(
+        &mut self,
+        number: u64,
+        content: &[u8],
+        used: usize,
+    ) -> Result<(), ReplayFault>
         requires number { number < 2 ^ 40 }
         requires size { length content.now ≡ BLOCK_LEN }
         requires block { (records : List LogRecord) × IsBlock content.now records × (used ≡ used_by records) }
@@ -304,10 +309,10 @@ impl Ledger {
             let Ok((rec, end)) = read_record(content, at, used) else {
                 return Err(ReplayFault::BadStream);
             };
-            if let Err(fault) = self.hear(512 * number + at as u64, &rec) {
-                return Err(fault);
+            match self.hear(512 * number + at as u64, &rec) {
+                Ok(()) => at = end,
+                Err(fault) => return Err(fault),
             }
-            at = end;
         }
         Ok(())
     }

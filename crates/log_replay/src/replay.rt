@@ -51,8 +51,9 @@ impl Replay {
         let Ok(used) = check_block(content) else {
             return Err(ReplayFault::BadStream);
         };
-        if let Err(fault) = self.ledger.hear_block(self.next, content, used) {
-            return Err(fault);
+        match self.ledger.hear_block(self.next, content, used) {
+            Ok(()) => {}
+            Err(fault) => return Err(fault),
         }
         self.next += 1;
         Ok(())
@@ -63,10 +64,10 @@ impl Replay {
         ensures ok { OnOk result (IsEndLine line.now self.now.next) }
         ensures bad { OnErr result (IsEndLine line.now self.now.next → ⊥) }
     {
-        let Some(number) = read_end(line) else {
+        let Some(last) = read_end(line) else {
             return Err(ReplayFault::BadStream);
         };
-        if number != self.next {
+        if last != self.next {
             return Err(ReplayFault::BadStream);
         }
         Ok(())
@@ -79,12 +80,13 @@ impl Replay {
         ensures bad { (pages : ℕ) (s : Stream) (popped : List (List Write)) → StandsFor pages s popped self.old
             → IsErrOf result BadStream → (now : Stream) → AfterLine pages line.now s now → ⊥ }
     {
-        let Some((number, content)) = read_block(line) else {
+        let Some(block) = read_block(line) else {
             return self.end(line);
         };
-        if number != self.next {
+        if block.0 != self.next {
             return Err(ReplayFault::BadStream);
         }
+        let content = block.1;
         self.block(&content)
     }
 

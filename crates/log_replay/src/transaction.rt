@@ -88,8 +88,12 @@ impl Model for Transaction {
 
     ghost Value = { Unclosed };
 
-    ghost view = { λ t. record { begin = t.begin; last = t.last; standing = reverse t.standing.items;
-        net = t.net.entries } };
+    ghost view = { λ t. record {
+      begin = t.begin;
+      last = t.last;
+      standing = reverse t.standing.items;
+      net = t.net.entries;
+    } };
 }
 
 impl Transaction {

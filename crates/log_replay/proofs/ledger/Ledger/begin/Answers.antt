@@ -1,4 +1,4 @@
-use Rattle.log_replay.proofs.Ledgers.{begins, wants_memory}
+use Rattle.log_replay.proofs.Ledgers.{begins}
 use Rattle.log_replay.proofs.ledger.Ledger.begin.Goals as goal
 
 pub returns : goal.returns

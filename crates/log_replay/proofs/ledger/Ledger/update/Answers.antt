@@ -13,10 +13,10 @@ returns-in-Ok c = λ pages next s popped later stands.
     let n = c.in-Some.number in
     let told = number_told (nat_lt change.page pages) (32 * change.page + change.slot) n (c.in-Some.ensures pages (ap length stands.shown ∙ stands.size)) in
     let stood : same_content c.args.before.now (content_at s.shown n) ≡ true =
-        ap (λ l. same_content c.args.before.now (content_at l n)) (sym stands.shown) ∙ sym c.if-not-shows.ensures ∙ c.if-not-shows.false in
-    let free : is_taken change.txn n s.unclosed ≡ false = stands.opened.taken change.txn n ∙ sym c.if-is_taken.ensures ∙ c.if-is_taken.false in
-    let last : (change.prev == t.last) ≡ true = sym c.if-not-is_at.ensures ∙ c.if-not-is_at.false in
+    ap (λ l. same_content c.args.before.now (content_at l n)) (sym stands.shown) ∙ sym c.if-not-shows.ensures in
+    let free : is_taken change.txn n s.unclosed ≡ false = stands.opened.taken change.txn n ∙ sym c.if-is_taken.ensures in
+    let last : (change.prev == t.last) ≡ true = sym c.if-not-is_at.ensures in
     let takes : Takes change.txn t c.args.self.now (record c.args.self.now { transactions = c.take.new.self }) =
-        record { taken = sym c.in-Some-take.ensures.taken; others = c.in-Some-take.ensures.others; writers = c.in-Some-take.ensures.writers; table = refl; commits = refl; waiting = refl } in
+    record { taken = sym c.in-Some-take.ensures.taken; others = c.in-Some-take.ensures.others; writers = c.in-Some-take.ensures.writers; table = refl; commits = refl; waiting = refl } in
     updated pages change.lsn next change.txn s popped c.args.self.now _ c.updated.new.self later stands t takes change.prev change.page change.slot n c.args.before.now c.args.after.now
-        told.1 told.0 stood free last (c.in-Ok.ensures c.requires told.1)
+    told.1 told.0 stood free last (c.in-Ok.ensures c.requires told.1)

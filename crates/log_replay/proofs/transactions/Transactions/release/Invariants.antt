@@ -8,4 +8,4 @@ abbrev pub invariant-loop-place : goal.invariant-loop-place
 invariant-loop-place l =
     (l.self.active ≡ l.fn.self.active)
     × ((n : ℕ) → get nat_eq l.self.writers n
-      ≡ cond (list_any (λ write. write.0 == n) (take l.place l.net)) None (get nat_eq l.fn.self.writers n))
+    ≡ cond (list_any (λ write. write.0 == n) (take l.place l.net)) None (get nat_eq l.fn.self.writers n))
