@@ -1,0 +1,6 @@
+pub mod Opens
+pub mod OpenOnes
+pub mod Nets
+pub mod Blocks
+pub mod Ledgers
+pub mod Replays

@@ -1,0 +1,5 @@
+//! Tests of `log_replay`.
+#![tactic(auto)]
+
+#[cfg(test)]
+mod streams;
