@@ -1,5 +1,7 @@
 // What is noticed of the input and of the replies as they pass, for what is said of them at the end.
 
+use memchr::memchr_iter;
+
 // So begins a reply that refuses a line.
 const REFUSED: &[u8] = b"refused ";
 
@@ -75,15 +77,19 @@ impl Watch {
         if self.returned.is_some() {
             return;
         }
-        for octet in piece {
-            if *octet == b'\n' {
-                if self.after_return {
-                    self.returned = Some(self.line);
-                    return;
-                }
-                self.line = self.line.saturating_add(1);
+        for newline in memchr_iter(b'\n', piece) {
+            let after_return = match newline.checked_sub(1) {
+                Some(before) => piece.get(before) == Some(&b'\r'),
+                None => self.after_return,
+            };
+            if after_return {
+                self.returned = Some(self.line);
+                return;
             }
-            self.after_return = *octet == b'\r';
+            self.line = self.line.saturating_add(1);
+        }
+        if let Some(last) = piece.last() {
+            self.after_return = *last == b'\r';
         }
     }
 

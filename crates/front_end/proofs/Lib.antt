@@ -2,6 +2,7 @@ pub mod CheckLaws
 pub mod Endings
 pub mod Firsts
 mod LineOctets
+mod Gathered
 mod NewLaws
 pub mod Replies
 mod Takes

@@ -8,9 +8,9 @@ use Rattle.front_end.specs.Lines.{pending, to_hear, TookWithin, TakesWithin}
 use Rattle.front_end.proofs.LineOctets.{HeardSoFar}
 
 -- octets of the line were heard, and then input was asked for again
-pub takes_then : (source source' : Source) (old mid new : Site) (line : List ℕ) (len n : ℕ) → HeardSoFar (to_hear source old) (to_hear source' mid) line len n → mid.told ≡ old.told → source'.ended ≡ source.ended
+pub takes_then : (source source' : Source) (old mid new : Site) (line : List ℕ) (turns : ℕ) → HeardSoFar (to_hear source old) (to_hear source' mid) line turns → mid.told ≡ old.told → source'.ended ≡ source.ended
     → TakesWithin source old mid → TakesWithin source' mid new → TakesWithin source old new
-takes_then source source' old mid new line len n h told same first second = record {
+takes_then source source' old mid new line turns h told same first second = record {
   takes = first.takes ++ second.takes;
   are = second.are ∙ ap (λ (l : List Take). l ++ second.takes) first.are ∙ append_assoc old.input.takes first.takes second.takes;
   within = all_append (TookWithin source old) first.takes second.takes first.within (all_weaker (TookWithin source' mid) (TookWithin source old) later second.takes second.within);

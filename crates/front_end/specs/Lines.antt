@@ -1,6 +1,6 @@
 -- How the input is cut into lines.
 use Rattle.std.specs.Prelude.{◌≡◌, ◌≢◌, ◌⊎◌, ℕ, ◌+◌, ◌-◌, ◌^◌, ◌≤◌, Bool, true, false, List, [], ◌∷◌, ◌++◌, length}
-use Rattle.std.specs.Prelude.{take, drop, map, Option, Some, None, if◌then◌else◌, ⊤}
+use Rattle.std.specs.Prelude.{take, drop, map, if◌then◌else◌, ⊤}
 use Rattle.std.specs.List.{AllByRecursion, list_any}
 use Rattle.site.specs.State.{State}
 use Rattle.site.specs.declared.outside.Take.{Take}
@@ -102,10 +102,18 @@ abbrev pub Hears : Heard → Bool → Bool → List ℕ → List ℕ → Type 0
 Hears (heard.Line line) was ended before after = HearsLine line was ended before after
 Hears heard.End was ended before after = (before ≡ []) × (ended ≡ true)
 
--- the first octet was heard, or there is none
-abbrev pub HearsOctet : Option ℕ → Bool → Bool → List ℕ → List ℕ → Type 0
-HearsOctet (Some x) was ended before after = (before ≡ x ∷ after) × (was ≡ false) × (ended ≡ false)
-HearsOctet None was ended before after = (before ≡ []) × (after ≡ []) × (ended ≡ true)
+abbrev pub with_newline : Bool → List ℕ → List ℕ
+with_newline true after = 10 ∷ after
+with_newline false after = after
+
+-- Octets of a line were heard, none of them a newline, and one behind them where the line ended there. What was kept of
+-- the line before and they are kept, 501 octets at most.
+pub record HearsPart (ends : Bool) (before after line line' : List ℕ) : Type 0 where
+  pub octets : List ℕ
+  pub none : AllByRecursion (λ x. x ≢ 10) octets
+  pub all : before ≡ octets ++ with_newline ends after
+  pub some : ends ≡ false → 1 ≤ length octets
+  pub kept : line' ≡ take 501 (line ++ octets)
 
 -- Taking failed at once, or one octet too many was taken.
 abbrev pub CutsOff : Halt → ℕ → List ℕ → List ℕ → Type 0

@@ -1,14 +1,16 @@
 // The lines of the input.
-ghost use Rattle.std.specs.Prelude.{◌≡◌, ◌⊎◌, ◌+◌, ◌^◌, ◌≤◌, ◌<◌, ◌≢◌, IsTrue, IfOk, IfErr, OnOk, OnErr, Err, None};
-ghost use Rattle.std.specs.Prelude.{false, true, [], ◌∷◌, length, take, nat_lt, min, slice_set, if◌then◌else◌};
+ghost use Rattle.std.specs.Prelude.{◌≡◌, ◌⊎◌, ◌+◌, ◌^◌, ◌≤◌, ◌<◌, IsTrue, IfOk, IfErr, OnOk, OnErr, Err};
+ghost use Rattle.std.specs.Prelude.{false, true, []};
 ghost use Rattle.front_end.specs.Faults.{RunFaults};
 ghost use Rattle.site.specs.Calls.{Preserves, Rose};
-ghost use Rattle.front_end.specs.Lines.{to_hear, total, IsSource, HasEnded, HearsOnly, HearsOctet, Hears, CutsOff};
-ghost use Rattle.front_end.specs.Lines.{IsCutOff};
+ghost use Rattle.front_end.specs.Lines.{pending, to_hear, total, IsSource, HasEnded, HearsOnly, HearsPart};
+ghost use Rattle.front_end.specs.Lines.{Hears, CutsOff, IsCutOff};
 ghost use Rattle.front_end.specs.Lines.{TakesWithin};
 ghost use Rattle.shell_text.specs.Reading.{line_of};
 
 use crate::halt::Halt;
+use arrayvec::ArrayVec;
+use line_intake::gather;
 use record_model::Command;
 use shell_text::read_line;
 use site::Site;
@@ -130,35 +132,23 @@ impl Source {
         Ok(count > 0)
     }
 
-    // The next octet, None at the end of the input.
-    fn next_octet<S: Site>(&mut self, site: &mut S) -> Result<Option<u8>, Halt>
-        requires { IsSource self.old }
+    // Gathers what was taken of a line, and answers whether its newline was there.
+    fn gather(&mut self, line: &mut ArrayVec<u8, 501>) -> bool
+        requires source { IsSource self.old }
+        requires some { self.old.from < self.old.to }
         ensures source { IsSource self.new }
-        ensures octet { IsTrue (S.state site.old).honest → HasEnded self.old (S.state site.old)
-            → IfOk result (λ octet. HearsOctet octet self.old.ended self.new.ended (to_hear self.old (S.state site.old))
-            (to_hear self.new (S.state site.new))) }
-        ensures ended { IsTrue (S.state site.old).honest → HasEnded self.old (S.state site.old)
-            → OnOk result (HasEnded self.new (S.state site.new)) }
-        ensures count { IsTrue (S.state site.old).honest
-            → OnOk result (total self.new (S.state site.new) ≡ total self.old (S.state site.old)) }
-        ensures cut_off { IsTrue (S.state site.old).honest
-            → IfErr result (λ halt. CutsOff halt (total self.old (S.state site.old))
-            (to_hear self.old (S.state site.old)) (S.state site.new).input.left) }
-        ensures going { OnErr result (self.old.ended ≡ false) }
-        ensures same { IsTrue (S.state site.old).honest → HearsOnly (S.state site.old) (S.state site.new) }
-        ensures takes { IsTrue (S.state site.old).honest → TakesWithin self.old (S.state site.old) (S.state site.new) }
-        ensures halts { IfErr result (λ halt. (halt ≡ Halt.Input) ⊎ (halt ≡ Halt.Limit)) }
-        ensures preserves { Preserves (S.state site.old) (S.state site.new) }
-        ensures input { result ≡ Err Halt.Input → Rose (S.state site.old).input_faults (S.state site.new).input_faults }
-        ensures faults { RunFaults result (S.state site.old) (S.state site.new) }
+        ensures part { HearsPart result (pending self.old) (pending self.new) line.old.items line.new.items }
+        ensures ended { self.new.ended ≡ self.old.ended }
+        ensures taken { self.new.taken ≡ self.old.taken }
     {
-        match self.fill(site) {
-            Err(halt) => Err(halt),
-            Ok(false) => Ok(None),
-            Ok(true) => {
-                let octet = self.buffer[self.from];
-                self.from += 1;
-                Ok(Some(octet))
+        match gather(&self.buffer[self.from..self.to], line) {
+            None => {
+                self.from = self.to;
+                false
+            }
+            Some(newline) => {
+                self.from += newline + 1;
+                true
             }
         }
     }
@@ -186,51 +176,30 @@ impl Source {
         ensures input { result ≡ Err Halt.Input → Rose (S.state site.old).input_faults (S.state site.new).input_faults }
         ensures faults { RunFaults result (S.state site.old) (S.state site.new) }
     {
-        let mut line = [0u8; 500];
-        let mut len = 0;
-        for _octet in 0..LIMIT + 1 {
-            let octet = match self.next_octet(site) {
-                Ok(octet) => octet,
+        let mut line = ArrayVec::<u8, 501>::new();
+        for _piece in 0..LIMIT + 1 {
+            match self.fill(site) {
                 Err(halt) => return Err(halt),
-            };
-            match octet {
-                None => {
-                    if len == 0 {
+                Ok(false) => {
+                    if line.is_empty() {
                         return Ok(Heard::End);
                     }
-                    return Ok(Heard::Line(command_in(&line, len)));
+                    return Ok(Heard::Line(command_in(line.as_slice())));
                 }
-                Some(octet) => {
-                    if octet == b'\n' {
-                        return Ok(Heard::Line(command_in(&line, len)));
+                Ok(true) => {
+                    if self.gather(&mut line) {
+                        return Ok(Heard::Line(command_in(line.as_slice())));
                     }
-                    len = keep(&mut line, len, octet);
                 }
             }
         }
         Err(Halt::Limit)
     }
 }
-// What a line of so many octets says, 501 standing for more than 500.
-fn command_in(line: &[u8; 500], len: usize) -> Option<Command>
-    requires { len ≤ 501 }
-    ensures { result ≡ (if nat_lt 500 len then None else line_of (take len line.now)) }
-{
-    if len > 500 {
-        return None;
-    }
-    read_line(&line[..len]).ok()
-}
 
-// Keeps an octet where there is room, and answers how many there are, 501 standing for more than 500.
-fn keep(line: &mut [u8; 500], len: usize, octet: u8) -> usize
-    requires { len ≤ 501 }
-    ensures few { len < 500 → line.new ≡ slice_set line.old len octet }
-    ensures many { 500 ≤ len → line.new ≡ line.old }
-    ensures count { result ≡ min (len + 1) 501 }
+// What a line says, of which the octets past the 501st may be lost: one of more than 500 says nothing.
+fn command_in(line: &[u8]) -> Option<Command>
+    ensures { result ≡ line_of line.now }
 {
-    if len < 500 {
-        line[len] = octet;
-    }
-    (len + 1).min(501)
+    read_line(line).ok()
 }

@@ -12,6 +12,8 @@ mod flash_directory_tests;
 #[cfg(test)]
 mod footprints_tests;
 #[cfg(test)]
+mod line_intake_tests;
+#[cfg(test)]
 mod lock_table_tests;
 #[cfg(test)]
 mod log_archive_tests;

@@ -1,10 +1,12 @@
 -- How a text is cut at its spaces.
 use Rattle.std.proofs.lemmas.Grind.{common_steps}
-use Rattle.std.proofs.Common.{◌≡◌, ℕ, ◌+◌, ◌≤◌, ◌<◌, Bool, List, [], ◌∷◌, length, take, drop, Option, Some, None, refl, ap, ◌∙◌, arith, inl, inr}
+use Rattle.std.proofs.Common.{◌≡◌, ℕ, ◌+◌, ◌≤◌, ◌<◌, Bool, List, [], ◌∷◌, length, take, drop, Option, Some, None, slice_index, refl, sym, ap, ◌∙◌, arith, inl, inr}
 use Rattle.std.specs.Prelude.{◌==◌, position, not, if◌then◌else◌, IfNone}
 use Rattle.std.specs.List.{position_or_len, onto_first}
 use Rattle.std.proofs.lemmas.List.Splits.{slice_split_first, length-slice_split}
-use Rattle.std.proofs.lemmas.Bool.{cases_Bool, cases_lt, lt-ltb, le-ltb}
+use Rattle.std.proofs.lemmas.Bool.{cases_Bool, cases_lt, lt-ltb, le-ltb, false_from_ne_true}
+use Rattle.std.proofs.lemmas.List.Sums.{position_or_len_is}
+use Rattle.memchr.specs.Find.{IsFirstByte, is_byte}
 use Rattle.shell_text.specs.Reading.{words_of, command_in}
 
 abbrev pub is_space : ℕ → Bool
@@ -22,6 +24,16 @@ one_word (x ∷ text) all =
           let more : position_or_len is_space (x ∷ text) ≡ 1 + position_or_len is_space text = λ i. if not (other i) then 1 + position_or_len is_space text else 0 in
           (λ i. if other i then [] ∷ words_of text else onto_first x (words_of text)) ∙ ap (onto_first x) (one_word text (omega (arith, more, all)))
     ]
+
+-- the place that a search answered
+pub place_found : (text : List ℕ) (place : Option ℕ) → IsFirstByte (is_byte 32) text place → place ≡ position is_space text
+place_found text None none =
+    let all = position_or_len_is is_space text (length text) 0 (omega arith) (λ k within. false_from_ne_true (is_space (slice_index text k)) (none k (omega arith) within)) (λ within. absurd (omega (arith, within))) in
+    λ i. if sym (le-ltb (position_or_len is_space text) (length text) (omega (arith, all))) i then Some (position_or_len is_space text) else None
+place_found text (Some place) found =
+    let inside = found.0.high in
+    let here = position_or_len_is is_space text place 0 (omega (arith, inside)) (λ k before. false_from_ne_true (is_space (slice_index text k)) (found.0.before k (omega arith) before)) (λ within. found.1) in
+    ap Some (sym here) ∙ (λ i. if sym (lt-ltb (position_or_len is_space text) (length text) (omega (arith, here, inside))) i then Some (position_or_len is_space text) else None)
 
 -- where no space was found
 pub words_of-none : (text : List ℕ) → position is_space text ≡ None → words_of text ≡ text ∷ []

@@ -1,5 +1,6 @@
 pub mod Digits
 pub mod Cuts
+pub mod Pairs
 pub mod Numbers
 pub mod Values
 pub mod Commands

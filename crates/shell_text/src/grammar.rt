@@ -1,12 +1,15 @@
 // What a line of input says.
 ghost use Rattle.std.specs.Prelude.{◌≡◌, ◌==◌, ◌≤◌, [], ◌∷◌, length, position, option_and_then, IfOk, IfNone, IfSome};
-ghost use Rattle.std.specs.Prelude.{IsErr, ℕ, decimal};
+ghost use Rattle.std.specs.Prelude.{IsErr, ℕ, decimal, ◌*◌, Some, None, if◌then◌else◌};
+ghost use Rattle.std.specs.Option.{unwrap_or};
+ghost use Rattle.hex.specs.Hex.{hex_digit_value, decode_of};
 ghost use Rattle.std.specs.Result.{result_ok};
 ghost use Rattle.record_model.specs.declared.words.Command.{Command};
 ghost use Rattle.shell_text.specs.Grammar.{IsCommandLine, IsNumber};
 ghost use Rattle.shell_text.specs.Reading.{words_of, small_number, number_of, value_of, bare_command, command_of_one};
 ghost use Rattle.shell_text.specs.Reading.{command_of_two, scan_of, two_words, three_words, command_in, line_of};
 
+use memchr::memchr;
 use record_model::{Command, Octets};
 use thiserror::Error;
 
@@ -60,6 +63,34 @@ pub fn read_decimal(word: &[u8]) -> Option<u32>
     read_number(word)
 }
 
+// What a hex digit stands for, in either case, or 255 where it is none.
+fn digit_value(digit: u8) -> u8
+    ensures { result ≡ unwrap_or (hex_digit_value digit) 255 }
+{
+    match digit {
+        b'0'..=b'9' => digit - b'0',
+        b'a'..=b'f' => digit - b'a' + 10,
+        b'A'..=b'F' => digit - b'A' + 10,
+        _ => 255,
+    }
+}
+
+// Reads pairs of hex digits into octets, and answers whether all are digits. No turn of its loop branches, so that the
+// compiler takes several pairs at once.
+fn read_pairs(digits: &[u8], octets: &mut [u8]) -> bool
+    requires { length digits.now ≡ 2 * length octets.old }
+    ensures { result_ok (decode_of digits.now) ≡ (if result then Some octets.new else None) }
+{
+    let mut greatest = 0u8;
+    for place in 0..octets.len() {
+        let high = digit_value(digits[2 * place]);
+        let low = digit_value(digits[2 * place + 1]);
+        greatest = greatest.max(high).max(low);
+        octets[place] = high.wrapping_mul(16).wrapping_add(low);
+    }
+    greatest < 16
+}
+
 fn read_value(text: &[u8]) -> Option<Octets>
     requires { length text.now ≤ LINE_MAX }
     ensures { result ≡ value_of text.now }
@@ -70,18 +101,21 @@ fn read_value(text: &[u8]) -> Option<Octets>
     if text.len() < 2 {
         return None;
     }
+    if text.len() % 2 == 1 {
+        return None;
+    }
     let mut buffer = [0u8; LINE_MAX / 2];
     let octets = &mut buffer[..text.len() / 2];
-    match hex::decode_to_slice(text, octets) {
-        Ok(()) => Octets::from_slice(octets),
-        Err(_) => None,
+    if !read_pairs(text, octets) {
+        return None;
     }
+    Octets::from_slice(octets)
 }
 
 fn first_space(text: &[u8]) -> Option<usize>
     ensures { result ≡ position (λ x. x == 32) text.now }
 {
-    text.iter().position(|octet| *octet == b' ')
+    memchr(b' ', text)
 }
 
 /// The first word, and what stands behind the space that ends it.

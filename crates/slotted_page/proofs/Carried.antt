@@ -1,11 +1,10 @@
 -- A page that is packed anew: the first slots are carried over, the others are empty as yet.
-use Rattle.std.proofs.Common.{◌≡◌, ◌≢◌, ℕ, ◌+◌, ◌<◌, ◌≤◌, List, get_or, take, Option, None, sym, ap, ◌∙◌, arith, ⊎_elim, subst}
+use Rattle.std.proofs.Common.{◌≡◌, ◌≢◌, ℕ, ◌+◌, ◌<◌, ◌≤◌, List, get_or, take, replicate, Option, None, sym, ap, ◌∙◌, arith, ⊎_elim, subst}
 use Rattle.std.proofs.lemmas.List.{get_or-replicate, take_all}
 use Rattle.std.proofs.lemmas.List.Sums.{sum_by_more, sum_by_more_le}
 use Rattle.std.proofs.lemmas.Bool.{cases_eq}
 use Rattle.slotted_page.specs.Layout.{lsn_of, used_of, slots_of, content_of, content_length, total_length, IsSound}
 use Rattle.slotted_page.specs.Changes.{Sets}
-use Rattle.slotted_page.specs.Laws.{IsBlank}
 use Rattle.slotted_page.proofs.Slots.{length-slots_of, get_or-slots_of, same_slots}
 
 pub record Carried (old new : List ℕ) (slot : ℕ) : Type 0 where
@@ -16,15 +15,14 @@ pub record Carried (old new : List ℕ) (slot : ℕ) : Type 0 where
   pub used : used_of new ≡ total_length (take slot (slots_of old))
 
 -- before the first slot
-pub none_carried : (old zeros new : List ℕ) → IsBlank zeros → IsSound new → slots_of new ≡ slots_of zeros → used_of new ≡ used_of zeros
-    → lsn_of new ≡ lsn_of old → Carried old new 0
-none_carried old zeros new blank sound slots used lsn = record {
+pub none_carried : (old new : List ℕ) → IsSound new → slots_of new ≡ replicate 32 None → used_of new ≡ 0 → lsn_of new ≡ lsn_of old → Carried old new 0
+none_carried old new sound slots used lsn = record {
   sound = sound;
   done = λ k less. absurd (omega (arith, less));
   left = λ k _ below. sym (get_or-slots_of new k None below)
-      ∙ ap (λ (xs : List (Option (List ℕ))). get_or xs k None) (slots ∙ blank.slots) ∙ get_or-replicate 32 k None None below;
+      ∙ ap (λ (xs : List (Option (List ℕ))). get_or xs k None) slots ∙ get_or-replicate 32 k None None below;
   lsn = lsn;
-  used = used ∙ blank.used;
+  used = used;
 }
 
 -- the next slot's value has room

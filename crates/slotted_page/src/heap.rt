@@ -6,7 +6,7 @@ ghost use Rattle.slotted_page.specs.Layout.{IsSound, FitsPage};
 ghost use Rattle.slotted_page.specs.Laws.{IsBlank};
 ghost use Rattle.slotted_page.specs.Changes.{Wrote, Sets};
 
-use crate::directory::{content_of, lsn_of, put_entry, put_lsn, put_used, used_of};
+use crate::directory::{content_of, put_entry, put_lsn, put_used, used_of};
 use crate::{HEAP_LEN, PAGE_LEN, SLOTS};
 use byte_fields::VALUE_MAX;
 
@@ -77,6 +77,16 @@ pub fn blank() -> [u8; PAGE_LEN]
     [0; PAGE_LEN]
 }
 
+// Empties all slots. The octets of the heap stay: nobody reads them before they are written.
+fn clear_all(octets: &mut [u8; PAGE_LEN])
+    ensures sound { IsSound octets.new }
+    ensures slots { slots_of octets.new ≡ replicate 32 None }
+    ensures used { used_of octets.new ≡ 0 }
+    ensures lsn { lsn_of octets.new ≡ lsn_of octets.old }
+{
+    write(octets, 8, &[0; 136]);
+}
+
 // The page with all its values at the end of the heap, so that it takes up no more octets than they have.
 fn packed(octets: &[u8; PAGE_LEN]) -> [u8; PAGE_LEN]
     requires sound { IsSound octets.now }
@@ -86,8 +96,8 @@ fn packed(octets: &[u8; PAGE_LEN]) -> [u8; PAGE_LEN]
     ensures lsn { lsn_of result ≡ lsn_of octets.now }
     ensures used { used_of result ≡ total_length (slots_of octets.now) }
 {
-    let mut packed = blank();
-    set_lsn(&mut packed, lsn_of(octets));
+    let mut packed = *octets;
+    clear_all(&mut packed);
     for slot in 0..SLOTS {
         carry(octets, &mut packed, slot);
     }

@@ -1,9 +1,8 @@
-use Rattle.std.proofs.Common.{◌∙◌}
 use Rattle.slotted_page.proofs.Carried.{none_carried, next_has_room, one_carried, all_carried_slots, all_carried_used}
 use Rattle.slotted_page.proofs.heap.packed.Goals as goal
 
 pub loop-slot-init : goal.loop-slot-init
-loop-slot-init c = none_carried _ _ _ c.blank-packed.ensures.blank c.set_lsn.ensures.sound c.set_lsn.ensures.slots c.set_lsn.ensures.used (c.set_lsn.ensures.lsn ∙ c.lsn_of.ensures)
+loop-slot-init c = none_carried _ _ c.clear_all.ensures.sound c.clear_all.ensures.slots c.clear_all.ensures.used c.clear_all.ensures.lsn
 
 pub carry-requires-clause-room : goal.carry-requires-clause-room
 carry-requires-clause-room c = next_has_room _ _ _ c.loop-slot.invariant c.loop-slot-test.true c.requires.room

@@ -1,4 +1,4 @@
-use Rattle.std.proofs.Common.{◌≡◌, ◌≤◌, ◌<◌, length, IsTrue}
+use Rattle.std.proofs.Common.{◌≡◌, ◌<◌, length, IsTrue}
 use Rattle.std.specs.Prelude.{false}
 use Rattle.site.specs.Calls.{Preserves}
 use Rattle.front_end.specs.Lines.{to_hear, total, IsSource, HasEnded, HearsOnly, TakesWithin}
@@ -6,21 +6,19 @@ use Rattle.front_end.proofs.LineOctets.{HeardSoFar}
 use Rattle.front_end.specs.Faults.{SameFaults}
 use Rattle.front_end.proofs.source.Source.next.Given as goal
 
-abbrev pub invariant-loop-octet : goal.invariant-loop-octet
-invariant-loop-octet g l =
+abbrev pub invariant-loop-piece : goal.invariant-loop-piece
+invariant-loop-piece g l =
     let old = g.S.Site.state l.fn.site in
     let now = g.S.Site.state l.site in
     record {
       preserves : Preserves old now;
       faults : SameFaults old now;
       source : IsSource l.self;
-      len : l.len ≤ 501;
-      long : length l.line ≡ 500;
       same : IsTrue old.honest → HearsOnly old now;
       takes : IsTrue old.honest → HasEnded l.fn.self old → TakesWithin l.fn.self old now;
       count : IsTrue old.honest → total l.self now ≡ total l.fn.self old;
       still : IsTrue old.honest → HasEnded l.fn.self old → HasEnded l.self now;
-      going : IsTrue old.honest → HasEnded l.fn.self old → 0 < l._octet → l.fn.self.ended ≡ false;
+      going : IsTrue old.honest → HasEnded l.fn.self old → 0 < length l.line.items → l.fn.self.ended ≡ false;
       same_end : IsTrue old.honest → HasEnded l.fn.self old → l.self.ended ≡ l.fn.self.ended;
-      so_far : IsTrue old.honest → HasEnded l.fn.self old → HeardSoFar (to_hear l.fn.self old) (to_hear l.self now) l.line l.len l._octet;
+      so_far : IsTrue old.honest → HasEnded l.fn.self old → HeardSoFar (to_hear l.fn.self old) (to_hear l.self now) l.line.items l._piece;
     }
