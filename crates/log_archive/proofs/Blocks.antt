@@ -10,9 +10,9 @@ use Rattle.log_records.specs.declared.log_record.LogRecord.{LogRecord}
 use Rattle.log_records.specs.Spelling.{AreBlock, IsBlock, spelling}
 use Rattle.log_records.specs.Log.{Entry, Version, blank_version, blank_versions, entries_from, log_from, slot_at, table_of, value_of}
 use Rattle.log_records.specs.Sound.{IsInOrder, commit_number, commit_numbers}
-use Rattle.log_records.proofs.Values.{length_table_of}
+use Rattle.log_records.proofs.Values.{content_of_table, length_table_of}
 use Rattle.log_laws.proofs.Orders.{entries_in_order, in_order_to}
-use Rattle.log_laws.proofs.Tables.{content_of_table, content_with, length_table_with}
+use Rattle.log_laws.proofs.Tables.{content_with, length_table_with}
 use Rattle.log_archive.specs.Lines.{IsBlockLine, IsEndLine}
 use Rattle.log_archive.specs.Accepted.{Accepted, Stream, after_block, after_entries, archive_table, blank_stream, with_next}
 use Rattle.log_archive.specs.Values.{AgreesAt, ArchiveIsTheLog, BlankAgrees, HaveBlocks, TablesAgree, WholeArchiveIsTheLog}

@@ -8,3 +8,4 @@ mod Behind
 mod Steps
 mod Walks
 mod Blocks
+mod OneStream

@@ -104,7 +104,7 @@ pub record BlankAgrees (pages : ℕ) : Type 0 where
 
 -- So of an archive that begins with one, all of whose commits count, the table is that of its blocks alone.
 abbrev pub WholeArchiveIsTheLog : Type 0
-WholeArchiveIsTheLog = (pages : ℕ) (lines : List (List ℕ)) (now : Stream) → Accepted pages lines (blank_stream pages) now
-    → (blocks : List (List LogRecord)) × HaveBlocks 0 lines blocks
+WholeArchiveIsTheLog = (pages : ℕ) (lines : List (List ℕ)) (now : Stream)
+    → Accepted pages lines (blank_stream pages) now → (blocks : List (List LogRecord)) × HaveBlocks 0 lines blocks
     × (table_of (log_from 0 blocks) (blank_versions pages)
     ≡ archive_table (replicate (32 * pages) None) now.nets (length now.nets))

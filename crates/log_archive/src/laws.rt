@@ -1,5 +1,5 @@
 // Laws on streams of blocks. They do nothing when called.
-ghost use Rattle.log_archive.specs.Laws.{ArchivesJoin, FollowersAreAccepted};
+ghost use Rattle.log_archive.specs.Laws.{ArchivesJoin, FollowersAreAccepted, OneStream};
 ghost use Rattle.std.specs.Prelude.{ℕ};
 ghost use Rattle.log_archive.specs.Rows.{OfThreeBlocks, OfWrongBlocks};
 ghost use Rattle.log_archive.specs.Values.{ArchiveIsTheLog, BlankAgrees, WholeArchiveIsTheLog};
@@ -13,6 +13,11 @@ pub fn streams_by_hand()
 /// Law: archives one behind the other are one, where the second goes on from the stream behind the first.
 pub fn archives_join()
     ensures { ArchivesJoin }
+{}
+
+/// Law: lines lead to one stream.
+pub fn one_stream()
+    ensures { OneStream }
 {}
 
 /// Law: blocks whose records follow are accepted as they are told, with their end line.
