@@ -48,7 +48,7 @@ where
         return FileSite::fresh(rt, rt.alloc(), log, flash, disk);
     }
     match read_words(rt.alloc(), words) {
-        Ok(Request::Simulate(_)) => FileSite::for_trace(rt, rt.alloc()),
+        Ok(Request::Simulate(_)) | Ok(Request::Verify(_)) => FileSite::for_trace(rt, rt.alloc()),
         Ok(Request::Trial(_)) | Err(Unread::Words) => FileSite::bare(rt, rt.alloc()),
         Ok(Request::Check) | Ok(Request::Archive(_)) => FileSite::for_check(rt, rt.alloc()),
         Ok(_) => FileSite::existing(rt, rt.alloc()),
