@@ -6,9 +6,9 @@ use Rattle.std.proofs.lemmas.Fmt.{length-decimal-le}
 use Rattle.record_model.specs.State.{Write}
 use Rattle.site.specs.State.{State}
 use Rattle.shell_text.specs.Runs.{lines_of}
-use Rattle.log_records.specs.declared.TheConstants.{BLOCK_LEN}
 use Rattle.stream_lines.specs.declared.source.Source.{Source}
-use Rattle.stream_lines.specs.Lines.{HasEnded, HearsLine, HearsLong, IsSource, pending, to_hear, total}
+use Rattle.stream_lines.specs.declared.source.Heard.{Heard}
+use Rattle.stream_lines.specs.Lines.{HasEnded, Hears, HearsLine, HearsLong, HearsOnly, IsSource, pending, to_hear, total}
 use Rattle.log_archive.specs.Lines.{IsBlockLine, IsEndLine}
 use Rattle.log_archive.specs.Accepted.{Accepted, AfterLine, Stream, blank_stream, commits_in}
 use Rattle.log_archive.proofs.Following.{join}
@@ -83,8 +83,8 @@ module _ (pages : ℕ) (octets rest : List ℕ) (number : ℕ) (replay : Replay)
       }
 
   -- the end of the input
-  pub heard_all : (count total : ℕ) → rest ≡ [] → count ≡ commits_in h.mid → length octets ≤ most → IsArchiveOf pages octets count
-  heard_all count total none is few = record {
+  pub heard_all : (count : ℕ) → rest ≡ [] → count ≡ commits_in h.mid → length octets ≤ most → IsArchiveOf pages octets count
+  heard_all count none is few = record {
     now = h.mid;
     accepted = subst (λ l. Accepted pages l (blank_stream pages) h.mid) (sym (h.cut ∙ ap (λ l. h.lines ++ lines_of true l) none ∙ append-nil h.lines)) h.accepted;
     count_is = is;
@@ -139,3 +139,17 @@ few_lines pages octets number replay source site is h all many =
     let long = length-append (pending source) site.input.left in
     let taken = is.few in
     omega (arith, few, long, taken, all, many)
+
+-- so the input isn't longer than it may be, once nothing of it is left
+pub few_octets : (octets : List ℕ) (source : Source) (site : State) → IsSource source → to_hear source site ≡ [] → total source site ≡ length octets → length octets ≤ most
+few_octets octets source site is none all =
+    let long = length-append (pending source) site.input.left in
+    let taken = is.few in
+    omega (arith, long, taken, all, ap length none)
+
+-- what was heard, by its kind
+pub hears_as : (said is : Heard) (line : List ℕ) (was ended : Bool) (before after : List ℕ) → Hears said line was ended before after → said ≡ is → Hears is line was ended before after
+hears_as said is line was ended before after h same = subst (λ x. Hears x line was ended before after) same h
+
+pub hears_then : (a b c : State) → HearsOnly a b → HearsOnly b c → HearsOnly a c
+hears_then a b c f s = record { image = s.image ∙ f.image; loose = s.loose ∙ f.loose; told = s.told ∙ f.told; past = s.past ∙ f.past; reads = λ dev. s.reads dev ∙ f.reads dev }

@@ -1,5 +1,5 @@
 -- What is told, once the input was heard.
-use Rattle.std.proofs.Common.{◌≡◌, ◌⊎◌, ℕ, List, [], ◌++◌, take, refl, ◌∙◌, ap, arith, inl, inr, IsTrue}
+use Rattle.std.proofs.Common.{◌≡◌, ◌⊎◌, ℕ, ◌+◌, List, [], ◌++◌, length, take, refl, ◌∙◌, ap, arith, inl, inr, IsTrue}
 use Rattle.std.specs.Prelude.{Result, Ok, Err, OnOk, OnErr}
 use Rattle.std.proofs.lemmas.List.{take_all}
 use Rattle.site.specs.State.{State, Moment, now_of}
@@ -24,8 +24,8 @@ bad_of pages octets left status text (inr (inr (inr (inl input)))) number wrong 
 bad_of pages octets left status text (inr (inr (inr (inr memory)))) number wrong = inr (inl memory.0)
 
 archive_of : (pages : ℕ) (octets left : List ℕ) (status : ℕ) (text : List ℕ) → IsAnswer pages octets left status text → (count : ℕ) → IsArchiveOf pages octets count → (status ≡ 0) ⊎ ((status ≡ 4) ⊎ ((status ≡ 5) ⊎ (status ≡ 6)))
-archive_of pages octets left status text (inl (inl zero, rest)) count archive = inl zero
-archive_of pages octets left status text (inl (inr six, rest)) count archive = inr (inr (inr six))
+archive_of pages octets left status text (inl (inl zero, told, is, text_is)) count archive = inl zero
+archive_of pages octets left status text (inl (inr six, told, is, text_is)) count archive = inr (inr (inr six))
 archive_of pages octets left status text (inr (inl (is, number, wrong, told))) count archive = absurd (never_both pages octets count number archive wrong)
 archive_of pages octets left status text (inr (inr (inl (is, long, told)))) count archive = let few = archive.few in absurd (omega (arith, few, long))
 archive_of pages octets left status text (inr (inr (inr (inl input)))) count archive = inr (inr (inl input.0))

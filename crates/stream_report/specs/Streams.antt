@@ -1,5 +1,5 @@
 -- Which input is an archive, of how many commits, and which of its lines is the first that isn't accepted.
-use Rattle.std.specs.Prelude.{◌≡◌, ℕ, ◌+◌, ◌^◌, ◌≤◌, List, ◌∷◌, ◌++◌, length, codes, decimal}
+use Rattle.std.specs.Prelude.{◌≡◌, ℕ, ◌+◌, ◌^◌, ◌≤◌, true, List, ◌∷◌, ◌++◌, length, codes, decimal}
 use Rattle.shell_text.specs.Runs.{lines_of}
 use Rattle.log_archive.specs.Accepted.{Accepted, AfterLine, Stream, blank_stream, commits_in}
 

@@ -3,6 +3,6 @@
 
 mod halt;
 mod hearing;
-mod verify;
+mod run;
 
-pub use verify::verify;
+pub use run::verify;
