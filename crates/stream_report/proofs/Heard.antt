@@ -1,15 +1,14 @@
 -- An input, cut into its lines, which are heard one after the other.
-use Rattle.std.proofs.Common.{◌≡◌, ◌⊎◌, inl, inr, ℕ, ◌+◌, ◌-◌, ◌*◌, ◌^◌, ◌≤◌, ◌<◌, Bool, true, false, List, [], ◌∷◌, ◌++◌, length, take, drop, refl, sym, ap, subst, ◌∙◌, append_assoc, append-nil, arith}
+use Rattle.std.proofs.Common.{◌≡◌, inl, inr, ℕ, ◌+◌, ◌-◌, ◌≤◌, ◌<◌, Bool, true, List, [], ◌∷◌, ◌++◌, length, take, drop, refl, sym, ap, subst, ◌∙◌, append_assoc, append-nil, arith}
 use Rattle.std.specs.Prelude.{codes, decimal}
-use Rattle.std.proofs.lemmas.List.{length-append, length-take-le}
+use Rattle.std.proofs.lemmas.List.{length-append}
 use Rattle.std.proofs.lemmas.Fmt.{length-decimal-le}
 use Rattle.record_model.specs.State.{Write}
 use Rattle.site.specs.State.{State}
 use Rattle.shell_text.specs.Runs.{lines_of}
 use Rattle.stream_lines.specs.declared.source.Source.{Source}
 use Rattle.stream_lines.specs.declared.source.Heard.{Heard}
-use Rattle.stream_lines.specs.Lines.{HasEnded, Hears, HearsLine, HearsLong, HearsOnly, IsSource, pending, to_hear, total}
-use Rattle.log_archive.specs.Lines.{IsBlockLine, IsEndLine}
+use Rattle.stream_lines.specs.Lines.{HasEnded, Hears, HearsLine, HearsOnly, IsSource, pending, to_hear, total}
 use Rattle.log_archive.specs.Accepted.{Accepted, AfterLine, Stream, blank_stream, commits_in}
 use Rattle.log_archive.proofs.Following.{join}
 use Rattle.log_archive.proofs.Lined.{length-line}
