@@ -8,7 +8,7 @@ pub mod SavedHeads
 pub mod UnitsJudged
 pub mod Walks
 pub mod GroupsRead
-pub mod LastOnes
 pub mod CleanOnes
+pub mod Counts
 pub mod NewestRead
 pub mod FirstRule

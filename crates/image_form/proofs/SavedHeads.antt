@@ -14,7 +14,7 @@ use Rattle.byte_fields.specs.declared.frame_head.FrameHead.{FrameHead}
 use Rattle.byte_fields.specs.FrameHeads.{spelling, spelling_of_all}
 use Rattle.byte_fields.proofs.HeadParts.{length_spelling}
 use Rattle.byte_fields.proofs.GroupHeads.{have_form}
-use Rattle.frame_group.specs.Groups.{heads_of, frames_in, HasHeads}
+use Rattle.frame_group.specs.Groups.{Frame, heads_of, frames_in, HasHeads, IsGroup}
 use Rattle.frame_group.proofs.Contents.{frames_are_in}
 use Rattle.frame_group.proofs.Front.{begins_with_heads, one_heads}
 use Rattle.meta_segments.specs.Segments.{heads_of_group, IsSegment}
@@ -204,3 +204,12 @@ module _ (g : Geometry) (m : Master) (image : Image) (formed : IsFormed g m imag
             ∙ ap spelling_of_all (sym (follow.same n live there))
             ∙ sym (part_of (segment_on g image (n / 4)) (heads_with k rule.segments (n / 4)) (n % 4) (omega arith) (segment_of g rule.segments image has (n / 4) segment)),
       )
+
+-- the heads that the front of a group's content has
+pub heads_of_part : (content octets : List ℕ) (frames : List Frame) (heads : List FrameHead) → octets ≡ take 128 (drop 0 content) → IsGroup content frames → HasHeads octets heads → heads ≡ heads_of frames
+heads_of_part content octets frames heads is group has =
+    one_heads octets heads (heads_of frames) has (subst (λ (o : List ℕ). HasHeads o (heads_of frames)) (sym is) (heads_in_front content (heads_of frames) (begins_with_heads content frames group)))
+
+pub no_heads_of_part : (content octets : List ℕ) (frames : List Frame) → octets ≡ take 128 (drop 0 content) → IsGroup content frames → ((heads : List FrameHead) → HasHeads octets heads → ⊥) → ⊥
+no_heads_of_part content octets frames is group none =
+    none (heads_of frames) (subst (λ (o : List ℕ). HasHeads o (heads_of frames)) (sym is) (heads_in_front content (heads_of frames) (begins_with_heads content frames group)))
