@@ -69,6 +69,9 @@ pub all_groups : (g : Geometry) (image : Image) (first : ℕ) (list : List (List
     first + length list ≡ hi_of (group_shape g) image.flash → AreHeadsFrom g image first list → frames ≡ record { first = first; groups = map known_in list } → ShowsFrames g image frames
 all_groups g image first list frames slots at end are is = grind (arith, common_steps, length-map, known_groups)
 
+pub shown_some : (g : Geometry) (image : Image) (o : Option Queue) (frames : Queue) → o ≡ Some frames → IfSome o (λ found. ShowsFrames g image found) → ShowsFrames g image frames
+shown_some g image o frames is shown = subst (λ (x : Option Queue). IfSome x (λ found. ShowsFrames g image found)) is shown
+
 -- The version of a page.
 
 frames_joined : (contents : List (List ℕ)) → frames_of contents ≡ joined (map frames_in contents)

@@ -1,12 +1,11 @@
 // What stands on the devices, and whether it is of the form.
-ghost use Rattle.std.specs.Prelude.{◌≡◌, ◌↔◌, ◌+◌, ◌*◌, ◌/◌, is_none, IsTrue, IfOk, IfSome};
-ghost use Rattle.site.specs.declared.geometry.Geometry.{Geometry};
-ghost use Rattle.site.specs.Calls.{SameReads};
+ghost use Rattle.std.specs.Prelude.{◌≡◌, ◌↔◌, ◌+◌, ◌*◌, is_none, IsTrue, IfOk, IfSome};
 ghost use Rattle.image_changes.specs.Rings.{log_shape};
 ghost use Rattle.sealed_ring.specs.Ring.{IsRing};
 ghost use Rattle.log_store.specs.Representation.{Invariant};
 ghost use Rattle.site.specs.Work.{OnlyReads};
-ghost use Rattle.image_form.specs.Counted.{ReadsAtMost, log_looks, page_looks};
+ghost use Rattle.image_form.specs.Counted.{ReadsAtMost, ReadsBySizes, log_looks, log_to_find, page_looks};
+ghost use Rattle.image_form.specs.Counted.{pages_to_find, segment_slots};
 ghost use Rattle.image_form.specs.Octets.{HasSizes};
 ghost use Rattle.image_form.specs.Formed.{MayBeRead, IsThere, LogIs, IsThereOr, IsFormedOr};
 ghost use Rattle.image_form.specs.Verdict.{OctetsAreFormed};
@@ -55,10 +54,7 @@ fn find<S: Site>(site: &mut S) -> Result<Result<Found, Place>, Stop>
     ensures found { IsTrue (S.state site.old).honest
         → IfOk result (λ found. IsThereOr found (S.state site.new)) }
     ensures may_read { IfOk result (λ found. IfOk found (λ found. MayBeRead found (S.state site.new))) }
-    ensures looks { (g : Geometry) → HasSizes g (S.state site.old).image → ReadsAtMost (3 * g.blocks + 12)
-        (2 * g.groups + 2 * (g.groups / 4 + 3)) (S.state site.old) (S.state site.new) }
-    ensures unread { ((g : Geometry) → HasSizes g (S.state site.old).image → ⊥)
-        → SameReads (S.state site.old) (S.state site.new) }
+    ensures looks { ReadsBySizes log_to_find pages_to_find (S.state site.old) (S.state site.new) }
     ensures reads { OnlyReads result (S.state site.old) (S.state site.new) }
 {
     let Some(geometry) = rule_lengths(site) else {
@@ -89,7 +85,7 @@ fn find_unformed<S: Site>(
         → IfOk result (λ failing. IsTrue (is_none failing)
         ↔ OctetsAreFormed found.now.log.geometry found.now.master (S.state site.old).image) }
     ensures looks { ReadsAtMost found.now.log.geometry.blocks (10 * found.now.log.geometry.groups
-        + (found.now.log.geometry.groups / 4 + 3) + found.now.log.geometry.pages)
+        + segment_slots found.now.log.geometry + found.now.log.geometry.pages)
         (S.state site.old) (S.state site.new) }
     ensures reads { OnlyReads result (S.state site.old) (S.state site.new) }
 {
@@ -111,10 +107,7 @@ pub fn find_formed<S: Site>(alloc: Global, site: &mut S) -> Result<Result<Found,
     ensures formed { IsTrue (S.state site.old).honest
         → IfOk result (λ found. IsFormedOr found (S.state site.new)) }
     ensures may_read { IfOk result (λ found. IfOk found (λ found. MayBeRead found (S.state site.new))) }
-    ensures looks { (g : Geometry) → HasSizes g (S.state site.old).image
-        → ReadsAtMost (log_looks g) (page_looks g) (S.state site.old) (S.state site.new) }
-    ensures unread { ((g : Geometry) → HasSizes g (S.state site.old).image → ⊥)
-        → SameReads (S.state site.old) (S.state site.new) }
+    ensures looks { ReadsBySizes log_looks page_looks (S.state site.old) (S.state site.new) }
     ensures reads { OnlyReads result (S.state site.old) (S.state site.new) }
 {
     one_master();

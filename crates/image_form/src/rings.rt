@@ -1,8 +1,8 @@
 // The four rings of the devices.
-ghost use Rattle.std.specs.Prelude.{◌≡◌, ◌+◌, ◌*◌, ◌/◌, IsTrue, IfOk};
+ghost use Rattle.std.specs.Prelude.{◌≡◌, ◌+◌, ◌*◌, IsTrue, IfOk};
 ghost use Rattle.image_changes.specs.Rings.{log_shape, group_shape, segment_shape, master_shape};
 ghost use Rattle.site.specs.Work.{OnlyReads};
-ghost use Rattle.image_form.specs.Counted.{ReadsAtMost};
+ghost use Rattle.image_form.specs.Counted.{ReadsAtMost, pages_to_find};
 ghost use Rattle.image_form.specs.Octets.{HasSizes};
 ghost use Rattle.image_form.specs.Findings.{RingsAre, MayRead};
 
@@ -71,7 +71,7 @@ pub fn rule_rings<S: Site>(site: &mut S, geometry: &Geometry) -> Result<Result<R
         → IfOk result (λ rings. RingsAre geometry.now rings (S.state site.new)) }
     ensures may_read { IfOk result (λ rings. IfOk rings (λ rings. MayRead geometry.now rings (S.state site.new))) }
     ensures looks { ReadsAtMost (2 * geometry.now.blocks + 6)
-        (2 * geometry.now.groups + 2 * (geometry.now.groups / 4 + 3)) (S.state site.old) (S.state site.new) }
+        (pages_to_find geometry.now) (S.state site.old) (S.state site.new) }
     ensures reads { OnlyReads result (S.state site.old) (S.state site.new) }
 {
     let masters = match judge(site, MASTERS) {

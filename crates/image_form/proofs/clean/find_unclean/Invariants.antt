@@ -1,14 +1,15 @@
-use Rattle.std.proofs.Common.{ℕ, ◌<◌, IsTrue}
+use Rattle.std.proofs.Common.{ℕ, ◌<◌, IsTrue, ◌*◌, ◌-◌}
 use Rattle.std.specs.Prelude.{Ok}
 use Rattle.sealed_ring.specs.Ring.{IsLive}
 use Rattle.image_changes.specs.Rings.{group_shape}
 use Rattle.frame_group.specs.Groups.{frames_in}
 use Rattle.tail_rebuild.specs.Standing.{group_on}
 use Rattle.site.specs.Work.{OnlyReads}
+use Rattle.image_form.specs.Counted.{ReadsAtMost}
 use Rattle.image_form.specs.Octets.{AreGroups}
 use Rattle.image_form.specs.Framing.{IsCleanFrame}
 use Rattle.image_form.specs.Findings.{MayRead, AreFound}
-use Rattle.image_form.proofs.clean.rule_clean.Given as goal
+use Rattle.image_form.proofs.clean.find_unclean.Given as goal
 
 abbrev pub invariant-loop-group : goal.invariant-loop-group
 invariant-loop-group g l =
@@ -17,6 +18,7 @@ invariant-loop-group g l =
     record {
       may_read : MayRead l.geometry l.rings now;
       stand : IsTrue old.honest → AreFound l.rings old → AreGroups l.geometry old.image → (n : ℕ) → IsLive (group_shape l.geometry) l.rings.groups.hi n → n < l.group →
-          (i : ℕ) → IsCleanFrame l.geometry old.image n (frames_in (group_on l.geometry old.image n)) i;
+          (i : ℕ) → IsCleanFrame old.image l.frames n (frames_in (group_on l.geometry old.image n)) i;
+      looks : ReadsAtMost 0 (17 * (l.group - (l.rings.groups.hi - (l.rings.groups.shape.slots - 1)))) old now;
       reads : OnlyReads {T = Unit {0}} (Ok tt) old now;
     }

@@ -3,9 +3,11 @@ use Rattle.std.specs.Prelude.{Ok}
 use Rattle.slotted_page.specs.Layout.{IsSound}
 use Rattle.flash_cache.specs.Representation.{version_on}
 use Rattle.site.specs.Work.{OnlyReads}
+use Rattle.image_form.specs.Counted.{ReadsAtMost}
 use Rattle.image_form.specs.Octets.{AreGroups}
+use Rattle.image_form.specs.Newest.{ShowsFrames}
 use Rattle.image_form.specs.Findings.{MayRead, AreFound}
-use Rattle.image_form.proofs.versions.rule_versions.Given as goal
+use Rattle.image_form.proofs.versions.find_unsound.Given as goal
 
 abbrev pub invariant-loop-page : goal.invariant-loop-page
 invariant-loop-page g l =
@@ -13,6 +15,7 @@ invariant-loop-page g l =
     let now = g.S.Site.state l.site in
     record {
       may_read : MayRead l.geometry l.rings now;
-      stand : IsTrue old.honest → AreFound l.rings old → AreGroups l.geometry old.image → (n : ℕ) → n < l.page → IsSound (version_on l.geometry old.image n);
+      stand : IsTrue old.honest → AreFound l.rings old → AreGroups l.geometry old.image → ShowsFrames l.geometry old.image l.frames → (n : ℕ) → n < l.page → IsSound (version_on l.geometry old.image n);
+      looks : ReadsAtMost 0 l.page old now;
       reads : OnlyReads {T = Unit {0}} (Ok tt) old now;
     }
