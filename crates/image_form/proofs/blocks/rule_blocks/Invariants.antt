@@ -17,6 +17,7 @@ invariant-loop-block g l =
       going : Invariant l.log now;
       stand : Finds l.log old → (n : ℕ) → IsLive (log_shape l.log.geometry) l.log.ring.hi n → l.kept ≤ n → n < l.block →
           (records : List LogRecord) × IsBlockOn l.log.geometry.pages (block_on l.log.geometry old.image n) records;
+      most : l.block - l.first ≤ l.log.ring.hi - l.first;
       looks : ReadsAtMost (l.block - l.first) 0 old now;
       reads : OnlyReads {T = Unit {0}} (Ok tt) old now;
     }

@@ -1,4 +1,4 @@
-use Rattle.std.proofs.Common.{◌≡◌, inl, inr, ℕ, true, false, sym, ap, refl, ◌∙◌, subst, true≢false, arith}
+use Rattle.std.proofs.Common.{◌≡◌, inl, inr, ℕ, true, false, sym, ap, refl, ◌∙◌, subst, true≢false, arith, ◌+◌, ◌-◌, ◌*◌}
 use Rattle.std.specs.Prelude.{Ok, Some}
 use Rattle.std.proofs.lemmas.Bool.{cases_eq}
 use Rattle.site.specs.State.{State, Image}
@@ -10,6 +10,7 @@ use Rattle.image_changes.specs.Rings.{group_shape, segment_shape}
 use Rattle.site.proofs.Working.{looks_then, looks_answered}
 use Rattle.image_form.specs.declared.place.Place.TheVariants as place
 use Rattle.image_form.specs.Findings.{AreHeadsSaved}
+use Rattle.image_form.proofs.Counts.{few_then}
 use Rattle.image_form.proofs.Lasting.{found_later, may_read_later}
 use Rattle.image_form.proofs.SavedHeads.{follows, saved}
 use Rattle.image_form.proofs.following.rule_following.Goals as goal
@@ -70,6 +71,7 @@ loop-group-preserved g c =
             | inl is ↦ subst (AreHeadsSaved geometry old.image) (sym is) here
             | inr other ↦ c.loop-group.invariant.saved honest found n live (omega (arith, below, other))
           ];
+      looks = few_then 0 (2 * (group - (c.args.rings.now.groups.hi - (c.args.rings.now.groups.shape.slots - 1)))) 0 2 0 (2 * (group + 1 - (c.args.rings.now.groups.hi - (c.args.rings.now.groups.shape.slots - 1)))) old now new (omega arith) (omega (arith, c.loop-group.auto.group, c.oldest-group.ensures)) c.loop-group.invariant.looks c.in-Ok.ensures.looks;
       reads = looks_answered c.in-Ok.same tt old new (looks_then tt (Ok c.in-Ok.same) old now new reads c.in-Ok.ensures.reads);
     }
 
