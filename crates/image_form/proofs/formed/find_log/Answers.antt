@@ -9,5 +9,5 @@ returns-in-Ok-clause-looks g c = log_few c.start.result Log (c.args.geometry.now
 pub returns-in-Err-Foreign-clause-looks : goal.returns-in-Err-Foreign-clause-looks
 returns-in-Err-Foreign-clause-looks g c = log_few c.start.result Log (c.args.geometry.now.blocks + 1) (c.args.geometry.now.blocks + 1) _ _ refl (omega arith) c.start.ensures.reads
 
-pub returns-in-Err-clause-looks : goal.returns-clause-looks
+pub returns-in-Err-clause-looks : goal.returns-in-Err-clause-looks
 returns-in-Err-clause-looks g c = log_few c.start.result Log (c.args.geometry.now.blocks + 1) (c.args.geometry.now.blocks + 1) _ _ refl (omega arith) c.start.ensures.reads
