@@ -68,8 +68,5 @@ one_at_most n false is = omega (arith, is)
 
 -- what was found
 
-pub shows_some : (g : Geometry) (image : Image) (o : Option Queue) (frames : Queue) → o ≡ Some frames → IfSome o (λ found. ShowsFrames g image found) → ShowsFrames g image frames
-shows_some g image o frames is shown = subst (λ (x : Option Queue). IfSome x (λ found. ShowsFrames g image found)) is shown
-
 pub none_found : (o : Option Queue) → o ≡ None → IfNone o ⊥ → ⊥
 none_found o is none = subst (λ (x : Option Queue). IfNone x ⊥) is none

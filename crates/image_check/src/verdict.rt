@@ -50,14 +50,18 @@ fn failing_on_log<S: Site>(
 }
 
 // The first that fails of the seventh and the eighth rule, and where.
-fn failing_on_flash<S: Site>(site: &mut S, found: &Found) -> Result<Option<(u8, Place)>, Stop>
+fn failing_on_flash<S: Site>(
+    alloc: Global,
+    site: &mut S,
+    found: &Found,
+) -> Result<Option<(u8, Place)>, Stop>
     requires { MayBeJudged found.now (S.state site.old) }
 
     ensures { Decides 7 found.now result (S.state site.old) (S.state site.new) (λ blocks failing.
         HoldOr 9 failing (reading_of found.now blocks) (S.state site.old).image) }
 {
     let geometry = found.log.geometry();
-    if let Some(place) = rule_clean(site, &geometry, &found.rings)? {
+    if let Some(place) = rule_clean(alloc, site, &geometry, &found.rings)? {
         return Ok(Some((7, place)));
     }
     if let Some(place) = rule_following(site, &geometry, &found.rings)? {
@@ -142,7 +146,7 @@ fn judge_pages<S: Site>(
         Ok(records) => records,
         Err(place) => return Ok(Verdict::Unsound { rule: 6, place }),
     };
-    if let Some((rule, place)) = failing_on_flash(site, found)? {
+    if let Some((rule, place)) = failing_on_flash(alloc, site, found)? {
         return Ok(Verdict::Unsound { rule, place });
     }
     judge_counts(alloc, site, found, survey, records)
@@ -171,7 +175,7 @@ pub fn check_image<S: Site>(alloc: Global, site: &mut S) -> Result<Verdict, Stop
         → IfOk result (λ verdict. IsVerdictOn (S.state site.old).image verdict) }
     ensures reads { OnlyReads result (S.state site.old) (S.state site.new) }
 {
-    let found = match find_formed(site)? {
+    let found = match find_formed(alloc, site)? {
         Ok(found) => found,
         Err(place) => return Ok(Verdict::Unsound { rule: 1, place }),
     };

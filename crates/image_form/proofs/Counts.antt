@@ -135,3 +135,7 @@ module _ (g : Geometry) (s0 s1 s2 s3 s4 : State) where
       let slots = ap (λ (s : Shape). s.slots) last in
       few_then (2 * g.blocks + 6) (2 * g.groups) 0 (2 * (g.groups / 4 + 3)) (2 * g.blocks + 6) (2 * g.groups + 2 * (g.groups / 4 + 3)) s0 s3 s4 (omega arith) (omega arith) (third r q p blocks groups is are from next behind)
       (flash_few o segments.dev (2 * segments.slots) (2 * (g.groups / 4 + 3)) s3 s4 (ap (λ (s : Shape). s.dev) last) (omega (arith, slots)) end)
+
+-- where the log isn't read
+pub log_unread : (a b : State) (n : ℕ) → Preserves a b → ReadsAtMost 0 n a b → b.log_reads ≡ a.log_reads
+log_unread a b n goes few = let least = goes.reads Log in let most = few.log in omega (arith, least, most)

@@ -7,11 +7,12 @@ use Rattle.image_form.specs.Octets.{AreGroups, AreVersions}
 use Rattle.image_form.specs.Findings.{AreFound}
 use Rattle.image_form.specs.Newest.{ShowsFrames}
 use Rattle.image_form.specs.Verdict.{logical_image_of}
+use Rattle.image_form.proofs.NewestRead.{shown_some}
 use Rattle.image_check.specs.Judging.{reading_of}
 use Rattle.image_check.specs.Showing.{FindsVersions}
 use Rattle.image_check.specs.Values.{ShowsLog}
 use Rattle.image_check.proofs.ShownOnes.{versions_later}
-use Rattle.image_check.proofs.ValuesCounted.{shows_some, none_found}
+use Rattle.image_check.proofs.ValuesCounted.{none_found}
 use Rattle.image_check.proofs.Walking.{may_later, sees_later}
 use Rattle.image_check.proofs.values.rule_shown.Goals as goal
 
@@ -36,7 +37,7 @@ returns-in-Ok g c = record {
       let reads = c.in-Ok-Some.ensures.reads in
       let same = (reads.same sees.log.honest).image in
       let some = subst (λ (k : Geometry). IsTrue old.honest → AreFound found.rings old → AreGroups k old.image → IfSome c.in-Ok-Some.field-0 (λ queue. ShowsFrames k old.image queue)) c.geometry.ensures c.in-Ok-Some.ensures.shown sees.log.honest rings formed.groups in
-      let there : FindsVersions found c.in-Ok-Some.frames old = record { honest = sees.log.honest; rings = rings; groups = formed.groups; shown = shows_some sizes old.image c.in-Ok-Some.field-0 c.in-Ok-Some.frames c.in-Ok-Some.field-0-is some } in
+      let there : FindsVersions found c.in-Ok-Some.frames old = record { honest = sees.log.honest; rings = rings; groups = formed.groups; shown = shown_some sizes old.image c.in-Ok-Some.field-0 c.in-Ok-Some.frames c.in-Ok-Some.field-0-is some } in
       subst (λ (image : Image). ShowsLog (logical_image_of (reading_of found blocks) image) c.in-Ok.answer) same
       (c.in-Ok.ensures.says blocks (sees_later reads sees) (versions_later reads there) (subst (AreVersions sizes) (sym same) formed.versions));
   reads = looks_then c.in-Ok-Some.field-0 _ (g.S.Site.state c.args.site.now) (g.S.Site.state c.find_frames.new.site) (g.S.Site.state c.show_log.new.site) c.in-Ok-Some.ensures.reads c.in-Ok.ensures.reads;

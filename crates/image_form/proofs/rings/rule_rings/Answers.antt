@@ -1,5 +1,5 @@
 use Rattle.std.proofs.Common.{◌≡◌, IsTrue, sym, ◌∙◌, subst}
-use Rattle.std.specs.Prelude.{Ok, Err}
+use Rattle.std.specs.Prelude.{Result, Ok, Err}
 use Rattle.site.specs.State.{State, Image}
 use Rattle.site.proofs.Laws.{stays_honest, goes_in_sequence}
 use Rattle.site.specs.Calls.{Preserves}
@@ -8,6 +8,8 @@ use Rattle.sealed_ring.specs.Ring.{IsRing}
 use Rattle.sealed_ring.specs.Ready.{region}
 use Rattle.image_changes.specs.Rings.{master_shape, log_shape, group_shape}
 use Rattle.site.proofs.Working.{looks_then, looks_failed, looks_answered}
+use Rattle.image_form.specs.declared.place.Place.{Place}
+use Rattle.image_form.specs.declared.place.Place.TheVariants as place
 use Rattle.image_form.specs.declared.rings.Rings.{Rings}
 use Rattle.image_form.proofs.Counts.{one_ring, two_rings, three_rings, four_rings}
 use Rattle.image_form.proofs.Lasting.{judged_some, usable_some, shape_some, fits_later, sizes_later}
@@ -112,3 +114,11 @@ returns-in-Err-judge-3-clause-looks g c = four_rings c.args.geometry.now (g.S.Si
 
 pub returns-clause-looks : goal.returns-clause-looks
 returns-clause-looks g c = four_rings c.args.geometry.now (g.S.Site.state c.args.site.now) (g.S.Site.state c.judge.new.site) (g.S.Site.state c.judge-2.new.site) (g.S.Site.state c.judge-3.new.site) (g.S.Site.state c.judge-4.new.site) c.judge.result c.judge-2.result c.judge-3.result c.judge-4.result c.blocks_of.result c.groups_of.result c.segments_of.result c.blocks_of.ensures c.groups_of.ensures c.segments_of.ensures c.judge.ensures.looks c.judge-2.ensures.looks c.judge-3.ensures.looks c.judge-4.ensures.looks
+
+pub returns-in-Ok-None-judge-3-clause-reads : goal.returns-in-Ok-None-judge-3-clause-reads
+returns-in-Ok-None-judge-3-clause-reads g c =
+    let answer : Result Rings Place = Err place.Segments in
+    looks_then c.in-Ok-Some.field-0 (Ok answer) _ _ _ c.in-Ok-Some.ensures.reads
+    (looks_then c.in-Ok-Some-judge.field-0 (Ok answer) _ _ _ c.in-Ok-Some-judge.ensures.reads
+    (looks_then c.in-Ok-Some-judge-2.field-0 (Ok answer) _ _ _ c.in-Ok-Some-judge-2.ensures.reads
+    (looks_answered c.in-Ok-None-judge-3.field-0 answer _ _ c.in-Ok-None-judge-3.ensures.reads)))
