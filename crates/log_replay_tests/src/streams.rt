@@ -98,7 +98,7 @@ fn played(alloc: Global, lines: &[&[u8]]) -> (usize, Option<ReplayFault>) {
 
 #[test]
 fn nets_come_in_order(rt: HostRuntime) {
-    let mut replay = Replay::start(rt.alloc(), 1).unwrap();
+    let mut replay = Replay::start(rt.alloc(), 1).expect(&rt, "memory");
     assert!(rt; replay.pop().is_none());
     for line in [FIRST, SECOND, THIRD] {
         assert!(rt; hear(&mut replay, line) == Ok(()));
@@ -111,14 +111,14 @@ fn nets_come_in_order(rt: HostRuntime) {
 
 #[test]
 fn nets_stand_by_ascending_numbers(rt: HostRuntime) {
-    let mut replay = Replay::start(rt.alloc(), 1).unwrap();
+    let mut replay = Replay::start(rt.alloc(), 1).expect(&rt, "memory");
     assert!(rt; hear(&mut replay, DESCENDING) == Ok(()));
     assert!(rt; pops(&mut replay, &[(4, Some(&[4])), (9, Some(&[9]))]));
 }
 
 #[test]
 fn commits_are_popped_each(rt: HostRuntime) {
-    let mut replay = Replay::start(rt.alloc(), 1).unwrap();
+    let mut replay = Replay::start(rt.alloc(), 1).expect(&rt, "memory");
     assert!(rt; hear(&mut replay, BESIDE) == Ok(()));
     assert!(rt; pops(&mut replay, &[(6, Some(&[2]))]));
     assert!(rt; pops(&mut replay, &[(5, Some(&[1]))]));
@@ -127,7 +127,7 @@ fn commits_are_popped_each(rt: HostRuntime) {
 
 #[test]
 fn a_refused_block_leaves_no_net(rt: HostRuntime) {
-    let mut replay = Replay::start(rt.alloc(), 1).unwrap();
+    let mut replay = Replay::start(rt.alloc(), 1).expect(&rt, "memory");
     assert!(rt; hear(&mut replay, TWICE) == Err(ReplayFault::BadStream));
     assert!(rt; replay.pop().is_none());
 }
