@@ -1,14 +1,5 @@
 -- The second chances: each at its place, at most seven, and none of them staged.
-use Rattle.std.proofs.Common.{◌≡◌, ℕ, zero, suc, ◌+◌, ◌≤◌, Bool, true, false, not, ◌&&◌, ◌||◌, cond, List, [], ◌∷◌, length, take, filter, slice_get, arith, refl, ap}
-use Rattle.std.specs.List.{enumerate_from, AllByRecursion}
-use Rattle.std.proofs.lemmas.Bool.{and_parts, eq-eqb}
-use Rattle.std.proofs.lemmas.List.{length-take}
-use Rattle.std.proofs.lemmas.List.Elements.{All-from_recursion}
-use Rattle.std.proofs.lemmas.List.FromFn.{length-enumerate_from}
-use Rattle.std_lemmas.proofs.AllOf.{all_both, all_passed, all_take}
-use Rattle.byte_fields.specs.declared.frame_head.Mark.{Mark}
-use Rattle.second_chance.specs.Plans.{Placed, chances_of, is_among}
-use Rattle.second_chance.specs.Laws.{ChancesStand, ChancesFew, ChancesAreNotStaged}
+use Rattle.second_chance.proofs.Names.{◌≡◌, ℕ, zero, suc, ◌+◌, ◌≤◌, Bool, true, false, not, ◌&&◌, ◌||◌, cond, List, [], ◌∷◌, length, take, filter, slice_get, arith, refl, ap, and_parts, eq-eqb, length-take, All-from_recursion, length-enumerate_from, enumerate_from, AllByRecursion, Mark, ChancesStand, ChancesFew, ChancesAreNotStaged, Placed, chances_of, is_among, all_both, all_passed, all_take}
 use Rattle.second_chance.proofs.Pushes.{chances_stand}
 
 -- whether a frame is wanted

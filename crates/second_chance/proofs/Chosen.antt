@@ -1,12 +1,5 @@
 -- What the loops of a plan have chosen so far.
-use Rattle.std.proofs.Common.{◌≡◌, ℕ, ◌+◌, ◌<◌, ◌≤◌, Bool, true, false, not, ◌&&◌, cond, List, [], ◌∷◌, ◌++◌, length, get_or, take, drop, map, filter, take-append-drop, append-nil, arith, refl, sym, ap, ◌∙◌}
-use Rattle.std.specs.List.{enumerate_from}
-use Rattle.std.proofs.lemmas.List.{map-append, take_all, take-append-le, length-map}
-use Rattle.std.proofs.lemmas.List.Elements.{filter_more, filter-append, filter_agree}
-use Rattle.std.proofs.lemmas.List.FromFn.{length-enumerate_from, get_or-enumerate_from}
-use Rattle.byte_fields.specs.declared.frame_head.Mark.{Mark}
-use Rattle.second_chance.specs.Plans.{Placed, chances_of, staged_of}
-use Rattle.second_chance.specs.Laws.{names}
+use Rattle.second_chance.proofs.Names.{◌≡◌, ℕ, ◌+◌, ◌<◌, ◌≤◌, Bool, true, false, not, ◌&&◌, cond, List, [], ◌∷◌, ◌++◌, length, get_or, take, drop, map, filter, take-append-drop, append-nil, arith, refl, sym, ap, ◌∙◌, map-append, take_all, take-append-le, length-map, filter_more, filter-append, filter_agree, length-enumerate_from, get_or-enumerate_from, enumerate_from, Mark, names, Placed, chances_of, staged_of}
 
 -- the numbers of those among the first i that pass the test
 abbrev pub chosen : {X : Type 0} → (X → Bool) → (X → ℕ) → List X → ℕ → List ℕ

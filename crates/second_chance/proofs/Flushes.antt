@@ -1,14 +1,6 @@
 -- A flush, push by push.
-use Rattle.std.proofs.Common.{rules, ◌≡◌, ℕ, zero, suc, ◌+◌, ◌-◌, ◌<◌, ◌≤◌, Bool, true, false, ◌&&◌, cond, List, [], ◌∷◌, ◌++◌, length, take, reverse, filter, arith, refl, sym, ap, ◌∙◌}
-use Rattle.std.specs.List.{list_any}
-use Rattle.std.proofs.lemmas.List.{length-map}
-use Rattle.std.proofs.lemmas.Bool.{eq-eqb}
+use Rattle.second_chance.proofs.Names.{◌≡◌, ℕ, zero, suc, ◌+◌, ◌-◌, ◌<◌, ◌≤◌, Bool, true, false, ◌&&◌, cond, List, [], ◌∷◌, ◌++◌, length, take, reverse, filter, arith, refl, sym, ap, ◌∙◌, eq-eqb, length-map, list_any, Mark, changed_count, Rules, PoolPage, Cache, saved, saved_page, pool_mark, pool_marks, is_pulled, leaving, push_changed, wants_flush, flushed_by, flushed, staged_in_push, staged_in_flush, chances_of, pulled_at_flush, PoolMark}
 use Rattle.std_lemmas.proofs.Lists.{any_map, any_reverse}
-use Rattle.byte_fields.specs.declared.frame_head.Mark.{Mark}
-use Rattle.second_chance.specs.declared.plan.PoolMark.{PoolMark}
-use Rattle.second_chance.specs.Plans.{chances_of, pulled_at_flush}
-use Rattle.second_chance.specs.Machine.{Rules, PoolPage, Cache, saved, saved_page, pool_mark, pool_marks, is_pulled, leaving, push_changed, wants_flush, flushed_by, flushed, staged_in_push, staged_in_flush}
-use Rattle.second_chance.specs.Laws.{changed_count}
 
 -- A push saves a page.
 

@@ -1,15 +1,6 @@
 -- The groups that work pushes, counted.
-use Rattle.std.proofs.Common.{rules, ◌≡◌, ℕ, zero, suc, ◌+◌, ◌≤◌, ◌==◌, Bool, true, false, cond, List, [], ◌∷◌, ◌++◌, length, drop, reverse, refl, ap, arith}
-use Rattle.std.specs.Prelude.{if◌then◌else◌}
-use Rattle.std.proofs.lemmas.Bool.{leb-true}
-use Rattle.std.proofs.lemmas.List.{length-append, length-drop, reverse-append}
-use Rattle.record_model.specs.Touches.{CacheOp, touch, flush}
-use Rattle.second_chance.specs.declared.frame.Frame.{Frame}
-use Rattle.second_chance.specs.Queue.{Queue, pushed}
-use Rattle.second_chance.specs.Plans.{pulled_at_eviction}
-use Rattle.second_chance.specs.Machine.{Rules, PoolPage, Cache, is_changed, without, is_full, is_pulled, leaving, pool_marks, push_evicted, must_be_pushed, after_eviction, evict_first, with_room, in_front, touched, wants_flush, push_changed, flushed_by, flushed, apply_op, next_group}
-use Rattle.second_chance.specs.Laws.{changed_count}
-use Rattle.second_chance.specs.Groups.{groups_for, groups_for_all, FlushPushesChanged, NearlyAllArePushed, TouchPushesOne, WorkPushesFew}
+use Rattle.second_chance.proofs.Names.{rules, ◌≡◌, ℕ, zero, suc, ◌+◌, ◌≤◌, ◌==◌, Bool, true, false, cond, List, [], ◌∷◌, ◌++◌, length, drop, reverse, refl, ap, arith, leb-true, length-drop, reverse-append, if◌then◌else◌, CacheOp, touch, flush, groups_for, groups_for_all, FlushPushesChanged, NearlyAllArePushed, TouchPushesOne, WorkPushesFew, changed_count, Rules, PoolPage, Cache, is_changed, without, is_full, is_pulled, leaving, pool_marks, push_evicted, must_be_pushed, after_eviction, evict_first, with_room, in_front, touched, wants_flush, push_changed, flushed_by, flushed, apply_op, next_group, pulled_at_eviction, Queue, pushed, Frame}
+use Rattle.std.proofs.lemmas.List.{length-append}
 use Rattle.second_chance.proofs.Flushes.{count_cons, push_saves}
 use Rattle.second_chance.proofs.Unread.{length-groups_read}
 

@@ -1,21 +1,17 @@
 -- The groups that lines push at most, by what they read and log.
-use Rattle.std.proofs.Common.{◌≡◌, ℕ, ◌+◌, ◌*◌, ◌≤◌, Bool, true, false, List, [], ◌∷◌, length, map, reverse, Option, Some, None, refl, arith}
-use Rattle.std.specs.Prelude.{if◌then◌else◌, not, ◌&&◌, is_none, is_some}
-use Rattle.std.specs.List.{range_with_len}
-use Rattle.std.proofs.lemmas.List.{length-reverse}
-use Rattle.std.proofs.lemmas.List.FromFn.{length-range_with_len}
+use Rattle.second_chance.proofs.Names.{◌≡◌, ℕ, ◌+◌, ◌*◌, ◌≤◌, Bool, true, false, List, [], ◌∷◌, length, map, reverse, Some, refl, arith, length-reverse, length-range_with_len, range_with_len, if◌then◌else◌, is_none, is_some, CacheOp, flush, line_touches, page_touches, read_touch, record_touches, tested_touches, write_touch, groups_for_all, LinesPushFew, LinesCounted, reads_by, reads_told}
+use Rattle.std.proofs.Common.{Option, None}
+use Rattle.std.specs.Prelude.{not, ◌&&◌}
 use Rattle.record_model.specs.declared.words.CacheLine.{CacheLine}
 use Rattle.record_model.specs.declared.words.Command.{Command}
 use Rattle.record_model.specs.declared.words.Command.TheVariants.{Abort, Back, Scan, Set, Write}
 use Rattle.record_model.specs.declared.words.Reply.{Reply}
-use Rattle.record_model.specs.declared.words.Reply.TheVariants as reply
 use Rattle.record_model.specs.State.{State, session_at, writes_of}
-use Rattle.record_model.specs.State as state
 use Rattle.record_model.specs.Step.{Outcome, carried_through, dropped, effect, fills_page, full, lacks_room, makes_checkpoint, outcome, ready, refusal, refuse_if}
 use Rattle.record_model.specs.Run.{Line, later_listings, line_step, next_listing}
-use Rattle.record_model.specs.Touches.{CacheOp, flush, line_touches, page_touches, read_touch, record_touches, tested_touches, write_touch}
-use Rattle.second_chance.specs.Groups.{groups_for_all, LinesPushFew, LinesCounted, reads_by, reads_told}
 use Rattle.second_chance.proofs.GroupCounts.{groups_add_up}
+use Rattle.record_model.specs.declared.words.Reply.TheVariants as reply
+use Rattle.record_model.specs.State as state
 
 reads_for : (numbers : List ℕ) → groups_for_all (map read_touch numbers) ≡ length numbers
 reads_for [] = omega arith

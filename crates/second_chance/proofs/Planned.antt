@@ -1,14 +1,10 @@
 -- A plan by its three parts.
-use Rattle.std.proofs.Common.{arith, ◌≡◌, ℕ, ◌-◌, Bool, not, ◌||◌, List, [], length, map, filter, take, if◌then◌else◌, refl, ap, ◌∙◌}
-use Rattle.std.specs.List.{enumerate_from}
+use Rattle.second_chance.proofs.Names.{arith, ◌≡◌, ℕ, ◌-◌, Bool, not, ◌||◌, List, [], length, map, filter, take, refl, ap, ◌∙◌, length-map, enumerate_from, Option, None, unwrap_or, Mark, chances_of, staged_of, eviction_plan, flush_plan, PoolMark}
+use Rattle.std.proofs.Common.{if◌then◌else◌}
 use Rattle.std.specs.Borrow.{Bor}
-use Rattle.std.specs.Prelude.{Option, Some, None, unwrap_or}
+use Rattle.std.specs.Prelude.{Some}
 use Rattle.std.specs.Option.{option_copied}
-use Rattle.std.proofs.lemmas.List.{length-map}
-use Rattle.byte_fields.specs.declared.frame_head.Mark.{Mark}
-use Rattle.second_chance.specs.declared.plan.PoolMark.{PoolMark}
 use Rattle.second_chance.specs.declared.plan.Plan.{Plan}
-use Rattle.second_chance.specs.Plans.{chances_of, staged_of, eviction_plan, flush_plan}
 use Rattle.second_chance.proofs.Chosen.{place, is_staged, staged_are}
 
 -- the marks of a front group that may be missing

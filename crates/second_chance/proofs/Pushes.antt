@@ -1,17 +1,6 @@
 -- A push, by the places and the page numbers of its plan.
-use Rattle.std.proofs.Common.{◌≡◌, ℕ, suc, ◌+◌, ◌==◌, Bool, true, false, ◌&&◌, ◌||◌, List, [], ◌∷◌, ◌++◌, length, map, reverse, filter, filter_map, append_assoc, length-append, slice_get, option_map, Some, arith, refl, sym, ap, ◌∙◌}
-use Rattle.std.specs.List.{enumerate_from, AllByRecursion}
-use Rattle.std.proofs.lemmas.Bool.{ne_eqb, eqb-false}
-use Rattle.std.proofs.lemmas.List.Elements.{recursion_from_All}
+use Rattle.second_chance.proofs.Names.{◌≡◌, ℕ, suc, ◌+◌, ◌==◌, Bool, true, false, ◌&&◌, ◌||◌, List, [], ◌∷◌, ◌++◌, length, map, reverse, filter, filter_map, append_assoc, length-append, slice_get, option_map, Some, arith, refl, sym, ap, ◌∙◌, ne_eqb, eqb-false, recursion_from_All, enumerate_from, AllByRecursion, Mark, names, given_again, staged_from, AreApart, EvictionIsPlanned, FlushIsPlanned, PoolPage, Cache, is_changed, pool_mark, pool_marks, is_pulled, leaving, is_full, pool_frame, chance_frame, without, saved, Placed, chances_of, staged_of, pulled_at_eviction, pulled_at_flush, frame_of, pushed, Frame, PoolMark, all_both, all_filter, all_passed, all_map, all_reverse, all_take}
 use Rattle.std.proofs.lemmas.Bool.Decides.{nat_tests}
-use Rattle.std_lemmas.proofs.AllOf.{all_both, all_filter, all_passed, all_map, all_reverse, all_take}
-use Rattle.byte_fields.specs.declared.frame_head.Mark.{Mark}
-use Rattle.second_chance.specs.declared.frame.Frame.{Frame}
-use Rattle.second_chance.specs.declared.plan.PoolMark.{PoolMark}
-use Rattle.second_chance.specs.Queue.{frame_of, pushed}
-use Rattle.second_chance.specs.Plans.{Placed, chances_of, staged_of, pulled_at_eviction, pulled_at_flush}
-use Rattle.second_chance.specs.Machine.{PoolPage, Cache, is_changed, pool_mark, pool_marks, is_pulled, leaving, is_full, pool_frame, chance_frame, without, saved}
-use Rattle.second_chance.specs.Laws.{names, given_again, staged_from, AreApart, EvictionIsPlanned, FlushIsPlanned}
 
 -- each of these frames stands at its place in the front group
 abbrev pub StandIn : List Mark → List Placed → Type 0

@@ -1,8 +1,7 @@
-use Rattle.std.proofs.Common.{[], ◌∷◌, ◌++◌, length, length-append, map, arith, sym, subst, ap, ◌∙◌, ◌≤◌}
-use Rattle.second_chance.specs.Plans.{chances_of}
+use Rattle.second_chance.proofs.Names.{[], ◌∷◌, ◌++◌, length, length-append, map, arith, sym, subst, ap, ◌∙◌, ◌≤◌, chances_of}
 use Rattle.second_chance.proofs.Chosen.{is_chance, place, placed_then, placed_else, chances_enough, chances_all}
-use Rattle.second_chance.proofs.plan.chance_places.Goals as goal
 use Rattle.second_chance.proofs.plan.chance_places.Goals.{then-is_wanted, else-is_wanted}
+use Rattle.second_chance.proofs.plan.chance_places.Goals as goal
 
 pub loop-place-preserved : goal.loop-place-preserved
 loop-place-preserved c = elim c.if-is_wanted.branch [

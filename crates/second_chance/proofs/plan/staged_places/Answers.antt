@@ -1,7 +1,7 @@
-use Rattle.std.proofs.Common.{[], ◌∷◌, ◌++◌, length, length-append, arith, sym, ap, ◌∙◌}
+use Rattle.second_chance.proofs.Names.{[], ◌∷◌, ◌++◌, length, length-append, arith, sym, ap, ◌∙◌}
 use Rattle.second_chance.proofs.Chosen.{is_staged, placed_then, placed_else, staged_all}
-use Rattle.second_chance.proofs.plan.staged_places.Goals as goal
 use Rattle.second_chance.proofs.plan.staged_places.Goals.{then-is_staged, else-is_staged}
+use Rattle.second_chance.proofs.plan.staged_places.Goals as goal
 
 pub loop-place-preserved : goal.loop-place-preserved
 loop-place-preserved c = elim c.if-is_staged.branch [
