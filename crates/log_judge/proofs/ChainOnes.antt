@@ -16,11 +16,11 @@ use Rattle.log_judge.specs.Rules.{Links}
 
 -- One record more.
 
-open_push : (us rest : List Entry) (e : Entry) → open_updates us (rest ++ e ∷ []) ≡ open_by (open_updates us rest) e e.rec
+pub open_push : (us rest : List Entry) (e : Entry) → open_updates us (rest ++ e ∷ []) ≡ open_by (open_updates us rest) e e.rec
 open_push us [] e = refl
 open_push us (x ∷ rest) e = open_push (open_by us x x.rec) rest e
 
-last_push : (n : ℕ) (rest : List Entry) (e : Entry) → last_number n (map (λ (x : Entry). x.lsn) (rest ++ e ∷ [])) ≡ e.lsn
+pub last_push : (n : ℕ) (rest : List Entry) (e : Entry) → last_number n (map (λ (x : Entry). x.lsn) (rest ++ e ∷ [])) ≡ e.lsn
 last_push n [] e = refl
 last_push n (x ∷ rest) e = last_push x.lsn rest e
 
