@@ -1,3 +1,4 @@
+mod Names
 pub mod StepLaws
 pub mod RefusalLaws
 pub mod SessionLaws
