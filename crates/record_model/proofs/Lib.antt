@@ -1,4 +1,4 @@
-mod Names
+mod Citing
 pub mod StepLaws
 pub mod RefusalLaws
 pub mod SessionLaws

@@ -1,5 +1,5 @@
 -- What stands when a session has gone back to its mark.
-use Rattle.record_model.proofs.Names.{◌≡◌, ℕ, zero, suc, ◌<◌, Bool, true, false, List, [], ◌∷◌, ◌++◌, length, append_assoc, Option, Some, None, inl, inr, refl, ap, sym, ◌∙◌, subst, arith, or_parts, and_parts, list_any, ◌==◌, ◌||◌, nat_le, min, slice_index_or, slice_set, take, option_map, is_none, is_some, if◌then◌else◌, moves_mark, BackToTheMark, Line, line_step, turns, left_by, is_quit, next_listing, later_listings, Session, State, session_at, writes_of, Outcome, step, outcome, refusal, first_refusal, refuse_if, ready, lacks_room, fills_page, effect, having_read, having_written, having_marked, going_back, CacheLine, Command, Begin, Read, Write, Erase, Scan, Commit, Abort, Mark, Back, Reply, BadSession, none_if_is_none}
+use Rattle.record_model.proofs.Citing.{◌≡◌, ℕ, zero, suc, ◌<◌, Bool, true, false, List, [], ◌∷◌, ◌++◌, length, append_assoc, Option, Some, None, inl, inr, refl, ap, sym, ◌∙◌, subst, arith, or_parts, and_parts, list_any, ◌==◌, ◌||◌, nat_le, min, slice_index_or, slice_set, take, option_map, is_none, is_some, if◌then◌else◌, moves_mark, BackToTheMark, Line, line_step, turns, left_by, is_quit, next_listing, later_listings, Session, State, session_at, writes_of, Outcome, step, outcome, refusal, first_refusal, refuse_if, ready, lacks_room, fills_page, effect, having_read, having_written, having_marked, going_back, CacheLine, Command, Begin, Read, Write, Erase, Scan, Commit, Abort, Mark, Back, Reply, BadSession, none_if_is_none}
 use Rattle.std.proofs.Math.Seq.{take-append_seam}
 use Rattle.record_model.proofs.StepLaws.{each_outcome}
 use Rattle.record_model.proofs.SerialAlone.{step_through}

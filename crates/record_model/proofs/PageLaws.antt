@@ -1,6 +1,6 @@
 -- What the records of a page may come to need, step by step.
 use Rattle.std.proofs.lemmas.Grind.{common_steps}
-use Rattle.record_model.proofs.Names.{◌≡◌, ℕ, zero, suc, ◌+◌, ◌*◌, ◌<◌, ◌≤◌, Bool, true, false, List, [], ◌∷◌, ◌++◌, length, Option, Some, None, inl, inr, refl, ap, sym, ◌∙◌, subst, arith, cases_Bool, eqb-true, eqb-false, nat_tests, take-append-drop, range_with_len, ◌==◌, ◌&&◌, ◌⊎◌, nat_lt, max, sum_by, filter_map, flat_map, slice_index_or, slice_set, take, drop, map, filter, option_map, unwrap_or, if◌then◌else◌, PagesFit, PagesStayFit, TableFits, SeenFits, Content, Session, State, content_at, table_with, last_write, session_at, writes_of, seen, page_room, page_of, records_of, length_of, greatest, longest_write, standing_writes, footprint, footprint_with, need, outcome, carried_through, full, refusal, refuse_if, ready, lacks_room, fills_page, effect, having_read, having_written, having_marked, going_back, left_standing, CacheLine, Command, Begin, Read, Write, Erase, Scan, Commit, Abort, Set, Mark, Back, Reply}
+use Rattle.record_model.proofs.Citing.{◌≡◌, ℕ, zero, suc, ◌+◌, ◌*◌, ◌<◌, ◌≤◌, Bool, true, false, List, [], ◌∷◌, ◌++◌, length, Option, Some, None, inl, inr, refl, ap, sym, ◌∙◌, subst, arith, cases_Bool, eqb-true, eqb-false, nat_tests, take-append-drop, range_with_len, ◌==◌, ◌&&◌, ◌⊎◌, nat_lt, max, sum_by, filter_map, flat_map, slice_index_or, slice_set, take, drop, map, filter, option_map, unwrap_or, if◌then◌else◌, PagesFit, PagesStayFit, TableFits, SeenFits, Content, Session, State, content_at, table_with, last_write, session_at, writes_of, seen, page_room, page_of, records_of, length_of, greatest, longest_write, standing_writes, footprint, footprint_with, need, outcome, carried_through, full, refusal, refuse_if, ready, lacks_room, fills_page, effect, having_read, having_written, having_marked, going_back, left_standing, CacheLine, Command, Begin, Read, Write, Erase, Scan, Commit, Abort, Set, Mark, Back, Reply}
 use Rattle.std.proofs.lemmas.List.Sums.{sum_by-cons}
 use Rattle.std.specs.Option.{option_or}
 use Rattle.std.proofs.Math.Nat.{le-max_left, le-max_right, zero-max, le_trans}

@@ -1,5 +1,5 @@
 -- A reply tells whether the command was carried out.
-use Rattle.record_model.proofs.Names.{◌≡◌, ℕ, ◌+◌, ◌-◌, Bool, true, false, List, [], ◌∷◌, Option, Some, None, refl, ap, sym, AllByRecursion, range_with_len, not, ◌&&◌, is_none, option_map, map, if◌then◌else◌, is_refused, RefusalsAreTold, Content, State, seen, content_at, busy_read, busy_write, outcome, carried_through, full, fills_page, lacks_room, refusal, first_refusal, refuse_if, wants_active, wants_record, wants_short, wants_standing, may_read, may_write, ready, answer, found, CacheLine, Command, Begin, Read, Write, Erase, Scan, Commit, Abort, Get, Set, Mark, Back, Reply, Why, BadSession, NoRecord, TooLong, BadMark}
+use Rattle.record_model.proofs.Citing.{◌≡◌, ℕ, ◌+◌, ◌-◌, Bool, true, false, List, [], ◌∷◌, Option, Some, None, refl, ap, sym, AllByRecursion, range_with_len, not, ◌&&◌, is_none, option_map, map, if◌then◌else◌, is_refused, RefusalsAreTold, Content, State, seen, content_at, busy_read, busy_write, outcome, carried_through, full, fills_page, lacks_room, refusal, first_refusal, refuse_if, wants_active, wants_record, wants_short, wants_standing, may_read, may_write, ready, answer, found, CacheLine, Command, Begin, Read, Write, Erase, Scan, Commit, Abort, Get, Set, Mark, Back, Reply, Why, BadSession, NoRecord, TooLong, BadMark}
 use Rattle.record_model.specs.declared.words.Reply.TheVariants as reply
 
 -- a test's reply is a refusal

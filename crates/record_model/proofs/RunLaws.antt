@@ -1,6 +1,6 @@
 -- What follows for a whole run.
 use Rattle.std.proofs.lemmas.Grind.{common_steps}
-use Rattle.record_model.proofs.Names.{◌≡◌, ℕ, zero, suc, ◌+◌, ◌<◌, Bool, true, false, cond, List, [], ◌∷◌, ◌++◌, length, Some, refl, ap, sym, subst, ◌∙◌, arith, add-one, or_parts, list_any, count_by, filter, slice_index_or, slice_get, IsCountedIn, EachLineHasATurn, TurnsFollow, IsCountedAt, Line, Turn, line_step, turn, turns, state_at, is_quit, is_committed, commit_marks, commits_among, committed_tables, next_listing, later_listings, left_by, listings_after, Content, State, CacheLine}
+use Rattle.record_model.proofs.Citing.{◌≡◌, ℕ, zero, suc, ◌+◌, ◌<◌, Bool, true, false, cond, List, [], ◌∷◌, ◌++◌, length, Some, refl, ap, sym, subst, ◌∙◌, arith, add-one, or_parts, list_any, count_by, filter, slice_index_or, slice_get, IsCountedIn, EachLineHasATurn, TurnsFollow, IsCountedAt, Line, Turn, line_step, turn, turns, state_at, is_quit, is_committed, commit_marks, commits_among, committed_tables, next_listing, later_listings, left_by, listings_after, Content, State, CacheLine}
 use Rattle.std.proofs.Common.{map, take}
 use Rattle.std.proofs.lemmas.List.Recursion.{is_count_by}
 use Rattle.record_model.proofs.StepLaws.{commits_once}

@@ -1,6 +1,6 @@
 -- A session that runs alone.
 use Rattle.std.proofs.lemmas.Grind.{common_steps}
-use Rattle.record_model.proofs.Names.{◌≡◌, ℕ, ◌+◌, ◌-◌, ◌<◌, ◌≤◌, Bool, true, false, List, [], ◌∷◌, length, Option, Some, None, refl, ap, ◌∙◌, arith, nat_tests, range_with_len, ◌&&◌, filter_map, nat_lt, nat_le, slice_set, map, option_map, unwrap_or, is_none, sum_by, opened_alone, Content, Session, State, content_at, table_with, last_write, writes_of, seen, is_other, used, owed, Outcome, step, refusal, refuse_if, wants_active, wants_record, wants_short, wants_standing, may_read, may_write, asks_for_checkpoint, ready, lacks_room, fills_page, making, with_session, effect, answer, found, item, having_read, having_written, having_marked, going_back, dropped, CacheLine, Command, Begin, Read, Write, Erase, Scan, Commit, Set, Mark, Back, Reply, BadSession, each_member}
+use Rattle.record_model.proofs.Citing.{◌≡◌, ℕ, ◌+◌, ◌-◌, ◌<◌, ◌≤◌, Bool, true, false, List, [], ◌∷◌, length, Option, Some, None, refl, ap, ◌∙◌, arith, nat_tests, range_with_len, ◌&&◌, filter_map, nat_lt, nat_le, slice_set, map, option_map, unwrap_or, is_none, sum_by, opened_alone, Content, Session, State, content_at, table_with, last_write, writes_of, seen, is_other, used, owed, Outcome, step, refusal, refuse_if, wants_active, wants_record, wants_short, wants_standing, may_read, may_write, asks_for_checkpoint, ready, lacks_room, fills_page, making, with_session, effect, answer, found, item, having_read, having_written, having_marked, going_back, dropped, CacheLine, Command, Begin, Read, Write, Erase, Scan, Commit, Set, Mark, Back, Reply, BadSession, each_member}
 use Rattle.record_model.proofs.SerialLists.{set_set, no_values, only_one, passes_none, map_of_each, filter_map_same}
 use Rattle.record_model.proofs.SerialLocks.{place, wrote, touched, set_here, pass_all}
 use Rattle.record_model.specs.declared.words.Reply.TheVariants as reply

@@ -1,5 +1,5 @@
 -- What a get outside sessions answers: one part of serial order.
-use Rattle.record_model.proofs.Names.{◌≡◌, ℕ, List, [], ◌∷◌, ◌++◌, length, ap, sym, ◌∙◌, subst, and_parts, IsTrue, Line, Turn, turn, state_at, after_commits, commits_among, commit_marks, GetsAreSerial, table_before, Content, State, opened, content_at, step, outcome, refusal, found, is_accepted, CacheLine, Get, none_if_is_none}
+use Rattle.record_model.proofs.Citing.{◌≡◌, ℕ, List, [], ◌∷◌, ◌++◌, length, ap, sym, ◌∙◌, subst, and_parts, IsTrue, Line, Turn, turn, state_at, after_commits, commits_among, commit_marks, GetsAreSerial, table_before, Content, State, opened, content_at, step, outcome, refusal, found, is_accepted, CacheLine, Get, none_if_is_none}
 use Rattle.record_model.proofs.RunLaws.{IsRun, turns_are_run, commits_make_the_table}
 
 -- a turn of a run is one of the state before it

@@ -1,5 +1,5 @@
 -- Lists, as serial order needs them.
-use Rattle.record_model.proofs.Names.{◌≡◌, ℕ, zero, suc, ◌+◌, ◌<◌, ◌≤◌, Bool, true, false, cond, List, [], ◌∷◌, length, Option, Some, None, refl, ap, ◌∙◌, arith, inl, inr, subst, cases_Bool, eqb-true, eqb-false, nat_tests, range_with_len, AllByRecursion, cons_option, ◌==◌, filter_map, find, slice_index_or, slice_set, replicate, map}
+use Rattle.record_model.proofs.Citing.{◌≡◌, ℕ, zero, suc, ◌+◌, ◌<◌, ◌≤◌, Bool, true, false, cond, List, [], ◌∷◌, length, Option, Some, None, refl, ap, ◌∙◌, arith, inl, inr, subst, cases_Bool, eqb-true, eqb-false, nat_tests, range_with_len, AllByRecursion, cons_option, ◌==◌, filter_map, find, slice_index_or, slice_set, replicate, map}
 
 -- Tests.
 

@@ -1,6 +1,6 @@
 -- No session writes what another one has touched.
 use Rattle.std.proofs.lemmas.Grind.{common_steps}
-use Rattle.record_model.proofs.Names.{◌≡◌, ℕ, suc, ◌+◌, ◌<◌, ◌≤◌, Bool, true, false, List, [], ◌∷◌, length, Option, Some, None, inl, inr, refl, ap, sym, ◌∙◌, subst, arith, or_left, cases_lt, or_cases, eqb-true, ne_eqb, list_any, range_with_len, AllByRecursion, ◌==◌, not, ◌&&◌, ◌||◌, ◌⊎◌, find, slice_index_or, slice_set, map, option_map, Session, State, wrote_of, reads_of, is_other, busy_read, busy_write, refusal, first_refusal, wants_active, wants_record, wants_short, may_read, may_write, ready, effect, having_read, having_written, having_marked, going_back, Command, Begin, Read, Write, Erase, Scan, Commit, Abort, Mark, Back, Reply, all_member}
+use Rattle.record_model.proofs.Citing.{◌≡◌, ℕ, suc, ◌+◌, ◌<◌, ◌≤◌, Bool, true, false, List, [], ◌∷◌, length, Option, Some, None, inl, inr, refl, ap, sym, ◌∙◌, subst, arith, or_left, cases_lt, or_cases, eqb-true, ne_eqb, list_any, range_with_len, AllByRecursion, ◌==◌, not, ◌&&◌, ◌||◌, ◌⊎◌, find, slice_index_or, slice_set, map, option_map, Session, State, wrote_of, reads_of, is_other, busy_read, busy_write, refusal, first_refusal, wants_active, wants_record, wants_short, may_read, may_write, ready, effect, having_read, having_written, having_marked, going_back, Command, Begin, Read, Write, Erase, Scan, Commit, Abort, Mark, Back, Reply, all_member}
 use Rattle.std.specs.Prelude.{◌-◌}
 use Rattle.record_model.proofs.SerialLists.{not_both, get_set_same, get_set_other, none_passes, each_of_map}
 use Rattle.record_model.specs.declared.words.Reply.TheVariants as reply

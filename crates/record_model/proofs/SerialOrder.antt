@@ -1,6 +1,6 @@
 -- Serial order, whatever the sessions' interleaving.
 use Rattle.std.proofs.lemmas.Grind.{common_steps}
-use Rattle.record_model.proofs.Names.{◌≡◌, ℕ, suc, ◌+◌, ◌*◌, ◌-◌, ◌<◌, ◌≤◌, Bool, true, false, List, [], ◌∷◌, ◌++◌, length, length-append, length-set, Option, Some, None, inl, inr, refl, ap, sym, ◌∙◌, subst, arith, add-one, cases_Bool, or_parts, and_parts, not-true, eqb-true, eqb-false, reverse-reverse, list_any, range_with_len, ◌==◌, ◌&&◌, ◌||◌, slice_set, map, reverse, option_map, is_none, is_some, IsTrue, if◌then◌else◌, IsSoundSession, AreSound, Line, Turn, line_step, turn, turns, replies, left_by, state_at, is_committed, commit_marks, commits_among, after_commits, lines_of, session_of, is_session, is_begin, is_begin_line, is_accepted_of, since_begin, committed_by, line_session, transaction, IsOfSession, IsTransaction, commits_before, table_before, opened_alone, Serial, Content, Session, State, opened, content_at, table_with, writes_of, seen, Outcome, step, outcome, refusal, refuse_if, wants_active, wants_record, wants_short, wants_standing, may_read, may_write, ready, lacks_room, full, fills_page, carried_through, is_accepted, effect, answer, having_read, having_written, having_marked, going_back, CacheLine, Command, Begin, Read, Write, Erase, Scan, Commit, Abort, Get, Set, Mark, Back, Reply, none_if_is_none}
+use Rattle.record_model.proofs.Citing.{◌≡◌, ℕ, suc, ◌+◌, ◌*◌, ◌-◌, ◌<◌, ◌≤◌, Bool, true, false, List, [], ◌∷◌, ◌++◌, length, length-append, length-set, Option, Some, None, inl, inr, refl, ap, sym, ◌∙◌, subst, arith, add-one, cases_Bool, or_parts, and_parts, not-true, eqb-true, eqb-false, reverse-reverse, list_any, range_with_len, ◌==◌, ◌&&◌, ◌||◌, slice_set, map, reverse, option_map, is_none, is_some, IsTrue, if◌then◌else◌, IsSoundSession, AreSound, Line, Turn, line_step, turn, turns, replies, left_by, state_at, is_committed, commit_marks, commits_among, after_commits, lines_of, session_of, is_session, is_begin, is_begin_line, is_accepted_of, since_begin, committed_by, line_session, transaction, IsOfSession, IsTransaction, commits_before, table_before, opened_alone, Serial, Content, Session, State, opened, content_at, table_with, writes_of, seen, Outcome, step, outcome, refusal, refuse_if, wants_active, wants_record, wants_short, wants_standing, may_read, may_write, ready, lacks_room, full, fills_page, carried_through, is_accepted, effect, answer, having_read, having_written, having_marked, going_back, CacheLine, Command, Begin, Read, Write, Erase, Scan, Commit, Abort, Get, Set, Mark, Back, Reply, none_if_is_none}
 use Rattle.record_model.proofs.StepLaws.{each_outcome, length_table_with, found_is, IsNoCommit, refusals, page_refusals, of_none, refused_changes_nothing}
 use Rattle.record_model.proofs.SessionLaws.{sessions_stay_sound}
 use Rattle.record_model.proofs.RunLaws.{IsRun, turns_are_run, state_after, one_commit_more, commits_make_the_table}

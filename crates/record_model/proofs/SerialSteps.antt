@@ -1,6 +1,6 @@
 -- What a session has been answered can be had again, alone, on each table that is the same where the session has read or written.
 use Rattle.std.proofs.lemmas.Grind.{common_steps}
-use Rattle.record_model.proofs.Names.{◌≡◌, ℕ, ◌+◌, ◌*◌, ◌-◌, ◌<◌, ◌≤◌, Bool, true, false, List, [], ◌∷◌, ◌++◌, length, length-append, Option, Some, None, refl, ap, sym, ◌∙◌, arith, or_left, or_right, list_any-append, list_any, range_with_len, ◌==◌, ◌||◌, filter_map, nat_le, nat_lt, option_map, unwrap_or, Line, Turn, line_step, turn, turns, replies, left_by, listings_after, is_quit, lines_of, opened_alone, Content, Session, State, content_at, last_write, writes_of, seen, Outcome, step, refuse_if, wants_record, wants_short, wants_standing, answer, found, item, having_read, having_written, having_marked, going_back, dropped, Command, Begin, Read, Write, Erase, Scan, Mark, Back, Reply, NoRecord, BadMark, each_member}
+use Rattle.record_model.proofs.Citing.{◌≡◌, ℕ, ◌+◌, ◌*◌, ◌-◌, ◌<◌, ◌≤◌, Bool, true, false, List, [], ◌∷◌, ◌++◌, length, length-append, Option, Some, None, refl, ap, sym, ◌∙◌, arith, or_left, or_right, list_any-append, list_any, range_with_len, ◌==◌, ◌||◌, filter_map, nat_le, nat_lt, option_map, unwrap_or, Line, Turn, line_step, turn, turns, replies, left_by, listings_after, is_quit, lines_of, opened_alone, Content, Session, State, content_at, last_write, writes_of, seen, Outcome, step, refuse_if, wants_record, wants_short, wants_standing, answer, found, item, having_read, having_written, having_marked, going_back, dropped, Command, Begin, Read, Write, Erase, Scan, Mark, Back, Reply, NoRecord, BadMark, each_member}
 use Rattle.record_model.proofs.RunLaws.{turns-append}
 use Rattle.record_model.proofs.SerialLists.{same_is, filter_map_same}
 use Rattle.record_model.proofs.SerialLocks.{place, wrote, touched}

@@ -1,5 +1,5 @@
 -- What a session's commands since its begin are.
-use Rattle.record_model.proofs.Names.{◌≡◌, ℕ, Bool, true, false, List, [], ◌∷◌, ◌++◌, append_assoc, Some, inl, inr, refl, ap, sym, ◌∙◌, cases_Bool, and_parts, reverse-append, list_any-append, list_any, ◌&&◌, ◌||◌, filter, reverse, IsTrue, if◌then◌else◌, Line, Turn, is_begin_line, is_accepted_of, since_begin, State, is_accepted, Begin}
+use Rattle.record_model.proofs.Citing.{◌≡◌, ℕ, Bool, true, false, List, [], ◌∷◌, ◌++◌, append_assoc, Some, inl, inr, refl, ap, sym, ◌∙◌, cases_Bool, and_parts, reverse-append, list_any-append, list_any, ◌&&◌, ◌||◌, filter, reverse, IsTrue, if◌then◌else◌, Line, Turn, is_begin_line, is_accepted_of, since_begin, State, is_accepted, Begin}
 use Rattle.std.proofs.lemmas.List.Elements.{filter-append}
 use Rattle.record_model.proofs.SerialLists.{not_both}
 

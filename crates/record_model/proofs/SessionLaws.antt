@@ -1,6 +1,6 @@
 -- What holds of an active session at each moment.
 use Rattle.std.proofs.lemmas.Grind.{common_steps}
-use Rattle.record_model.proofs.Names.{◌≡◌, ℕ, zero, suc, Bool, true, List, [], ◌∷◌, Option, Some, None, inl, inr, refl, sym, ◌∙◌, subst, arith, list_any, ◌⊎◌, slice_index_or, slice_set, take, option_map, IsSoundSession, AreSound, SessionsStaySound, Session, State, outcome, refusal, ready, lacks_room, fills_page, effect, having_read, having_written, having_marked, going_back, left_standing, CacheLine, Command, Begin, Read, Write, Erase, Scan, Commit, Abort, Mark, Back, Reply}
+use Rattle.record_model.proofs.Citing.{◌≡◌, ℕ, zero, suc, Bool, true, List, [], ◌∷◌, Option, Some, None, inl, inr, refl, sym, ◌∙◌, subst, arith, list_any, ◌⊎◌, slice_index_or, slice_set, take, option_map, IsSoundSession, AreSound, SessionsStaySound, Session, State, outcome, refusal, ready, lacks_room, fills_page, effect, having_read, having_written, having_marked, going_back, left_standing, CacheLine, Command, Begin, Read, Write, Erase, Scan, Commit, Abort, Mark, Back, Reply}
 use Rattle.record_model.proofs.StepLaws.{each_outcome}
 use Rattle.record_model.specs.State as state
 

@@ -1,5 +1,5 @@
 -- What follows from the step of the model.
-use Rattle.record_model.proofs.Names.{◌≡◌, ℕ, ◌+◌, ◌-◌, Bool, true, false, List, [], ◌∷◌, length, Option, Some, None, refl, ap, ◌∙◌, arith, ◌≤◌, AllByRecursion, range_with_len, not, ◌&&◌, is_none, if◌then◌else◌, option_map, map, IsCountedIn, KeepsSizes, SizesStay, is_committed, Line, line_step, kept_by_checkpoint, Content, Session, State, table_with, session_at, writes_of, busy_read, busy_write, lacks_room, asks_for_checkpoint, Outcome, outcome, carried_through, full, fills_page, refusal, first_refusal, refuse_if, wants_active, wants_record, wants_short, wants_standing, may_read, may_write, ready, effect, answer, found, makes_checkpoint, is_accepted, step, CacheLine, Command, Begin, Read, Write, Erase, Scan, Commit, Abort, Get, Set, Mark, Back, Reply, Why, BadSession, NoRecord, TooLong, BadMark}
+use Rattle.record_model.proofs.Citing.{◌≡◌, ℕ, ◌+◌, ◌-◌, Bool, true, false, List, [], ◌∷◌, length, Option, Some, None, refl, ap, ◌∙◌, arith, ◌≤◌, AllByRecursion, range_with_len, not, ◌&&◌, is_none, if◌then◌else◌, option_map, map, IsCountedIn, KeepsSizes, SizesStay, is_committed, Line, line_step, kept_by_checkpoint, Content, Session, State, table_with, session_at, writes_of, busy_read, busy_write, lacks_room, asks_for_checkpoint, Outcome, outcome, carried_through, full, fills_page, refusal, first_refusal, refuse_if, wants_active, wants_record, wants_short, wants_standing, may_read, may_write, ready, effect, answer, found, makes_checkpoint, is_accepted, step, CacheLine, Command, Begin, Read, Write, Erase, Scan, Commit, Abort, Get, Set, Mark, Back, Reply, Why, BadSession, NoRecord, TooLong, BadMark}
 use Rattle.std.proofs.Common.{slice_set}
 use Rattle.std.proofs.lemmas.Grind.{common_steps}
 use Rattle.record_model.specs.declared.words.Reply.TheVariants as reply
