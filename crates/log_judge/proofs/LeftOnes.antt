@@ -1,35 +1,14 @@
 -- Which transactions are unfinished after one record more.
 use Rattle.std.proofs.lemmas.Grind.{common_steps}
-use Rattle.std.proofs.Common.{◌≡◌, ℕ, ◌+◌, ◌*◌, ◌<◌, ◌≤◌, Bool, true, false, not, ◌&&◌, cond, List, [], ◌∷◌, ◌++◌, length, map, drop, get_or, Option, Some, None, refl, sym, ap, ◌∙◌, arith, nat_lt, add-one}
-use Rattle.std.specs.Prelude.{filter, slice_get, ◌==◌, ◌↔◌}
-use Rattle.std.proofs.Math.Seq.{drop-cons}
-use Rattle.std.specs.BTreeMap.{BTreeMap, insert_entry, is_at}
+use Rattle.log_judge.proofs.Names.{◌≡◌, ℕ, ◌+◌, ◌*◌, ◌<◌, ◌≤◌, Bool, true, false, ◌&&◌, cond, List, [], ◌∷◌, ◌++◌, length, map, drop, get_or, Option, Some, None, refl, sym, ap, ◌∙◌, arith, nat_lt, add-one, drop-cons, eqb-true, lt-ltb, append-nil, map-append, filter-append, none-some, get_or_from_slice_get, BTreeMap, insert_entry, is_at, AllByRecursion, lookup, remove_entry, set_value, nat_cmp, filter, slice_get, ◌↔◌, Pair, AreLeft, entry_of, left_of, Left, all_below, all_made, filter_same, closed_push, IsFresh, closing_is_no_begin, Entry, txn_of, is_of, is_closing, is_closed, entries_of, Active, IsInOrder, last_lsn, before_block, active_in, is_begin, losers, open_by, open_updates, LogRecord, all_weaker, map_same}
+use Rattle.std.proofs.Common.{not}
+use Rattle.std.specs.Prelude.{◌==◌}
 use Rattle.std.specs.Cmp.{unsigned_tied}
-use Rattle.std.specs.List.{AllByRecursion}
-use Rattle.std.specs.Map.{lookup, remove_entry, set_value}
-use Rattle.std.specs.Ordering.{nat_cmp}
-use Rattle.std.proofs.lemmas.Bool.{eqb-true, lt-ltb}
-use Rattle.std.proofs.lemmas.List.{append-nil, map-append}
-use Rattle.std.proofs.lemmas.List.Elements.{filter-append}
 use Rattle.std.proofs.lemmas.List.Sums.{count_by-le-length, length-filter}
 use Rattle.std.proofs.lemmas.Map.{NonePasses, none_passes_from_lookup}
-use Rattle.std.proofs.lemmas.Option.{none-some, get_or_from_slice_get}
-use Rattle.std_lemmas.proofs.AllOf.{all_weaker}
 use Rattle.std_lemmas.proofs.Entries.{AreBelow, insert_last}
-use Rattle.std_lemmas.proofs.Lists.{map_same}
-use Rattle.log_records.proofs.Entries.{closing_is_no_begin}
-use Rattle.log_records.specs.declared.log_record.LogRecord.{LogRecord}
-use Rattle.log_records.specs.Log.{Entry, txn_of, is_of, is_closing, is_closed, entries_of}
-use Rattle.log_records.specs.Unfinished.{is_begin, losers, open_by, open_updates}
-use Rattle.log_records.specs.Sound.{Active, IsInOrder, last_lsn, before_block, active_in}
 use Rattle.log_laws.specs.Analysis.{Summary, unfinished_at, unfinished_in, remaining_by, after_record}
-use Rattle.log_laws.specs.Follow.{IsFresh}
-use Rattle.log_laws.proofs.Parts.{all_below, all_made, filter_same}
-use Rattle.log_laws.proofs.Values.{closed_push}
 use Rattle.log_laws.proofs.Analysing.{unfinished_begin, unfinished_more, unfinished_closed, unfinished_there}
-use Rattle.checkpoint.specs.declared.pairs.Pair.{Pair}
-use Rattle.log_judge.specs.declared.unfinished.Left.{Left}
-use Rattle.log_judge.specs.Unended.{AreLeft, entry_of, left_of}
 use Rattle.log_judge.proofs.OpenOnes.{begin_only}
 
 -- A record of a transaction that isn't in the list.

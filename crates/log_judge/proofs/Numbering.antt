@@ -1,22 +1,10 @@
 -- The numbers of the commits, record by record.
 use Rattle.std.proofs.lemmas.Grind.{common_steps}
-use Rattle.std.proofs.Common.{◌≡◌, ◌⊎◌, inl, inr, ℕ, ◌+◌, ◌*◌, ◌/◌, ◌≤◌, Bool, true, false, true≢false, List, [], ◌∷◌, ◌++◌, length, filter, get_or, refl, sym, ap, ◌∙◌, arith}
-use Rattle.std.specs.Prelude.{Option, Some, None, nat_lt, nat_le, not, if◌then◌else◌}
-use Rattle.std.specs.List.{range_with_len, cons_option}
-use Rattle.std.proofs.lemmas.Bool.{cases_lt, cases_eq}
-use Rattle.std.proofs.lemmas.Bool.Decides.{nat_tests}
-use Rattle.std.proofs.lemmas.List.{length-append, append-nil}
-use Rattle.std.proofs.lemmas.List.Elements.{filter-append, filter_map-append}
+use Rattle.log_judge.proofs.Names.{◌≡◌, ◌⊎◌, inl, inr, ℕ, ◌+◌, ◌*◌, ◌/◌, ◌≤◌, Bool, true, false, true≢false, List, [], ◌∷◌, ◌++◌, length, get_or, refl, sym, ap, ◌∙◌, arith, get_or-append_seam, cases_lt, cases_eq, nat_tests, length-append, append-nil, filter-append, filter_map-append, range_with_len, cons_option, nat_le, not, if◌then◌else◌, Heard, Counts, Fit, Numbers, Entry, LogicalImage, AreNumbered, commit_count, commit_number, commit_number_by, commit_numbers, before_block, from_block, LogRecord, Begin, Update, Clr, Commit, End, range_push}
+use Rattle.std.proofs.Common.{filter}
+use Rattle.std.specs.Prelude.{Option, Some, None, nat_lt}
 use Rattle.std.proofs.lemmas.List.FromFn.{get_or-range_with_len, length-range_with_len}
 use Rattle.std.proofs.Math.ListN.{get_or-append}
-use Rattle.std.proofs.Math.Seq.{get_or-append_seam}
-use Rattle.std_lemmas.proofs.Lists.{range_push}
-use Rattle.log_records.specs.declared.log_record.LogRecord.{LogRecord}
-use Rattle.log_records.specs.declared.log_record.LogRecord.TheVariants.{Begin, Update, Clr, Commit, End}
-use Rattle.log_records.specs.Log.{Entry}
-use Rattle.log_records.specs.Sound.{LogicalImage, AreNumbered, commit_count, commit_number, commit_number_by, commit_numbers, before_block, from_block}
-use Rattle.log_judge.specs.declared.commits.Numbers.{Numbers}
-use Rattle.log_judge.specs.Counting.{Heard, Counts, Fit}
 
 -- a Commit's number, or none
 abbrev listed : Option ℕ → List ℕ

@@ -1,28 +1,8 @@
 -- Which transactions are open after one record more.
-use Rattle.std.proofs.Common.{arith}
 use Rattle.std.proofs.lemmas.Grind.{common_steps}
-use Rattle.std.proofs.Common.{◌≡◌, ℕ, ◌*◌, Bool, true, false, true≢false, ◌&&◌, ◌||◌, cond, List, [], ◌∷◌, ◌++◌, refl, sym, ap, ◌∙◌}
-use Rattle.std.specs.Prelude.{map, nat_le, ◌==◌}
-use Rattle.std.specs.List.{list_any}
-use Rattle.std.proofs.lemmas.List.Elements.{filter-append}
-use Rattle.std.proofs.lemmas.List.Folds.{list_any-append}
-use Rattle.std.proofs.lemmas.Bool.{and_right, eqb-true}
-use Rattle.std_lemmas.proofs.AllOf.{all_right}
-use Rattle.std_lemmas.proofs.Bools.{or_without_last, or_without, or_assoc}
-use Rattle.log_records.specs.declared.log_record.LogRecord.{LogRecord}
-use Rattle.log_records.specs.declared.log_record.LogRecord.TheVariants.{Begin, Update, Clr, Commit, End}
-use Rattle.log_records.specs.Log.{Entry, txn_of, is_closing}
-use Rattle.log_records.specs.Unfinished.{is_begin}
-use Rattle.log_records.specs.Sound.{Active, Master, LogicalImage, InTurn, is_known, from_block}
-use Rattle.log_laws.specs.Follow.{IsFresh}
-use Rattle.log_laws.proofs.Values.{closed_push}
-use Rattle.log_laws.proofs.Appends.{fresh_open}
-use Rattle.log_laws.proofs.Orders.{InTurn-weaker, InTurn-all}
-use Rattle.log_laws.proofs.Parts.{InTurn-right}
-use Rattle.checkpoint.specs.declared.pairs.Pair.{Pair}
-use Rattle.lsn_set.specs.Held.{has}
+use Rattle.log_judge.proofs.Names.{arith, ◌≡◌, ℕ, ◌*◌, Bool, true, false, true≢false, ◌&&◌, ◌||◌, cond, List, [], ◌∷◌, ◌++◌, refl, sym, ap, ◌∙◌, and_right, eqb-true, filter-append, list_any-append, list_any, nat_le, Pair, AreOpen, MayStand, fresh_open, InTurn-weaker, InTurn-all, InTurn-right, closed_push, IsFresh, Entry, txn_of, is_closing, Active, Master, LogicalImage, InTurn, is_known, from_block, is_begin, LogRecord, Begin, Update, Clr, Commit, End, has, all_right, or_without_last, or_without, or_assoc}
+use Rattle.std.specs.Prelude.{map, ◌==◌}
 use Rattle.lsn_set.specs.declared.lsn_set.LsnSet.{LsnSet}
-use Rattle.log_judge.specs.Opening.{AreOpen, MayStand}
 
 -- Which transactions are known.
 

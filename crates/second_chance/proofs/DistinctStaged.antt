@@ -1,5 +1,6 @@
 -- The frames that are staged: each at its place, and no page twice.
-use Rattle.second_chance.proofs.Names.{◌≡◌, ◌≢◌, ℕ, ◌+◌, Bool, true, false, not, ◌&&◌, ◌||◌, List, [], ◌∷◌, slice_get, AllPairs, arith, refl, and_parts, eq-eqb, All-from_recursion, enumerate_from, AllByRecursion, All, Mark, IsStagedIn, Placed, staged_of, is_among, chances_of, in_group, group_marks, Frame, all_both, all_passed}
+use Rattle.std.proofs.lemmas.Grind.{common_steps}
+use Rattle.second_chance.proofs.Names.{◌≡◌, ◌≢◌, ℕ, ◌+◌, Bool, true, false, not, ◌&&◌, ◌||◌, List, [], ◌∷◌, slice_get, AllPairs, arith, and_parts, eq-eqb, All-from_recursion, enumerate_from, AllByRecursion, All, Mark, IsStagedIn, Placed, staged_of, is_among, chances_of, in_group, group_marks, Frame, all_both, all_passed}
 use Rattle.std.proofs.lemmas.List.Kept.{AllPairs-cons, AllPairs-filter}
 use Rattle.second_chance.proofs.Pushes.{staged_stand}
 
@@ -13,8 +14,7 @@ other_pages page n [] later none = tt
 other_pages page n (frame ∷ behind) later none = grind (arith, eq-eqb, (other_pages page (n + 1) behind later))
 
 valid_first : (a b : Bool) → not (a || b) ≡ true → a ≡ false
-valid_first true b is = absurd cc
-valid_first false b is = refl
+valid_first x0 b is = grind (arith, common_steps)
 
 once : (n : ℕ) (group : List Frame) (later : List (List Frame)) → AllPairs (λ a b. a.1.valid ≡ true → a.1.page ≢ b.1.page) (enumerate_from n (group_marks group later))
 once n [] later = λ i j d before within. absurd (omega (arith, within))

@@ -1,11 +1,11 @@
 -- The names that most proofs of this crate cite, passed on from one place. Declares nothing.
-pub use Rattle.std.proofs.Common.{length, ap, refl, ◌≡◌, [], ◌∙◌, arith, ◌∷◌, ◌≤◌, List, ℕ, Bool, false, sym, true, ◌+◌, ◌||◌, not, ◌&&◌, ◌++◌, filter, map, suc, cond, reverse, take, length-append, slice_get, zero, ◌==◌, Some, drop, rules, ◌-◌, ◌<◌, AllPairs, append-nil, append_assoc, filter_map, get_or, option_map, subst, take-append-drop, ◌*◌, ◌≢◌}
+pub use Rattle.std.proofs.Common.{length, ◌≡◌, [], ◌∙◌, ap, arith, refl, ◌∷◌, ◌≤◌, List, ℕ, Bool, false, true, ◌+◌, ◌||◌, not, ◌&&◌, ◌++◌, filter, suc, sym, cond, map, take, length-append, reverse, slice_get, zero, ◌==◌, Some, ◌-◌, ◌<◌, AllPairs, None, append-nil, append_assoc, drop, filter_map, get_or, option_map, rules, take-append-drop, ◌*◌, ◌≢◌}
 pub use Rattle.std.proofs.lemmas.Bool.{eq-eqb, and_parts, eqb-false, leb-true, ne_eqb, or_parts}
 pub use Rattle.std.proofs.lemmas.List.{length-map, length-drop, length-reverse, length-take, map-append, reverse-append, take-append-le, take_all}
 pub use Rattle.std.proofs.lemmas.List.Elements.{All-from_recursion, filter-append, filter_agree, filter_more, recursion_from_All}
 pub use Rattle.std.proofs.lemmas.List.FromFn.{length-enumerate_from, get_or-enumerate_from, length-range_with_len}
-pub use Rattle.std.specs.List.{enumerate_from, AllByRecursion, list_any, range_with_len}
-pub use Rattle.std.specs.Prelude.{if◌then◌else◌, All, None, Option, is_none, is_some, unwrap_or}
+pub use Rattle.std.specs.List.{enumerate_from, AllByRecursion, list_any}
+pub use Rattle.std.specs.Prelude.{if◌then◌else◌, All, Option, is_none, is_some, unwrap_or}
 pub use Rattle.byte_fields.specs.declared.frame_head.Mark.{Mark}
 pub use Rattle.record_model.specs.Touches.{CacheOp, flush, line_touches, page_touches, read_touch, record_touches, tested_touches, touch, write_touch}
 pub use Rattle.second_chance.specs.Groups.{groups_for_all, FlushPushesChanged, LinesCounted, LinesPushFew, NearlyAllArePushed, TouchPushesOne, WorkPushesFew, groups_for, reads_by, reads_told}
