@@ -5,6 +5,7 @@ pub mod Filling
 pub mod Holding
 pub mod Judgement
 pub mod Judging
+pub mod Looking
 pub mod Laws
 pub mod Showing
 pub mod Surveying

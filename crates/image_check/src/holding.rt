@@ -84,7 +84,7 @@ pub fn rule_apart<S: Site>(
 ) -> Result<Option<Place>, Stop>
     requires { MayBeJudged found.now (S.state site.old) }
 
-    ensures { JudgesBy found.now 1 result (S.state site.old) (S.state site.new) (λ blocks failing.
+    ensures { JudgesBy found.now 1 0 result (S.state site.old) (S.state site.new) (λ blocks failing.
         LosersCanBeUndone (logical_image_of (reading_of found.now blocks) (S.state site.old).image)
         → AreLeft (records_of found.now blocks) left.now.left
         → (IsTrue (is_none failing)

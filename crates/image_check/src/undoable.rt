@@ -62,7 +62,7 @@ impl Undoing {
     ) -> Result<Undoing, Stop>
         requires { MayBeJudged found.now (S.state site.old) }
 
-        ensures { JudgesBy found.now 1 result (S.state site.old) (S.state site.new) (λ blocks undoing.
+        ensures { JudgesBy found.now 1 0 result (S.state site.old) (S.state site.new) (λ blocks undoing.
             HaveBegunBefore (records_of found.now blocks) → AreLeft (records_of found.now blocks) left.now.left
             → IsUndoing (records_of found.now blocks) (records_of found.now blocks) undoing) }
     {
@@ -85,7 +85,7 @@ fn find_open<S: Site>(
 ) -> Result<Option<Place>, Stop>
     requires { MayBeJudged found.now (S.state site.old) }
 
-    ensures { JudgesBy found.now 1 result (S.state site.old) (S.state site.new) (λ blocks failing.
+    ensures { JudgesBy found.now 1 0 result (S.state site.old) (S.state site.new) (λ blocks failing.
         IsTrue (is_none failing) ↔ ((t : ℕ) → is_some (get nat_eq strays.txns t) ≡ true
         → is_closed (records_of found.now blocks) t ≡ true)) }
 {
@@ -117,7 +117,7 @@ pub fn rule_undoable<S: Site>(
 ) -> Result<Option<Place>, Stop>
     requires { MayBeJudged found.now (S.state site.old) }
 
-    ensures { JudgesBy found.now 2 result (S.state site.old) (S.state site.new) (λ blocks failing.
+    ensures { JudgesBy found.now 2 0 result (S.state site.old) (S.state site.new) (λ blocks failing.
         RecordsFollowBegins (logical_image_of (reading_of found.now blocks) (S.state site.old).image)
         → AreLeft (records_of found.now blocks) left.now.left
         → (IsTrue (is_none failing)
