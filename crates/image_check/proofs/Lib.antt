@@ -10,4 +10,5 @@ pub mod Surveyed
 pub mod WrittenOnes
 pub mod ValuesCounted
 pub mod PageRooms
+pub mod Looks
 pub mod FilledOnes

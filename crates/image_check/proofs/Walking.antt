@@ -10,6 +10,7 @@ use Rattle.site.proofs.Working.{looks_then, looks_answered}
 use Rattle.log_records.specs.declared.log_record.LogRecord.{LogRecord}
 use Rattle.log_records.specs.Log.{Entry}
 use Rattle.log_records.specs.Sound.{IsInOrder}
+use Rattle.log_store.specs.declared.store.LogStore.{LogStore}
 use Rattle.log_store.specs.Representation.{Finds, HasBlocks}
 use Rattle.image_form.specs.declared.formed.Found.{Found}
 use Rattle.image_form.specs.declared.walk.Walk.{Walk}
@@ -66,6 +67,12 @@ pub walk_begins : {found : Found} {walk : Walk} {site : State} → MayBeJudged f
     ((image : Image) (blocks : List (List LogRecord)) → HasBlocks found.log.geometry found.master.kept blocks image → StandsBefore walk found.log image (records_of found blocks)) →
     (P : List (List LogRecord) → List Entry → Type 0) → ((blocks : List (List LogRecord)) → Sees found blocks site → P blocks []) → OnlyReads {T = Unit {0}} (Ok tt) site site → WalksOver found walk site site 0 0 P
 walk_begins may walks first stands P holds reads = walk_begins_with 0 0 (omega arith) may walks first stands P holds reads
+
+-- what a step has read is read after calls that don't read the log
+pub gives_few : (log : LogStore) (walk new : Walk) (answer : Option (ℕ × LogRecord)) (now mid next : State) → next.log_reads ≤ mid.log_reads →
+    IfSome answer (λ found. mid.log_reads + unread log new ≤ now.log_reads + unread log walk) → IfSome answer (λ found. next.log_reads + unread log new ≤ now.log_reads + unread log walk)
+gives_few log walk new None now mid next less few = tt
+gives_few log walk new (Some found) now mid next less few = omega (arith, less, few)
 
 -- where a record stands among those of the log
 pub record StandsAmong (found : Found) (blocks : List (List LogRecord)) (e : Entry) (P : List Entry → Type 0) : Type 0 where

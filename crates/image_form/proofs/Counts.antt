@@ -21,9 +21,6 @@ few_then l p l' p' m n a b c logs pages first second = grind arith
 pub few_more : (l p m n : ℕ) (a b : State) → l ≤ m → p ≤ n → ReadsAtMost l p a b → ReadsAtMost m n a b
 few_more l p m n a b logs pages few = grind arith
 
-pub few_none : (a : State) → ReadsAtMost 0 0 a a
-few_none a = grind arith
-
 -- what is read of one device
 
 abbrev of_log : Dev → ℕ → ℕ
@@ -135,7 +132,3 @@ module _ (g : Geometry) (s0 s1 s2 s3 s4 : State) where
       let slots = ap (λ (s : Shape). s.slots) last in
       few_then (2 * g.blocks + 6) (2 * g.groups) 0 (2 * (g.groups / 4 + 3)) (2 * g.blocks + 6) (2 * g.groups + 2 * (g.groups / 4 + 3)) s0 s3 s4 (omega arith) (omega arith) (third r q p blocks groups is are from next behind)
       (flash_few o segments.dev (2 * segments.slots) (2 * (g.groups / 4 + 3)) s3 s4 (ap (λ (s : Shape). s.dev) last) (omega (arith, slots)) end)
-
--- where the log isn't read
-pub log_unread : (a b : State) (n : ℕ) → Preserves a b → ReadsAtMost 0 n a b → b.log_reads ≡ a.log_reads
-log_unread a b n goes few = let least = goes.reads Log in let most = few.log in omega (arith, least, most)

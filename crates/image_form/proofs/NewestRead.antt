@@ -1,11 +1,10 @@
 -- The queue of the live groups' frames, and the versions that it leads to.
 use Rattle.std.proofs.lemmas.Grind.{common_steps}
-use Rattle.std.proofs.Common.{◌≡◌, ◌≢◌, ℕ, zero, suc, ◌+◌, ◌-◌, ◌*◌, ◌%◌, ◌≤◌, ◌<◌, Bool, true, false, List, [], ◌∷◌, ◌++◌, length, get_or, map, take, drop, Option, Some, None, option_map, refl, sym, ap, subst, ◌∙◌, arith}
+use Rattle.std.proofs.Common.{◌≡◌, ℕ, zero, suc, ◌+◌, ◌-◌, ◌*◌, ◌%◌, ◌≤◌, ◌<◌, List, [], ◌∷◌, ◌++◌, length, get_or, map, take, drop, Option, Some, None, option_map, refl, sym, ap, subst, ◌∙◌, arith}
 use Rattle.std.proofs.lemmas.List.{length-map, length-append, map-append, get_or-map}
 use Rattle.std.proofs.lemmas.Option.{none-some}
 use Rattle.site.specs.declared.geometry.Geometry.{Geometry}
 use Rattle.site.specs.State.{Image}
-use Rattle.sealed_ring.specs.declared.slots.Shape.{Shape}
 use Rattle.sealed_ring.specs.Ring.{IsLive, hi_of, content_at, units_from}
 use Rattle.sealed_ring.proofs.Heads.{unit_is}
 use Rattle.sealed_ring.proofs.Units.{live_count}

@@ -74,11 +74,7 @@ fn find<S: Site>(site: &mut S) -> Result<Result<Found, Place>, Stop>
 }
 
 // Where what stands there fails the first rule, `None` exactly where it doesn't.
-fn find_unformed<S: Site>(
-    alloc: Global,
-    site: &mut S,
-    found: &Found,
-) -> Result<Option<Place>, Stop>
+fn find_unformed<S: Site>(alloc: Global, site: &mut S, found: &Found) -> Result<Option<Place>, Stop>
     requires { MayBeRead found.now (S.state site.old) }
 
     ensures formed { IsThere found.now (S.state site.old)

@@ -8,6 +8,7 @@ use Rattle.image_meaning.specs.Meaning.{versions_on}
 use Rattle.image_form.specs.Octets.{AreVersions}
 use Rattle.log_judge.specs.declared.unfinished.Left.{Left}
 use Rattle.image_check.specs.Filling.{AreKept, HaveRoom, KeepsOpen, opened, put_back_by}
+use Rattle.image_check.specs.Looking.{LooksOnce}
 use Rattle.image_check.specs.Judging.{MayBeJudged}
 use Rattle.image_check.specs.Showing.{FindsVersions}
 use Rattle.log_judge.specs.Unended.{AreLeft}
@@ -26,6 +27,6 @@ invariant-loop-txn g l =
           Leaving log (versions_on geometry old.image) (put_back_by log (losers log)) (put_back_by log (map (λ (e : ℕ × Left). e.0) l.txn-iterator)) l.filling.lengths.pages
           × AllByRecursion (λ n. list_any (λ m. m == n) (losers log) ≡ true) (map (λ (e : ℕ × Left). e.0) l.txn-iterator);
       chains : l.filling.chains ≡ l.fn.filling.chains;
-      log : now.log_reads ≡ old.log_reads;
+      looks : LooksOnce {T = Unit {0}} geometry.pages (Ok tt) l.fn.filling.lengths.pages l.filling.lengths.pages old now;
       reads : OnlyReads {T = Unit {0}} (Ok tt) old now;
     }

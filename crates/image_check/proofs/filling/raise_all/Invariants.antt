@@ -6,6 +6,7 @@ use Rattle.log_records.specs.Log.{Entry}
 use Rattle.image_meaning.specs.Meaning.{versions_on}
 use Rattle.image_form.specs.Octets.{AreVersions}
 use Rattle.image_check.specs.Filling.{AreKept, HaveRoom, opened}
+use Rattle.image_check.specs.Looking.{LooksOnce}
 use Rattle.image_check.specs.Judging.{MayBeJudged}
 use Rattle.image_check.specs.Showing.{FindsVersions}
 use Rattle.image_check.proofs.FilledOnes.{Leaving}
@@ -22,7 +23,7 @@ invariant-loop-left g l =
           HaveRoom (versions_on geometry old.image) (opened log (versions_on geometry old.image) before) →
           Leaving log (versions_on geometry old.image) (before ++ reverse l.updates) (reverse (take l.left l.updates)) l.lengths.pages;
       few : l.left ≤ length l.updates;
-      log : now.log_reads ≡ old.log_reads;
+      looks : LooksOnce {T = Unit {0}} geometry.pages (Ok tt) l.fn.lengths.pages l.lengths.pages old now;
       reads : OnlyReads {T = Unit {0}} (Ok tt) old now;
     }
 

@@ -1,6 +1,7 @@
 use Rattle.std.proofs.Common.{◌≡◌, length}
 use Rattle.std.specs.Prelude.{Ok}
 use Rattle.site.specs.Work.{OnlyReads}
+use Rattle.image_form.specs.Counted.{ReadsAtMost}
 use Rattle.image_check.specs.Judging.{MayBeJudged}
 use Rattle.image_check.specs.Showing.{FindsVersions}
 use Rattle.image_check.proofs.ShownOnes.{first_lsns}
@@ -13,5 +14,6 @@ invariant-loop-page g l =
       may : MayBeJudged l.found (g.S.Site.state l.site);
       many : length l.lsns.items ≡ l.page;
       lsns : FindsVersions l.found l.frames old → l.lsns.items ≡ first_lsns l.found.log.geometry old.image l.page;
+      looks : ReadsAtMost 0 l.page old (g.S.Site.state l.site);
       reads : OnlyReads {T = Unit {0}} (Ok tt) old (g.S.Site.state l.site);
     }

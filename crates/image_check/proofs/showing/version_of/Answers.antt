@@ -5,7 +5,6 @@ use Rattle.flash_cache.specs.Representation.{version_on}
 use Rattle.image_form.specs.Octets.{AreGroups}
 use Rattle.image_form.specs.Findings.{AreFound}
 use Rattle.image_form.specs.Newest.{ShowsFrames}
-use Rattle.image_form.proofs.Counts.{log_unread}
 use Rattle.image_check.proofs.showing.version_of.Goals as goal
 
 pub returns-clause-version : goal.returns-clause-version
@@ -14,9 +13,3 @@ returns-clause-version g c finds =
     let read = subst (λ (k : Geometry). IsTrue old.honest → AreFound c.args.found.now.rings old → AreGroups k old.image → ShowsFrames k old.image c.args.frames.now → c.read_version.new.into ≡ version_on k old.image c.args.page)
     c.geometry-geometry.ensures c.in_default.ensures.version in
     c.from_bytes.ensures ∙ read finds.honest finds.rings finds.groups finds.shown
-
-pub returns-in-Err-clause-log : goal.returns-in-Err-clause-log
-returns-in-Err-clause-log g c = log_unread _ _ 1 c.read_version.ensures.reads.preserves c.read_version.ensures.looks
-
-pub returns-clause-log : goal.returns-clause-log
-returns-clause-log g c = log_unread _ _ 1 c.read_version.ensures.reads.preserves c.read_version.ensures.looks

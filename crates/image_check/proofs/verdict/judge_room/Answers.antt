@@ -21,6 +21,7 @@ pub returns-in-Some : goal.returns-in-Some
 returns-in-Some g c = record {
   says = λ blocks meets survey values count. verdict_by 12 meets.reads (fails_so (at_first meets) (omega arith) (says g (goal.at.returns-in-Some g c).In_ok-place blocks meets survey) (ap is_none c.in-Some.is));
   reads = search rules;
+  few = c.rule_page_room.ensures.few;
 }
 
 pub returns : goal.returns
@@ -30,4 +31,8 @@ returns g c = record {
       let past = holds_so (at_first meets) (says g (goal.at.returns g c).In_ok-place blocks meets survey) c.in_ok-place.ensures.reads (ap is_none c.in_default.is) in
       sound_by c.args.counts.0 c.args.counts.1 past (subst (λ (image : Image). c.args.counts.0 ≡ values_of (logical_image_of r image)) (sym past.same) values) (subst (λ (image : Image). c.args.counts.1 ≡ commit_count (logical_image_of r image)) (sym past.same) count);
   reads = search rules;
+  few = c.rule_page_room.ensures.few;
 }
+
+pub returns-in_err-place : goal.returns-in_err-place
+returns-in_err-place g c = record { says = search rules; reads = search rules; few = c.rule_page_room.ensures.few }

@@ -1,4 +1,4 @@
-use Rattle.std.proofs.Common.{rules, ◌≡◌, ◌↔◌, IsTrue, true≢false, Ok, refl, sym, subst, ◌+◌, ◌-◌, ◌*◌, ap, arith}
+use Rattle.std.proofs.Common.{rules, ◌≡◌, ◌↔◌, IsTrue, true≢false, Ok, refl, sym, subst, ◌+◌, ◌*◌, ap, arith}
 use Rattle.std.specs.Prelude.{Some, is_none}
 use Rattle.site.specs.declared.geometry.Geometry.{Geometry}
 use Rattle.site.specs.State.{State}
@@ -112,7 +112,6 @@ returns-clause-reads g c =
     looks_then c.in_ok-place.field-0 c.rule_versions.result _ _ _ c.in_ok-place.ensures.reads
     (looks_then c.in_ok-place-2.field-0 c.rule_versions.result _ _ _ c.in_ok-place-2.ensures.reads
     (looks_then c.in_ok-place-3.field-0 c.rule_versions.result _ _ _ c.in_ok-place-3.ensures.reads c.rule_versions.ensures.reads))
-
 
 pub returns-in_err-place-clause-looks : goal.returns-in_err-place-clause-looks
 returns-in_err-place-clause-looks g c =

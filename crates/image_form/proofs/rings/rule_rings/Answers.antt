@@ -89,10 +89,10 @@ returns-clause-reads g c =
     (looks_answered c.in-Ok-Some-judge-3.field-0 (Ok answer) _ _ c.in-Ok-Some-judge-3.ensures.reads)))
 
 pub returns-in-Ok-None-clause-looks : goal.returns-in-Ok-None-clause-looks
-returns-in-Ok-None-clause-looks g c = one_ring c.args.geometry.now (g.S.Site.state c.args.site.now) (g.S.Site.state c.judge.new.site) (g.S.Site.state c.judge.new.site) (g.S.Site.state c.judge.new.site) (g.S.Site.state c.judge.new.site) c.judge.result  c.judge.ensures.looks
+returns-in-Ok-None-clause-looks g c = one_ring c.args.geometry.now (g.S.Site.state c.args.site.now) (g.S.Site.state c.judge.new.site) (g.S.Site.state c.judge.new.site) (g.S.Site.state c.judge.new.site) (g.S.Site.state c.judge.new.site) c.judge.result c.judge.ensures.looks
 
 pub returns-in-Err-clause-looks : goal.returns-in-Err-clause-looks
-returns-in-Err-clause-looks g c = one_ring c.args.geometry.now (g.S.Site.state c.args.site.now) (g.S.Site.state c.judge.new.site) (g.S.Site.state c.judge.new.site) (g.S.Site.state c.judge.new.site) (g.S.Site.state c.judge.new.site) c.judge.result  c.judge.ensures.looks
+returns-in-Err-clause-looks g c = one_ring c.args.geometry.now (g.S.Site.state c.args.site.now) (g.S.Site.state c.judge.new.site) (g.S.Site.state c.judge.new.site) (g.S.Site.state c.judge.new.site) (g.S.Site.state c.judge.new.site) c.judge.result c.judge.ensures.looks
 
 pub returns-in-Ok-None-judge-clause-looks : goal.returns-in-Ok-None-judge-clause-looks
 returns-in-Ok-None-judge-clause-looks g c = two_rings c.args.geometry.now (g.S.Site.state c.args.site.now) (g.S.Site.state c.judge.new.site) (g.S.Site.state c.judge-2.new.site) (g.S.Site.state c.judge-2.new.site) (g.S.Site.state c.judge-2.new.site) c.judge.result c.judge-2.result c.blocks_of.result c.blocks_of.ensures c.judge.ensures.looks c.judge-2.ensures.looks

@@ -1,4 +1,4 @@
-use Rattle.std.proofs.Common.{rules, refl, ◌≡◌, ℕ, List, IsTrue, sym, ◌∙◌, subst, true≢false, arith, ap, ◌+◌, ◌-◌, ◌*◌, ◌/◌}
+use Rattle.std.proofs.Common.{rules, refl, ◌≡◌, ℕ, List, IsTrue, sym, ◌∙◌, subst, true≢false, arith, ap, ◌+◌, ◌-◌, ◌/◌}
 use Rattle.site.specs.State.{State}
 use Rattle.sealed_ring.specs.declared.slots.Shape.{Shape}
 use Rattle.image_changes.specs.Rings.{segment_shape}

@@ -2,6 +2,7 @@ use Rattle.std.proofs.Common.{◌≡◌, ◌==◌, ℕ, true, false, sym, ap, �
 use Rattle.std.specs.List.{list_any}
 use Rattle.log_records.specs.Log.{Entry, txn_of}
 use Rattle.log_records.specs.Unfinished.{losers}
+use Rattle.image_check.proofs.Looks.{looked_failed}
 use Rattle.image_check.proofs.StrayOnes.{chains_same}
 use Rattle.image_check.proofs.filling.Filling.hear.Goals as goal
 
@@ -18,3 +19,15 @@ returns-clause-heard g c log records finds versions at left is =
     let fills = c.in-Ok.ensures.heard records finds versions is.lengths in
     let listed : list_any (λ t. t == txn_of e) (losers log) ≡ true = ap (λ (n : ℕ). list_any (λ t. t == n) (losers log)) (sym c.txn_of.ensures) ∙ sym (c.is_left.ensures log left) ∙ c.if-not-is_left.false in
     (record { lengths = fills.kept_so; chains = c.in_default.ensures.done log records at listed is.chains }, fills.fits_so)
+
+pub returns-in-Err-clause-looks : goal.returns-in-Err-clause-looks
+returns-in-Err-clause-looks g c = looked_failed c.in-Err.stop c.args.found.now.log.geometry.pages c.args.self.now.lengths.pages _ (g.S.Site.state c.args.site.now) (g.S.Site.state c.hear.new.site) c.in-Err.ensures.looks.ends
+
+pub returns-then-not-has-clause-looks : goal.returns-then-not-has-clause-looks
+returns-then-not-has-clause-looks g c = c.in-Ok.ensures.looks
+
+pub returns-in-Err-hear-clause-looks : goal.returns-in-Err-hear-clause-looks
+returns-in-Err-hear-clause-looks g c = looked_failed c.in-Err-hear.stop c.args.found.now.log.geometry.pages c.args.self.now.lengths.pages _ (g.S.Site.state c.args.site.now) (g.S.Site.state c.hear.new.site) c.in-Ok.ensures.looks.ends
+
+pub returns-clause-looks : goal.returns-clause-looks
+returns-clause-looks g c = c.in-Ok.ensures.looks

@@ -4,6 +4,7 @@ use Rattle.site.specs.Work.{OnlyReads}
 use Rattle.log_records.specs.Log.{Entry, value_of}
 use Rattle.flash_cache.specs.Representation.{version_on}
 use Rattle.image_meaning.specs.Meaning.{versions_on}
+use Rattle.image_form.specs.Counted.{ReadsAtMost}
 use Rattle.image_form.specs.Octets.{AreVersions}
 use Rattle.image_check.specs.Judging.{MayBeJudged}
 use Rattle.image_check.specs.Showing.{FindsVersions, HasContents}
@@ -22,5 +23,6 @@ invariant-loop-page g l =
           l.count ≡ values_among (value_of log (versions_on sizes old.image)) 0 (32 * l.page);
       few : l.count ≤ 32 * l.page;
       most : l.page ≤ sizes.pages;
+      looks : ReadsAtMost 0 l.page old (g.S.Site.state l.site);
       reads : OnlyReads {T = Unit {0}} (Ok tt) old (g.S.Site.state l.site);
     }
