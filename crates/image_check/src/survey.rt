@@ -87,7 +87,8 @@ pub fn rule_transactions<S: Site>(
 ) -> Result<Result<Survey, Place>, Stop>
     requires { MayBeJudged found.now (S.state site.old) }
 
-    ensures { JudgesBy found.now 1 0 result (S.state site.old) (S.state site.new) (λ blocks answer. (IsTrue (is_ok answer)
+    ensures { JudgesBy found.now 1 0 result (S.state site.old) (S.state site.new) (λ blocks answer.
+        (IsTrue (is_ok answer)
         ↔ RecordsFollowBegins (logical_image_of (reading_of found.now blocks) (S.state site.old).image))
         × IfOk answer (λ survey. IsSurveyOf found.now blocks survey)) }
 {

@@ -66,4 +66,4 @@ pub returns-in_err-place : goal.returns-in_err-place
 returns-in_err-place g c = record { says = search rules; reads = search rules; few = few_more 0 (18 * c.geometry-geometry.result.groups) (0 * kept_blocks c.args.found.now) (20 * c.args.found.now.log.geometry.groups) (g.S.Site.state c.args.site.now) (g.S.Site.state c.rule_clean.new.site) (omega arith) (omega (arith, ap (λ (x : Geometry). x.groups) c.geometry-geometry.ensures)) c.rule_clean.ensures.looks }
 
 pub returns-in_err-place-2 : goal.returns-in_err-place-2
-returns-in_err-place-2 g c = record { says = search rules; reads = search rules; few = few_then 0 (18 * c.geometry-geometry.result.groups) 0 (2 * c.geometry-geometry.result.groups) (0 * kept_blocks c.args.found.now) (20 * c.args.found.now.log.geometry.groups) (g.S.Site.state c.args.site.now) (g.S.Site.state c.rule_clean.new.site) (g.S.Site.state c.rule_following.new.site) (omega arith) (omega (arith, ap (λ (x : Geometry). x.groups) c.geometry-geometry.ensures)) c.rule_clean.ensures.looks c.rule_following.ensures.looks }
+returns-in_err-place-2 g c = record { says = search rules; reads = looks_then c.in_ok-place.field-0 c.from_residual-in_err-place-2.result _ _ _ c.in_ok-place.ensures.reads (search rules); few = few_then 0 (18 * c.geometry-geometry.result.groups) 0 (2 * c.geometry-geometry.result.groups) (0 * kept_blocks c.args.found.now) (20 * c.args.found.now.log.geometry.groups) (g.S.Site.state c.args.site.now) (g.S.Site.state c.rule_clean.new.site) (g.S.Site.state c.rule_following.new.site) (omega arith) (omega (arith, ap (λ (x : Geometry). x.groups) c.geometry-geometry.ensures)) c.rule_clean.ensures.looks c.rule_following.ensures.looks }

@@ -23,8 +23,8 @@ returns-clause-heard g c log records finds versions at left is =
 pub returns-in-Err-clause-looks : goal.returns-in-Err-clause-looks
 returns-in-Err-clause-looks g c = looked_failed c.in-Err.stop c.args.found.now.log.geometry.pages c.args.self.now.lengths.pages _ (g.S.Site.state c.args.site.now) (g.S.Site.state c.hear.new.site) c.in-Err.ensures.looks.ends
 
-pub returns-then-not-has-clause-looks : goal.returns-then-not-has-clause-looks
-returns-then-not-has-clause-looks g c = c.in-Ok.ensures.looks
+pub returns-then-not-is_left-clause-looks : goal.returns-then-not-is_left-clause-looks
+returns-then-not-is_left-clause-looks g c = c.in-Ok.ensures.looks
 
 pub returns-in-Err-hear-clause-looks : goal.returns-in-Err-hear-clause-looks
 returns-in-Err-hear-clause-looks g c = looked_failed c.in-Err-hear.stop c.args.found.now.log.geometry.pages c.args.self.now.lengths.pages _ (g.S.Site.state c.args.site.now) (g.S.Site.state c.hear.new.site) c.in-Ok.ensures.looks.ends
