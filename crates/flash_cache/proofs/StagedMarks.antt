@@ -1,24 +1,6 @@
 -- The frames that a push stages, and its second chances, by the marks of the front group.
-use Rattle.std.proofs.Common.{◌≡◌, ◌≢◌, ℕ, zero, suc, ◌+◌, ◌<◌, ◌≤◌, Bool, true, false, cond, List, [], ◌∷◌, length, get_or, map, Some, slice_get, arith, refl, sym, ap, subst, ◌∙◌}
-use Rattle.std.specs.List.{All, AllPairs, AllByRecursion}
-use Rattle.std.proofs.lemmas.List.{get_or-map, length-map}
-use Rattle.std.proofs.lemmas.List.Elements.{All-map, recursion_from_All}
-use Rattle.std.proofs.lemmas.Option.{get_or_from_slice_get, slice_get_within, same_Some}
-use Rattle.byte_fields.specs.declared.frame_head.Mark.{Mark}
-use Rattle.second_chance.specs.declared.frame.Frame.{Frame as Known}
-use Rattle.second_chance.specs.Queue.{group_marks, front_marks}
-use Rattle.second_chance.specs.Plans.{Placed, chances_given, staged_of}
-use Rattle.second_chance.specs.Machine.{rules_of, leaving}
-use Rattle.site.specs.State.{State}
-use Rattle.sealed_ring.specs.Ring.{IsLive}
-use Rattle.flash_cache.specs.Representation.{Invariant}
-use Rattle.stage_out.specs.Staged.{calls_of}
-use Rattle.second_chance.proofs.DistinctStaged.{staged_stand_in, staged_apart}
+use Rattle.flash_cache.proofs.Names.{◌≡◌, ◌≢◌, ℕ, zero, suc, ◌+◌, ◌<◌, ◌≤◌, Bool, true, false, cond, List, [], ◌∷◌, length, get_or, map, Some, slice_get, arith, refl, sym, ap, subst, ◌∙◌, get_or-map, length-map, All-map, recursion_from_All, get_or_from_slice_get, slice_get_within, same_Some, All, AllPairs, AllByRecursion, Mark, no_mark, mark_at, front_leaves, staged_marks, staged_pages, chance_marks, IsPlan, Invariant, FlashCache, PushPlan, IsLive, staged_stand_in, staged_apart, rules_of, leaving, Placed, chances_given, staged_of, group_marks, front_marks, Known, State, calls_of}
 use Rattle.second_chance.proofs.Chances.{chances_stand_in, chances_are_not_staged}
-use Rattle.flash_cache.specs.declared.cache.FlashCache.{FlashCache}
-use Rattle.flash_cache.specs.Leaving.{no_mark, mark_at}
-use Rattle.flash_cache.specs.declared.cache.PushPlan.{PushPlan}
-use Rattle.flash_cache.specs.Pushed.{front_leaves, staged_marks, staged_pages, chance_marks, IsPlan}
 use Rattle.std.proofs.lemmas.Grind.{common_steps}
 
 -- marks of a group
