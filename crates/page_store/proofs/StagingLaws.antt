@@ -1,6 +1,6 @@
 -- What calls on pages write, one after the other.
 use Rattle.std.proofs.Common.{◌≡◌, ◌≢◌, ◌⊎◌, inl, inr, ⊎_elim, IsTrue, ℕ, zero, suc, ◌+◌, ◌*◌, ◌<◌, ◌≤◌, List, [], ◌∷◌, ◌++◌, length, drop, map, reverse, Bool, true, false, append_assoc, append-nil, arith, refl, sym, ap, subst, ◌∙◌}
-use Rattle.std.specs.Prelude.{Result, Ok, Err, OnOk, if◌then◌else◌}
+use Rattle.std.specs.Prelude.{Result, Ok, Err, OnOk, if◌then◌else◌, slice_index}
 use Rattle.std.specs.List.{Contains}
 use Rattle.std.proofs.lemmas.Bool.{eqb-true}
 use Rattle.std.proofs.lemmas.List.{map-append}
@@ -25,7 +25,7 @@ use Rattle.second_chance.specs.Plans.{Placed}
 use Rattle.second_chance.specs.Machine.{Rules, Cache, Staged, must_be_pushed, staged_in_push, staged_by, push_changed, wants_flush}
 use Rattle.second_chance.specs.Laws.{FlushGoesOn, FlushEnds}
 use Rattle.record_model.specs.Touches.{flush}
-use Rattle.tail_rebuild.specs.Saving.{is_due, changes_of_save}
+use Rattle.tail_rebuild.specs.Saving.{IsInNoSlot, LeavesGaps, is_due, changes_of_save}
 use Rattle.flash_cache.specs.declared.cache.FlashCache.{FlashCache}
 use Rattle.flash_cache.specs.Representation as flash_cache
 use Rattle.flash_cache.specs.Representation.{disk_on}
@@ -57,7 +57,7 @@ saves_then next a b c h h2 = grind (arith, common_steps)
 
 pub written_weaker : (g : Geometry) (staged more : List Staged) (next next' : ℕ) (old now : Image) → ((page : ℕ) → Contains (pages_staged staged) page → Contains (pages_staged more) page) → next ≤ next' →
     WritesOnly g staged next old now → WritesOnly g more next' old now
-written_weaker g staged more next next' old now among up only = record { groups = (let low = only.groups in omega (arith, low, up)); segments = saves_up next next' _ _ up only.segments; disk = λ page out. only.disk page (λ is. out (among page is)) }
+written_weaker g staged more next next' old now among up only = record { groups = (let low = only.groups in omega (arith, low, up)); segments = saves_up next next' _ _ up only.segments; gaps = only.gaps; disk = λ page out. only.disk page (λ is. out (among page is)) }
 
 pub among_first : (staged more : List Staged) (page : ℕ) → Contains (pages_staged staged) page → Contains (pages_staged (staged ++ more)) page
 among_first staged more page is = subst (λ (l : List ℕ). Contains l page) (sym (map-append (λ (f : Staged). f.page) staged more)) (Contains-append_left (pages_staged staged) (pages_staged more) page is)
@@ -70,6 +70,7 @@ pub written_then : (g : Geometry) (staged more : List Staged) (next next' : ℕ)
 written_then g staged more next next' a b c up one two = record {
   groups = two.groups;
   segments = saves_then next' _ _ _ (saves_up next next' _ _ up one.segments) two.segments;
+  gaps = λ p beside other. two.gaps p beside other ∙ one.gaps p beside other;
   disk = λ page out. two.disk page (λ is. out (among_later staged more page is)) ∙ one.disk page (λ is. out (among_first staged more page is));
 }
 
@@ -137,22 +138,29 @@ queue_same store other old new same flash honest has = grind (arith, common_step
 abbrev pub Leaving : Geometry → List Staged → ℕ → State → State → Type 0
 Leaving g staged next old now = LeavesOnly old now (λ s. WritesOnly g staged next old.image s.image)
 
--- of the first ones of some changes
-pub front_writes : (g : Geometry) (changes : List Change) (staged : List Staged) (next : ℕ) (old now : State) → hi_of (group_shape g) old.image.flash + sum_of groups_by changes ≤ next → (1 ≤ sum_of segments_by changes → 4 * (hi_of (segment_shape g) old.image.flash + sum_of segments_by changes) < next) →
-    ((page : ℕ) → Contains (rewritten changes) page → Contains (pages_staged staged) page) → LeavesFront g changes old now → Leaving g staged next old now
-front_writes g changes staged next old now low early among front = leaves_weaker old now (IsReached g (IsFrontOf changes) old) (λ s. WritesOnly g staged next old.image s.image) within front
+-- what a push leaves of the gaps in a snapshot
+abbrev KeepsGaps : Geometry → State → Snapshot → Type 0
+KeepsGaps g old s = (p : ℕ) → IsInNoSlot (group_shape g) p → IsInNoSlot (segment_shape g) p → slice_index s.image.flash p ≡ slice_index old.image.flash p
+
+-- of the first ones of some changes, beside which the gaps stay
+front_writes : (g : Geometry) (changes : List Change) (staged : List Staged) (next : ℕ) (old now : State) → hi_of (group_shape g) old.image.flash + sum_of groups_by changes ≤ next → (1 ≤ sum_of segments_by changes → 4 * (hi_of (segment_shape g) old.image.flash + sum_of segments_by changes) < next) →
+    ((page : ℕ) → Contains (rewritten changes) page → Contains (pages_staged staged) page) → LeavesFront g changes old now → LeavesGaps g old now → Leaving g staged next old now
+front_writes g changes staged next old now low early among front gaps =
+    each_weaker old now (λ m. Leaves (IsReached g (IsFrontOf changes) old) m × Leaves (KeepsGaps g old) m) (Leaves (λ s. WritesOnly g staged next old.image s.image)) (λ m both s left. within s (both.0 s left) (both.1 s left))
+    (each_both old now (Leaves (IsReached g (IsFrontOf changes) old)) (Leaves (KeepsGaps g old)) front gaps)
   where
     -- those of the first changes are none, or no more than all
     by : (s : Snapshot) (n : ℕ) → hi_of (segment_shape g) s.image.flash ≡ hi_of (segment_shape g) old.image.flash + n → n ≤ sum_of segments_by changes → SavesBefore next (hi_of (segment_shape g) old.image.flash) (hi_of (segment_shape g) s.image.flash)
     by s zero are few = inl (omega (arith, are))
     by s (suc n) are few = let low = early (omega (arith, few)) in inr (omega (arith, are), omega (arith, are, few, low))
 
-    within : (s : Snapshot) → IsReached g (IsFrontOf changes) old s → WritesOnly g staged next old.image s.image
-    within s is =
+    within : (s : Snapshot) → IsReached g (IsFrontOf changes) old s → KeepsGaps g old s → WritesOnly g staged next old.image s.image
+    within s is gaps =
         let made = wrote g is.changes old.image s.image is.reaches in
         record {
           groups = omega (arith, made.groups_are, front_sum groups_by changes is.changes is.made, low);
           segments = by s (sum_of segments_by is.changes) made.segments_are (front_sum segments_by changes is.changes is.made);
+          gaps = gaps;
           disk = λ page out. made.disk page (λ listed. out (among page (front_rewritten changes is.changes is.made page listed)));
         }
 
@@ -289,9 +297,9 @@ pub pages_are : (store : PageStore) → staged_pages store.flash ≡ pages_stage
 pages_are store = staged_are store.flash.directory (staged_marks store.flash)
 
 pub push_leaves : (store : PageStore) (saved : List (List Stored)) (group : List ℕ) (old now : State) → HasQueueOn store old →
-    LeavesFront store.flash.geometry (changes_of_save (is_due store.flash.ring.hi store.flash.segments.hi) saved ++ changes_of_push (staged_pages store.flash) group) old now →
+    LeavesFront store.flash.geometry (changes_of_save (is_due store.flash.ring.hi store.flash.segments.hi) saved ++ changes_of_push (staged_pages store.flash) group) old now → LeavesGaps store.flash.geometry old now →
     Leaving store.flash.geometry (staged_in_push (rules store) store.flash.directory) (next_group (cache_of store) + 1) old now
-push_leaves store saved group old now has front =
+push_leaves store saved group old now has front gaps =
     let due : Bool = is_due store.flash.ring.hi store.flash.segments.hi in
     let pushed = changes_of_push (staged_pages store.flash) group in
     let one = push_groups (staged_pages store.flash) group in
@@ -301,7 +309,7 @@ push_leaves store saved group old now has front =
     front_writes store.flash.geometry (changes_of_save due saved ++ pushed) (staged_in_push (rules store) store.flash.directory) (next_group (cache_of store) + 1) old now (omega (arith, has.next, one, none))
     (λ some. early due refl (omega (arith, segments, no_more, some)) (omega (arith, segments, no_more)))
     (λ page listed. subst (λ (l : List ℕ). Contains l page) (pages_are store)
-    (push_rewrites (staged_pages store.flash) group page (subst (λ (l : List ℕ). Contains l page) (save_rewrites due saved pushed) listed))) front
+    (push_rewrites (staged_pages store.flash) group page (subst (λ (l : List ℕ). Contains l page) (save_rewrites due saved pushed) listed))) front gaps
   where
     early : (due : Bool) → is_due store.flash.ring.hi store.flash.segments.hi ≡ due → 1 ≤ (if due then 1 else 0) → {n : ℕ} → n ≡ (if due then 1 else 0) → 4 * (hi_of (segment_shape store.flash.geometry) old.image.flash + n) < next_group (cache_of store) + 1
     early true is some are =

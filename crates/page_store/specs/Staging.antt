@@ -1,5 +1,5 @@
 -- What calls on pages write: the groups that they append, and the disk pages that they stage.
-use Rattle.std.specs.Prelude.{◌≡◌, ◌⊎◌, ℕ, ◌*◌, ◌<◌, ◌≤◌, List, reverse, Contains, Result, OnOk}
+use Rattle.std.specs.Prelude.{◌≡◌, ◌⊎◌, ℕ, ◌*◌, ◌<◌, ◌≤◌, List, reverse, Contains, Result, OnOk, slice_index}
 use Rattle.site.specs.declared.geometry.Geometry.{Geometry}
 use Rattle.site.specs.State.{State, Image, IsQuiet}
 use Rattle.site.specs.Moments.{LeavesOnly}
@@ -7,6 +7,7 @@ use Rattle.site.specs.declared.outside.Stop.{Stop}
 use Rattle.sealed_ring.specs.Ring.{hi_of}
 use Rattle.image_changes.specs.Rings.{group_shape, segment_shape}
 use Rattle.frame_group.specs.Groups.{Frame as Stored}
+use Rattle.tail_rebuild.specs.Saving.{IsInNoSlot}
 pub use Rattle.flash_cache.specs.OnDisk.{pages_staged}
 use Rattle.flash_cache.specs.OnDisk.{HasLastStaged}
 use Rattle.flash_cache.specs.Representation as flash_cache
@@ -23,11 +24,13 @@ staged_by_eviction rules cache = staged_in_eviction rules (reverse cache.pool) c
 abbrev pub SavesBefore : ℕ → ℕ → ℕ → Type 0
 SavesBefore next old now = (now ≡ old) ⊎ ((old < now) × (4 * now < next))
 
--- The ring of groups has no number from this one on, no segment is saved early, and each disk page that isn't staged is
--- as it was.
+-- The ring of groups has no number from this one on, no segment is saved early, and each octet of flash that is in no
+-- slot of a group or a segment is as it was, and so is each disk page that isn't staged.
 pub record WritesOnly (g : Geometry) (staged : List Staged) (next : ℕ) (old now : Image) : Type 0 where
   pub groups : hi_of (group_shape g) now.flash ≤ next
   pub segments : SavesBefore next (hi_of (segment_shape g) old.flash) (hi_of (segment_shape g) now.flash)
+  pub gaps : (p : ℕ) → IsInNoSlot (group_shape g) p → IsInNoSlot (segment_shape g) p
+      → slice_index now.flash p ≡ slice_index old.flash p
   pub disk : (page : ℕ) → (Contains (pages_staged staged) page → ⊥) → disk_on now page ≡ disk_on old page
 
 -- Of an honest site, whatever of it is loose: the queue in memory is the one on flash.

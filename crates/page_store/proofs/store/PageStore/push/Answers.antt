@@ -225,7 +225,7 @@ returns-in-Ok g c =
           by_forcing (record {
             holds = λ has. queue_pushed c.push_group-pushed.result c.push_group-pushed.new.self store _ new c.push_group-pushed.ensures.keeps.going (c.push_group-pushed.ensures.keeps.fits has.fits) ((c.push_group-pushed.ensures.pushes has.groups has.fits has.holds).holds);
             quiet = λ has quiet. c.push_group-pushed.ensures.keeps.quiet has.fits.honest quiet;
-            writes = λ has quiet. push_writes store (groups_on store.flash.geometry mid.image) _ mid new has ((c.push_group-pushed.ensures.pushes has.groups has.fits has.holds).front quiet);
+            writes = λ has quiet. push_writes store (groups_on store.flash.geometry mid.image) _ mid new has ((c.push_group-pushed.ensures.pushes has.groups has.fits has.holds).front quiet) ((c.push_group-pushed.ensures.pushes has.groups has.fits has.holds).gaps quiet);
             last = λ has quiet. (c.push_group-pushed.ensures.pushes has.groups has.fits has.holds).last quiet;
             sizes = c.push_group-pushed.ensures.keeps.geometry;
           }));
