@@ -11,7 +11,7 @@ use Rattle.byte_fields.specs.FrameHeads.{AreGroupHeads}
 use Rattle.site.proofs.Laws.{stays_honest, untouched_in_sequence}
 use Rattle.site.specs.Moments.{LeavesOnly, SameAt}
 use Rattle.image_changes.specs.Changes.{Reaches}
-use Rattle.stage_out.specs.Staged.{HasStaged, calls_of}
+use Rattle.stage_out.specs.Staged.{HasStaged, calls_of, unsynced_in}
 use Rattle.frame_group.specs.Groups.{Frame, IsFrame, heads_of}
 use Rattle.frame_group.specs.Groups.{group as spelled}
 use Rattle.frame_group.proofs.Front.{heads_are_group}
@@ -290,6 +290,15 @@ returns-clause-device_calls g c honest =
     let items : c.as_slice-pages.result.now ≡ c.in-Ok.both.0.pages.items = search rules in
     let calls = ap calls_of (items ∙ numbers g s) in
     on_ok_weaker c.write.result (λ wrote. omega (arith, same, calls, wrote)) (c.write.ensures.device_calls (still_honest g s honest))
+
+pub returns-clause-unsynced : goal.returns-clause-unsynced
+returns-clause-unsynced g c honest settled =
+    let s = (goal.at.returns-clause-unsynced g c).In-Ok in
+    let same = c.frames_leaving.ensures.reads.same honest in
+    let items : c.as_slice-pages.result.now ≡ c.in-Ok.both.0.pages.items = search rules in
+    let calls = ap calls_of (items ∙ numbers g s) in
+    let before = ap unsynced_in same.past in
+    on_ok_weaker c.write.result (λ wrote. omega (arith, before, calls, wrote)) (c.write.ensures.unsynced (still_honest g s honest) (ap (λ (l : Loose). l.disk) same.loose ∙ settled))
 
 pub returns-clause-keeps : goal.returns-clause-keeps
 returns-clause-keeps g c =

@@ -3,6 +3,8 @@ use Rattle.site.specs.declared.outside.Dev.TheVariants.{Flash, Disk}
 use Rattle.site.specs.State.{State, IsQuiet}
 use Rattle.site.proofs.Laws.{others_untouched, untouched_in_sequence, stays_honest}
 use Rattle.site.proofs.Working.{err_again}
+use Rattle.std.proofs.lemmas.Result.{on_ok_weaker}
+use Rattle.stage_out.proofs.Unsynced.{unsynced_untouched}
 use Rattle.frame_group.specs.Groups.{Frame, group}
 use Rattle.flash_cache.specs.declared.cache.FlashCache.{FlashCache}
 use Rattle.flash_cache.specs.Pushed.{frames_pushed}
@@ -159,6 +161,14 @@ returns-clause-device_calls g c honest =
     let saved = c.in_default.ensures.device_calls honest in
     let pushed = c.in_default-push.ensures.device_calls (stays_honest (g.S.Site.state c.args.site.now) (g.S.Site.state c.save_due.new.site) c.save_due.ensures.preserves honest) in
     omega (arith, saved, pushed)
+
+pub returns-clause-unsynced : goal.returns-clause-unsynced
+returns-clause-unsynced g c honest settled =
+    let old = g.S.Site.state c.args.site.now in
+    let mid = g.S.Site.state c.save_due.new.site in
+    let same = others_untouched Flash Disk old mid (λ h. cc) (c.save_due.ensures.changes honest).only in
+    let still = unsynced_untouched old mid settled same in
+    on_ok_weaker c.push.result (λ pushed. omega (arith, still, pushed)) (c.push.ensures.unsynced (stays_honest old mid c.save_due.ensures.preserves honest) (same.now.loose ∙ settled))
 
 pub returns-in-Err-clause-keeps : goal.returns-in-Err-clause-keeps
 returns-in-Err-clause-keeps g c = record {
