@@ -1,6 +1,6 @@
 -- Calls are counted by the units that are appended, and by the frames that are staged.
 use Rattle.std.proofs.Common.{◌≡◌, ℕ, ◌+◌, ◌*◌, ◌≤◌, ◌<◌, Bool, true, false, List, [], ◌∷◌, ◌++◌, length, map, drop, arith, refl, sym, ap, subst, ◌∙◌}
-use Rattle.std.specs.Prelude.{◌==◌, cond, take}
+use Rattle.std.specs.Prelude.{◌==◌, ◌&&◌, not, cond, take}
 use Rattle.std.specs.List.{AllByRecursion}
 use Rattle.std.proofs.lemmas.Grind.{common_steps}
 use Rattle.std.proofs.lemmas.List.Sums.{count_by-le-length}
@@ -49,6 +49,24 @@ told_none told m leaves = grind (arith, common_steps)
 
 pub silent_leaves : (old new : State) → LeavesOnly old new (λ s. s.told ≡ old.told) → EachMoment old new IsSilent
 silent_leaves old new leaves = each_weaker old new (Leaves (λ s. s.told ≡ old.told)) IsSilent (told_none old.told) leaves
+
+-- each call that finds something of the disk loose is a write or a sync
+one_few : (a b : Bool) → cond (a && b) 1 0 ≤ cond a 1 0
+one_few true true = omega arith
+one_few true false = omega arith
+one_few false b = omega arith
+
+unsynced_few : (moments : List Moment) → unsynced_in moments ≤ works_in moments
+unsynced_few [] = omega arith
+unsynced_few (m ∷ moments) = let one = one_few (length m.telling == 0) (not (length m.loose.disk == 0)) in let more = unsynced_few moments in omega (arith, one, more)
+
+-- calls that neither write nor sync
+pub unsynced_told : (old new : State) → new.past ≡ old.past ++ since old new → works_in new.past ≡ works_in old.past → unsynced_in new.past ≡ unsynced_in old.past
+unsynced_told old new grown same =
+    let works = ap works_in grown ∙ works_join old.past (since old new) in
+    let all = ap unsynced_in grown ∙ unsynced_join old.past (since old new) in
+    let few = unsynced_few (since old new) in
+    omega (arith, works, all, few, same)
 
 -- calls on the log alone, all of which its units cost
 pub calls_logged : (g : Geometry) (old new : State) → IsQuiet old → ChangesOnly Log old new → length new.past + cost_of g old.image ≡ length old.past + cost_of g new.image → CallsForUnits g old new

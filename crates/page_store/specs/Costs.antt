@@ -6,7 +6,7 @@ use Rattle.site.specs.State.{State, Image}
 use Rattle.site.specs.Moments.{works_in}
 use Rattle.sealed_ring.specs.Ring.{hi_of}
 use Rattle.image_changes.specs.Rings.{log_shape, master_shape, group_shape, segment_shape}
-use Rattle.stage_out.specs.Staged.{unsynced_in}
+pub use Rattle.stage_out.specs.Staged.{unsynced_in}
 use Rattle.second_chance.specs.Machine.{Staged}
 
 -- what the units took that the rings have had: five calls each, three writes and two syncs
