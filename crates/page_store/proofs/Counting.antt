@@ -17,7 +17,8 @@ use Rattle.sealed_ring.specs.Ring.{hi_of, Units}
 use Rattle.image_changes.specs.Rings.{Masters, Blocks, Groups, Segments, log_shape, master_shape, group_shape, segment_shape}
 use Rattle.image_changes.specs.Changes.{Change, SealsBlock, RewritesPages, AppendsGroup, AppendsSegment, AppendsMaster, ReadsAs, Makes, Reaches}
 use Rattle.stage_out.specs.Staged.{is_unsynced, unsynced_in}
-use Rattle.stage_out.proofs.Unsynced.{unsynced_join, unsynced_untouched}
+use Rattle.stage_out.proofs.Unsynced.{unsynced_join}
+pub use Rattle.stage_out.proofs.Unsynced.{unsynced_untouched}
 use Rattle.second_chance.specs.Machine.{Staged}
 use Rattle.page_store.specs.Costs.{cost_of, CallsForUnits, staging_calls, CallsForStaged}
 

@@ -1,9 +1,8 @@
-use Rattle.std.proofs.Common.{List, true, arith, refl, rules}
+use Rattle.std.proofs.Common.{List, true, arith, refl, rules, ◌∙◌}
 use Rattle.site.specs.declared.outside.Dev.TheVariants.{Flash, Disk}
 use Rattle.site.specs.State.{State, IsQuiet}
 use Rattle.site.proofs.Laws.{others_untouched, untouched_in_sequence, stays_honest}
 use Rattle.site.proofs.Working.{err_again}
-use Rattle.std.proofs.lemmas.Result.{on_ok_weaker}
 use Rattle.stage_out.proofs.Unsynced.{unsynced_untouched}
 use Rattle.frame_group.specs.Groups.{Frame, group}
 use Rattle.flash_cache.specs.declared.cache.FlashCache.{FlashCache}
@@ -168,7 +167,8 @@ returns-clause-unsynced g c honest settled =
     let mid = g.S.Site.state c.save_due.new.site in
     let same = others_untouched Flash Disk old mid (λ h. cc) (c.save_due.ensures.changes honest).only in
     let still = unsynced_untouched old mid settled same in
-    on_ok_weaker c.push.result (λ pushed. omega (arith, still, pushed)) (c.push.ensures.unsynced (stays_honest old mid c.save_due.ensures.preserves honest) (same.now.loose ∙ settled))
+    let pushed = c.in_default-push.ensures.unsynced (stays_honest old mid c.save_due.ensures.preserves honest) (same.now.loose ∙ settled) in
+    omega (arith, still, pushed)
 
 pub returns-in-Err-clause-keeps : goal.returns-in-Err-clause-keeps
 returns-in-Err-clause-keeps g c = record {

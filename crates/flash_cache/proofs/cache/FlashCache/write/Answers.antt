@@ -1,5 +1,5 @@
 use Rattle.std.specs.Prelude.{Ok, slice_index}
-use Rattle.std.proofs.Common.{inl, rules, refl, ◌≡◌, ◌≤◌, ◌∷◌, List, [], ℕ, length, arith, sym, ap, subst}
+use Rattle.std.proofs.Common.{inl, rules, refl, ◌≡◌, ◌∙◌, ◌≤◌, ◌∷◌, List, [], ℕ, length, arith, sym, ap, subst}
 use Rattle.std.proofs.lemmas.Result.{on_ok_weaker}
 use Rattle.std_lemmas.proofs.Results.{on_ok}
 use Rattle.site.specs.declared.outside.Dev.TheVariants.{Flash, Disk}
