@@ -45,21 +45,31 @@ pub silent_works : (old new : State) → EachMoment old new IsSilent → works_i
 silent_works old new each = grind (arith, common_steps, works_join, length-append, all_work)
 
 -- where all that a crash may leave tells the same
+no_text : (so_far telling told : List ℕ) → so_far ++ take 0 telling ≡ told → so_far ++ take 1 telling ≡ told → telling ≡ []
+no_text so_far [] told none one = refl
+no_text so_far (x ∷ telling) told none one =
+    let same : length (so_far ++ x ∷ []) ≡ length (so_far ++ []) = ap length (one ∙ sym none) in
+    absurd (omega (arith, same, length-append so_far (x ∷ []), length-append so_far []))
+
 told_none : (told : List ℕ) (m : Moment) → Leaves (λ s. s.told ≡ told) m → IsSilent m
-told_none told m leaves = grind (arith, common_steps)
+told_none told m leaves =
+    let front = λ (k : ℕ). leaves (record { told = m.told ++ take k m.telling; image = m.image }) (record { told = (k, refl); content = λ dev. record { size = refl; kept = λ place stable. refl } }) in
+    no_text m.told m.telling told (front 0) (front 1)
 
 pub silent_leaves : (old new : State) → LeavesOnly old new (λ s. s.told ≡ old.told) → EachMoment old new IsSilent
 silent_leaves old new leaves = each_weaker old new (Leaves (λ s. s.told ≡ old.told)) IsSilent (told_none old.told) leaves
 
 -- each call that finds something of the disk loose is a write or a sync
-one_few : (a b : Bool) → cond (a && b) 1 0 ≤ cond a 1 0
+one_few : (a b : Bool) → 0 + cond (a && b) 1 0 ≤ 0 + cond a 1 0
 one_few true true = omega arith
 one_few true false = omega arith
 one_few false b = omega arith
 
 unsynced_few : (moments : List Moment) → unsynced_in moments ≤ works_in moments
 unsynced_few [] = omega arith
-unsynced_few (m ∷ moments) = let one = one_few (length m.telling == 0) (not (length m.loose.disk == 0)) in let more = unsynced_few moments in omega (arith, one, more)
+unsynced_few (m ∷ moments) = 
+    let one : unsynced_in (m ∷ []) ≤ works_in (m ∷ []) = one_few (length m.telling == 0) (not (length m.loose.disk == 0)) in
+    omega (arith, unsynced_join (m ∷ []) moments, works_join (m ∷ []) moments, one, unsynced_few moments)
 
 -- calls that neither write nor sync
 pub unsynced_told : (old new : State) → new.past ≡ old.past ++ since old new → works_in new.past ≡ works_in old.past → unsynced_in new.past ≡ unsynced_in old.past
@@ -132,8 +142,8 @@ module _ (g : Geometry) where
 -- Frames that are staged, one after the other.
 
 staging_joined : (m : ℕ) (first later : List Staged) → AllByRecursion (λ f. f.group < m) first → AllByRecursion (λ f. m ≤ f.group) later → staging_calls (first ++ later) ≡ staging_calls first + staging_calls later
-staging_joined m [] later low high = refl
-staging_joined m (f ∷ []) [] low high = refl
+staging_joined m [] later low high = omega arith
+staging_joined m (f ∷ []) [] low high = omega arith
 staging_joined m (f ∷ []) (next ∷ later) low high = grind (arith, common_steps)
 staging_joined m (f ∷ next ∷ first) later low high = let more = staging_joined m (next ∷ first) later low.1 high in omega (arith, more)
 

@@ -2,7 +2,8 @@
 use Rattle.std.proofs.Common.{◌≡◌, ℕ, ◌+◌, ◌*◌, ◌≤◌, Bool, true, false, cond, List, [], ◌∷◌, ◌++◌, length, refl, ap, arith}
 use Rattle.std.specs.Prelude.{if◌then◌else◌}
 use Rattle.site.specs.declared.geometry.Geometry.{Geometry}
-use Rattle.site.specs.State.{State, Image}
+use Rattle.site.specs.declared.outside.Dev.TheVariants.{Disk}
+use Rattle.site.specs.State.{State, Image, IsSettled}
 use Rattle.image_changes.specs.Changes.{Change, Reaches}
 use Rattle.stage_out.specs.Staged.{changes_of, calls_of, unsynced_in}
 use Rattle.frame_group.specs.Groups.{Frame as Stored}
@@ -43,6 +44,12 @@ pub push_takes : (list : LogList) (sealing : Bool) (cache : FlashCache) (image :
     → hi' ≡ cond sealing (hi + 1) hi → length mid.past + 5 * hi ≡ length old.past + 5 * hi' → length new.past ≡ length mid.past + ((if is_due cache.ring.hi cache.segments.hi then 5 else 0) + (calls_of (staged_pages cache) + 5))
     → TakesCalls (changes_if sealing list ++ changes_of_group cache image pages changed contents) (staged_pages cache) old new
 push_takes list sealing cache image pages changed contents hi hi' old mid new is sealed pushed = grind (arith, common_steps, sum_joined, group_calls, paid_append, paid_group, paid)
+
+-- what it takes by the cache's clauses
+abbrev pub PushTakes : FlashCache → State → State → Type 0
+PushTakes cache old new =
+    (length new.past ≡ length old.past + ((if is_due cache.ring.hi cache.segments.hi then 5 else 0) + (calls_of (staged_pages cache) + 5)))
+    × (IsSettled Disk old → unsynced_in new.past ≡ unsynced_in old.past + calls_of (staged_pages cache))
 
 pub push_calls : (g : Geometry) (changes : List Change) (staged : List ℕ) (old new : State) → Reaches g changes old.image new.image → TakesCalls changes staged old new → new.told ≡ old.told → EachMoment old new IsSilent
     → unsynced_in new.past ≡ unsynced_in old.past + calls_of staged → CallsForUnits g old new

@@ -193,7 +193,14 @@ log_leaves g staged next old now low quiet changes =
 -- another answer, which is Ok where the first one is
 pub stages_result : {A B : Type 0} {r : Result A Stop} {s : Result B Stop} {staged : List Staged} {next : ℕ} {old new : PageStore} {before now : State} → ((P : Type 0) → OnOk r P → OnOk s P) →
     Stages r staged next old new before now → Stages s staged next old new before now
-stages_result {staged = staged} {old = old} {new = new} {before = before} {now = now} turns stages = grind (arith, common_steps)
+stages_result turns stages = record {
+  holds = λ has. turns _ (stages.holds has);
+  quiet = λ has quiet. turns _ (stages.quiet has quiet);
+  writes = stages.writes;
+  last = λ has quiet. turns _ (stages.last has quiet);
+  counted = λ has quiet. turns _ (stages.counted has quiet);
+  sizes = stages.sizes;
+}
 
 pub stages_ok : {A B : Type 0} {a : A} {b : B} {staged : List Staged} {next : ℕ} {old new : PageStore} {before now : State} → Stages {T = A} (Ok a) staged next old new before now → Stages {T = B} (Ok b) staged next old new before now
 stages_ok {A} {B} {a} {b} stages = stages_result {r = Ok a} {s = Ok b} (λ P p. p) stages
@@ -280,7 +287,7 @@ stages_none {T} {r} {old = old} {new = new} {now = now} none low same =
 -- a call behind one that was Ok
 pub stages_then : {A B : Type 0} {a : A} {r : Result B Stop} {staged more : List Staged} {next next' : ℕ} {old mid new : PageStore} {before between now : State} → (HasQueueOn old before → next ≤ next') →
     Stages {T = A} (Ok a) staged next old mid before between → Stages r more next' mid new between now → Stages r (staged ++ more) next' old new before now
-stages_then {r = r} {staged = staged} {more = more} {next = next} {next' = next'} {old = old} {mid = mid} {before = before} {between = between} {now = now} up one two =
+stages_then {r = r} {staged = staged} {more = more} {next = next} {next' = next'} {old = old} {mid = mid} {new = new} {before = before} {between = between} {now = now} up one two =
     let g = old.flash.geometry in
     let only = λ (s : Snapshot). WritesOnly g staged next before.image s.image in
     let all = λ (s : Snapshot). WritesOnly g (staged ++ more) next' before.image s.image in
@@ -342,7 +349,7 @@ one_group queue [] = refl
 one_group queue (frame ∷ []) = refl
 one_group queue (frame ∷ next ∷ frames) = let more = one_group queue (next ∷ frames) in grind (arith, common_steps)
 
-in_group_first : (first next : ℕ) (queue : Queue) (frames : List Placed) → first ≤ queue.first → queue.first < next → AllByRecursion (λ f. (first ≤ f.group) × (f.group < next)) (map (λ f. record { group = queue.first; index = f.0; page = f.1.page }) frames)
+in_group_first : (first next : ℕ) (queue : Queue) (frames : List Placed) → first ≤ queue.first → queue.first < next → AllByRecursion (λ (f : Staged). (first ≤ f.group) × (f.group < next)) (map (λ f. record { group = queue.first; index = f.0; page = f.1.page }) frames)
 in_group_first first next queue [] low high = tt
 in_group_first first next queue (frame ∷ frames) low high = ((low, high), in_group_first first next queue frames low high)
 

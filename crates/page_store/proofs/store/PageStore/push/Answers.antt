@@ -36,7 +36,7 @@ use Rattle.site.proofs.Working.{no_error, ok_as}
 use Rattle.page_store.proofs.NextUnits.{next_logged, next_pushed, next_then, next_with}
 use Rattle.flash_cache.specs.declared.cache.FlashCache.{FlashCache}
 use Rattle.page_store.specs.Representation.{AreTold, Invariant}
-use Rattle.page_store.proofs.PushCalls.{push_takes, push_calls, four_most}
+use Rattle.page_store.proofs.PushCalls.{PushTakes, push_takes, push_calls, four_most}
 use Rattle.page_store.proofs.ToldPages.{fits_told, going_told, told_pushed}
 use Rattle.page_store.proofs.store.PageStore.push.Goals as goal
 
@@ -207,7 +207,7 @@ returns-in-Ok g c =
           })
           c.push_group-pushed.ensures.directory ((c.push_group-pushed.ensures.pushes groups b.fits b.holds).gives b.clean) ((c.push_group-pushed.ensures.pushes groups b.fits b.holds).reaches)
           (ok_under c.push_group-pushed.result _ _ ((c.push_group-pushed.ensures.pushes groups b.fits b.holds).clean b.clean)) (c.push_group-pushed.ensures.keeps.fits b.fits) ((c.push_group-pushed.ensures.pushes groups b.fits b.holds).holds)
-          (ok_both c.push_group-pushed.result _ _ _ (λ calls unsynced. (calls, unsynced)) (c.push_group-pushed.ensures.device_calls b.honest) (ok_under c.push_group-pushed.result (IsSettled Disk mid) _ (c.push_group-pushed.ensures.unsynced b.honest)));
+          (ok_both c.push_group-pushed.result _ _ (PushTakes store.flash mid new) (λ calls unsynced. (calls, unsynced)) (c.push_group-pushed.ensures.device_calls b.honest) (ok_under c.push_group-pushed.result (IsSettled Disk mid) _ (c.push_group-pushed.ensures.unsynced b.honest)));
       pushes =
           let log_reads = c.push_group-pushed.ensures.others Log (λ same. cc) ∙ c.force_for.ensures.seals.reads Log in
           let going : Invariant after new = going_told store cache after old new c.push_group-pushed.ensures.keeps.geometry told c.push_group-pushed.ensures.keeps.going are_told c.requires.going.pages_going in
