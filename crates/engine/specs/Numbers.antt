@@ -35,8 +35,8 @@ pub record CountsOn {T E : Type 0} (result : Result T E) (old new : Engine) (bef
 
 -- A restart on these records. However it ends, and wherever a crash ends it, the ring of the log's blocks has at most
 -- one number more for each record that undo owes, and the ring of the master units one for its checkpoint. At Ok the
--- blocks are no more than that with the tail, too, and calls of the site were made for the units that were appended, and
--- of the disk.
+-- blocks are no more than that with the tail, too, and calls of the site were made for the units that were appended,
+-- and of the disk.
 pub record RestartsWithin {T : Type 0} (result : Result T Stop) (log_of : T
     → LogStore) (g : Geometry) (records : List Entry) (before now : Site) : Type 0 where
   pub log : IfOk result (λ x. blocks_to (log_of x) ≤ hi_of (log_shape g) before.image.log + unfinished.owed records)

@@ -11,7 +11,7 @@ use Rattle.site.specs.State.{State, Image, Moment, Snapshot, MayLeave, MayStand,
 use Rattle.site.specs.Calls.{IsUnchanged}
 use Rattle.site.specs.Moments.{Leaves, LeavesOnly, EachMoment, SameBut, ChangesOnly, since, works_in}
 use Rattle.site.proofs.Laws.{others_untouched, quiet_settled, each_weaker}
-use Rattle.site.proofs.Working.{works_join}
+use Rattle.site.proofs.Working.{works_join, works_rise}
 use Rattle.std.proofs.lemmas.List.{length-append}
 use Rattle.sealed_ring.specs.Ring.{hi_of, Units}
 use Rattle.image_changes.specs.Rings.{Masters, Blocks, Groups, Segments, log_shape, master_shape, group_shape, segment_shape}
@@ -37,12 +37,15 @@ calls_unchanged g old new same = grind arith
 abbrev pub IsSilent : Moment → Type 0
 IsSilent m = m.telling ≡ []
 
-all_work : (moments : List Moment) → AllByRecursion IsSilent moments → works_in moments ≡ length moments
-all_work [] all = refl
+all_work : (moments : List Moment) → AllByRecursion IsSilent moments → length moments ≤ works_in moments
+all_work [] all = omega arith
 all_work (m ∷ moments) all = grind (arith, common_steps, (all_work moments))
 
 pub silent_works : (old new : State) → EachMoment old new IsSilent → works_in new.past + length old.past ≡ works_in old.past + length new.past
-silent_works old new each = grind (arith, common_steps, works_join, length-append, all_work)
+silent_works old new each =
+    let works = ap works_in each.grown ∙ works_join old.past (since old new) in
+    let calls = ap length each.grown ∙ length-append old.past (since old new) in
+    omega (arith, works_rise old new each.grown, all_work (since old new) each.each, works, calls)
 
 -- where all that a crash may leave tells the same
 no_text : (so_far telling told : List ℕ) → so_far ++ take 0 telling ≡ told → so_far ++ take 1 telling ≡ told → telling ≡ []

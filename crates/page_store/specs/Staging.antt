@@ -43,7 +43,7 @@ pub record HasQueueOn (store : PageStore) (site : State) : Type 0 where
   pub room : 1 ≤ (rules store).groups
 
 -- A call beside which at most these frames are staged, and groups appended below this number, whatever the log has: a
--- crash meanwhile leaves no more than that. At Ok the disk has the frames that were staged last, by no calls but theirs.
+-- crash meanwhile leaves no more than that. At Ok the disk has the frames that were staged last, by their calls alone.
 pub record Stages {T : Type 0} (result : Result T Stop) (staged : List Staged) (next : ℕ) (old new : PageStore)
     (before now : State) : Type 0 where
   pub holds : HasQueueOn old before → OnOk result (HasQueueOn new now)
