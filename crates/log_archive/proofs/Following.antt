@@ -13,12 +13,12 @@ join pages [] second s mid now first behind = subst (λ (x : Stream). Accepted p
 join pages (line ∷ lines) second s mid now first behind = (first.0, first.1, join pages lines second first.0 mid now first.2 behind)
 
 -- where the calls behind a first one answer, it did
-goes_on : (o : Option Stream) (f : Stream → Option Stream) (now : Stream) → option_and_then f o ≡ Some now → (mid : Stream) × (o ≡ Some mid) × (f mid ≡ Some now)
+pub goes_on : (o : Option Stream) (f : Stream → Option Stream) (now : Stream) → option_and_then f o ≡ Some now → (mid : Stream) × (o ≡ Some mid) × (f mid ≡ Some now)
 goes_on None f now is = let bad : None ≡ Some now = is in cc
 goes_on (Some mid) f now is = (mid, refl, is)
 
 -- a block has one number
-next_is : (pages : ℕ) (records : List LogRecord) (s mid : Stream) → after_block pages records s ≡ Some mid → mid.next ≡ s.next + 1
+pub next_is : (pages : ℕ) (records : List LogRecord) (s mid : Stream) → after_block pages records s ≡ Some mid → mid.next ≡ s.next + 1
 next_is pages records s mid is =
     let inner = goes_on (after_entries pages (entries_from (512 * s.next + 2) records) s) (with_next (s.next + 1)) mid is in
     sym (ap (λ (x : Stream). x.next) (same_Some _ _ inner.2))

@@ -12,6 +12,11 @@ abbrev pub ArchivesJoin : Type 0
 ArchivesJoin = (pages : ℕ) (first second : List (List ℕ)) (s mid now : Stream) → Accepted pages first s mid
     → Accepted pages second mid now → Accepted pages (first ++ second) s now
 
+-- lines lead to one stream
+abbrev pub OneStream : Type 0
+OneStream = (pages : ℕ) (lines : List (List ℕ)) (s now other : Stream) → Accepted pages lines s now
+    → Accepted pages lines s other → now ≡ other
+
 -- the texts of blocks, numbered on by one
 abbrev pub block_texts : ℕ → List (List ℕ) → List (List ℕ)
 block_texts number [] = []

@@ -3,3 +3,4 @@ pub mod Numbers
 pub mod Accepted
 pub mod Laws
 pub mod Rows
+pub mod Values

@@ -10,6 +10,8 @@ mod laws;
 mod read;
 mod written;
 
-pub use laws::{archives_join, followers_are_accepted, streams_by_hand};
+pub use laws::{
+    archive_is_the_log, archives_join, followers_are_accepted, one_stream, streams_by_hand,
+};
 pub use read::{read_block, read_end};
 pub use written::{STREAM_LINE_MAX, StreamLine, block_line, end_line};

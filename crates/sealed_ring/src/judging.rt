@@ -1,7 +1,9 @@
 // Whether what stands on a device is a ring of the form.
-ghost use Rattle.std.specs.Prelude.{◌≡◌, ◌↔◌, ◌+◌, ◌%◌, ◌^◌, ◌<◌, ◌≤◌, length, false, IsTrue, IfOk, IfSome, IfErr};
+ghost use Rattle.std.specs.Prelude.{◌≡◌, ◌↔◌, ◌+◌, ◌-◌, ◌*◌, ◌%◌, ◌^◌, ◌<◌, ◌≤◌, min, length, false, IsTrue, IfOk};
+ghost use Rattle.std.specs.Prelude.{IfSome, IfErr};
 ghost use Rattle.sealed_ring.specs.Ring.{FitsIn};
 ghost use Rattle.sealed_ring.specs.Ready.{region, IsUsable};
+ghost use Rattle.sealed_ring.specs.Reading.{ReadsFrom};
 ghost use Rattle.site.specs.Work.{OnlyReads};
 ghost use Rattle.sealed_ring.specs.Judged.{Stands, LiveStand, UnusedAreBare, IsJudged};
 
@@ -34,7 +36,7 @@ fn live_stand<S: Site>(site: &mut S, shape: Shape, hi: u64) -> Result<bool, Stop
     requires hi { hi ≤ 2 ^ 40 }
     ensures stand { IsTrue (S.state site.old).honest
         → IfOk result (λ stand. IsTrue stand ↔ LiveStand shape hi (region shape (S.state site.old))) }
-    ensures reads { OnlyReads result (S.state site.old) (S.state site.new) }
+    ensures reads { ReadsFrom result shape.dev (min hi (shape.slots - 1)) (S.state site.old) (S.state site.new) }
     ensures stops { IfErr result (λ stop. stop ≡ Stop.Device shape.dev) }
 {
     for n in hi.saturating_sub(shape.slots - 1)..hi {
@@ -55,7 +57,7 @@ fn unused_are_bare<S: Site>(site: &mut S, shape: Shape, hi: u64) -> Result<bool,
     requires hi { hi ≤ 2 ^ 40 }
     ensures bare { IsTrue (S.state site.old).honest
         → IfOk result (λ bare. IsTrue bare ↔ UnusedAreBare shape hi (region shape (S.state site.old))) }
-    ensures reads { OnlyReads result (S.state site.old) (S.state site.new) }
+    ensures reads { ReadsFrom result shape.dev (shape.slots - (hi + 1)) (S.state site.old) (S.state site.new) }
     ensures stops { IfErr result (λ stop. stop ≡ Stop.Device shape.dev) }
 {
     for slot in hi + 1..shape.slots {
@@ -70,8 +72,8 @@ fn unused_are_bare<S: Site>(site: &mut S, shape: Shape, hi: u64) -> Result<bool,
     Ok(true)
 }
 
-/// The ring that stands there, or `None` exactly where what stands there isn't of the form. It reads the head of each
-/// slot at most three times.
+/// The ring that stands there, or `None` exactly where what stands there isn't of the form. It reads heads of slots,
+/// at most twice as many as there are slots.
 pub fn judge<S: Site>(site: &mut S, shape: Shape) -> Result<Option<Ring>, Stop>
     requires { FitsIn shape (length (region shape (S.state site.old))) }
 
@@ -80,6 +82,7 @@ pub fn judge<S: Site>(site: &mut S, shape: Shape) -> Result<Option<Ring>, Stop>
     ensures shape { IfOk result (λ ring. IfSome ring (λ ring. ring.shape ≡ shape)) }
     ensures usable { IfOk result (λ ring. IfSome ring (λ ring. IsUsable ring (S.state site.new))) }
     ensures reads { OnlyReads result (S.state site.old) (S.state site.new) }
+    ensures looks { ReadsFrom result shape.dev (2 * shape.slots) (S.state site.old) (S.state site.new) }
     ensures stops { IfErr result (λ stop. stop ≡ Stop.Device shape.dev) }
 {
     let ring = match Ring::scan(site, shape) {

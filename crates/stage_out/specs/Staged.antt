@@ -43,8 +43,7 @@ abbrev pub calls_of : List ℕ → ℕ
 calls_of [] = 0
 calls_of (page ∷ pages) = length (page ∷ pages) + 1
 
--- how many of these moments are within calls of the disk: nothing is being told then, and something of the disk is
--- loose
+-- how many of these moments are within calls of the disk: nothing is being told, and something of the disk is loose
 abbrev pub is_unsynced : Moment → Bool
 is_unsynced m = (length m.telling == 0) && not (length m.loose.disk == 0)
 

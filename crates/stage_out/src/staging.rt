@@ -11,8 +11,8 @@ ghost use Rattle.disk_pages.specs.Calls.{WritesDisk};
 ghost use Rattle.disk_pages.specs.Pages.{LiesOn};
 ghost use Rattle.image_changes.specs.Changes.{Reaches};
 ghost use Rattle.image_changes.specs.Reached.{LeavesFront};
-ghost use Rattle.stage_out.specs.Staged.{HasStaged, LeavesStaged, changes_of, calls_of, unsynced_in};
-ghost use Rattle.stage_out.specs.Staged.{HasWritten, HasLeft};
+ghost use Rattle.stage_out.specs.Staged.{HasStaged, LeavesStaged, changes_of, calls_of, unsynced_in, HasWritten};
+ghost use Rattle.stage_out.specs.Staged.{HasLeft};
 
 use disk_pages::{sync_disk, write_page};
 use site::{Site, Stop};

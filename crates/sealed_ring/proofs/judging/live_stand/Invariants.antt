@@ -1,8 +1,8 @@
-use Rattle.std.proofs.Common.{ℕ, ◌<◌, length, IsTrue}
+use Rattle.std.proofs.Common.{ℕ, ◌-◌, ◌<◌, length, IsTrue}
 use Rattle.std.specs.Prelude.{Ok}
 use Rattle.sealed_ring.specs.Ring.{FitsIn, IsLive}
 use Rattle.sealed_ring.specs.Ready.{region}
-use Rattle.site.specs.Work.{OnlyReads}
+use Rattle.sealed_ring.specs.Reading.{ReadsFrom}
 use Rattle.sealed_ring.specs.Judged.{StandsIn}
 use Rattle.sealed_ring.proofs.judging.live_stand.Given as goal
 
@@ -13,5 +13,5 @@ invariant-loop-n g l =
     record {
       fits : FitsIn l.shape (length (region l.shape now));
       stand : IsTrue old.honest → (n : ℕ) → IsLive l.shape l.hi n → n < l.n → StandsIn l.shape l.hi (region l.shape old) n;
-      reads : OnlyReads {T = Unit {0}} (Ok tt) old now;
+      reads : ReadsFrom {T = Unit {0}} (Ok tt) l.shape.dev (l.n - (l.hi - (l.shape.slots - 1))) old now;
     }

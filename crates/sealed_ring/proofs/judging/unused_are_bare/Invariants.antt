@@ -1,8 +1,8 @@
-use Rattle.std.proofs.Common.{◌≢◌, ◌%◌, ℕ, ◌<◌, length, IsTrue}
+use Rattle.std.proofs.Common.{◌≢◌, ◌+◌, ◌-◌, ◌%◌, ℕ, ◌≤◌, ◌<◌, length, IsTrue}
 use Rattle.std.specs.Prelude.{Ok}
 use Rattle.sealed_ring.specs.Ring.{FitsIn, number}
 use Rattle.sealed_ring.specs.Ready.{region}
-use Rattle.site.specs.Work.{OnlyReads}
+use Rattle.sealed_ring.specs.Reading.{ReadsFrom}
 use Rattle.sealed_ring.proofs.judging.unused_are_bare.Given as goal
 
 abbrev pub invariant-loop-slot : goal.invariant-loop-slot
@@ -12,5 +12,6 @@ invariant-loop-slot g l =
     record {
       fits : FitsIn l.shape (length (region l.shape now));
       bare : IsTrue old.honest → (j : ℕ) → l.hi < j → j < l.slot → number l.shape (region l.shape old) j % l.shape.slots ≢ j;
-      reads : OnlyReads {T = Unit {0}} (Ok tt) old now;
+      within : l.slot - (l.hi + 1) ≤ l.shape.slots - (l.hi + 1);
+      reads : ReadsFrom {T = Unit {0}} (Ok tt) l.shape.dev (l.slot - (l.hi + 1)) old now;
     }
