@@ -12,7 +12,7 @@ use Rattle.site.specs.Moments.{Leaves, LeavesOnly}
 use Rattle.site.proofs.Laws.{in_sequence}
 use Rattle.sealed_ring.specs.Ring.{hi_of}
 use Rattle.image_changes.specs.Rings.{log_shape, master_shape}
-use Rattle.image_changes.proofs.Counting.{calls_then, calls_unchanged}
+use Rattle.page_store.proofs.Counting.{calls_then, calls_unchanged}
 use Rattle.record_model.specs.State.{Content, State}
 use Rattle.record_model.specs.declared.words.Command.{Command}
 use Rattle.record_model.specs.declared.words.Reply.{Reply}

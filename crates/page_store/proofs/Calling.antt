@@ -18,8 +18,8 @@ use Rattle.site.proofs.Working.{no_error, err_always, ok_as, ok_always, calls_th
 use Rattle.image_changes.specs.Changes.{Change, Reaches}
 use Rattle.image_changes.specs.Reached.{IsReached, IsFrontOf, LeavesFront}
 use Rattle.image_changes.specs.Laws.{ChangesAddUp, FrontsAddUp}
-use Rattle.image_changes.specs.Costs.{CallsForUnits}
-use Rattle.image_changes.proofs.Counting.{calls_none, calls_then as counts_then}
+use Rattle.page_store.specs.Costs.{CallsForUnits}
+use Rattle.page_store.proofs.Counting.{calls_none, calls_then as counts_then}
 use Rattle.image_meaning.specs.Beside.{AreRingsSoundUnder}
 use Rattle.slotted_page.specs.Layout.{IsSound}
 use Rattle.flash_cache.specs.Representation.{IsWorn}
@@ -106,7 +106,7 @@ stands_still {log = log} {pages = pages} {pages' = pages'} {site = site} {list =
   rings = λ newest rings. rings;
   reaches = subst (λ (l : List Change). Reaches pages.flash.geometry l site.image site.image) (sym unchanged) (reads_itself pages.flash.geometry site.image);
   calls = omega (arith, ap (sum_of calls_by) unchanged);
-  device_calls = calls_none pages.flash.geometry site;
+  device_calls = λ quiet. calls_none pages.flash.geometry site;
 }
 
 -- A page is read behind a call that was Ok, or want of memory stops it.
@@ -202,9 +202,9 @@ keeps_then {pages = pages} {between = between} {before = before} {middle = middl
       readable = second.readable;
     }
 
-pub stands_then : {log mid new : LogStore} {pages between pages' : PageStore} {before middle now : State} {list : LogList} {b f : Bool} {c d : List Change} → ChangesAddUp → (b ≡ true → f ≡ false) → between.flash.geometry ≡ pages.flash.geometry →
+pub stands_then : {log mid new : LogStore} {pages between pages' : PageStore} {before middle now : State} {list : LogList} {b f : Bool} {c d : List Change} → ChangesAddUp → (b ≡ true → f ≡ false) → between.flash.geometry ≡ pages.flash.geometry → (IsQuiet before → IsQuiet middle) →
     Stands log mid pages between before middle list b c → Stands mid new between pages' middle now (sealed_if b list) f d → Stands log new pages pages' before now list (b || f) (c ++ d)
-stands_then {new = new} {pages = pages} {between = between} {pages' = pages'} {before = before} {middle = middle} {now = now} {list = list} {b = b} {f = f} {c = c} {d = d} law once geometry first second =
+stands_then {new = new} {pages = pages} {between = between} {pages' = pages'} {before = before} {middle = middle} {now = now} {list = list} {b = b} {f = f} {c = c} {d = d} law once geometry still first second =
     let g = pages.flash.geometry in
     let given = current pages before.image in
     let given' = current between middle.image in
@@ -219,7 +219,7 @@ stands_then {new = new} {pages = pages} {between = between} {pages' = pages'} {b
       rings = λ newest rings. subst (λ (k : Geometry). AreRingsSoundUnder newest k now.image) geometry (second.rings newest (subst (λ (k : Geometry). AreRingsSoundUnder newest k middle.image) (sym geometry) (first.rings newest rings)));
       reaches = law g c d before.image middle.image now.image first.reaches (subst (λ (k : Geometry). Reaches k d middle.image now.image) geometry second.reaches);
       calls = omega (arith, first.calls, second.calls, sum_joined calls_by c d);
-      device_calls = counts_then g before middle now first.device_calls (subst (λ (k : Geometry). CallsForUnits k middle now) geometry second.device_calls);
+      device_calls = λ quiet. counts_then g before middle now (first.device_calls quiet) (subst (λ (k : Geometry). CallsForUnits k middle now) geometry (second.device_calls (still quiet)));
     }
 
 -- more may be sealed, and more changes may be made

@@ -5,6 +5,7 @@ pub mod Calling
 pub mod Changing
 pub mod Choosing
 pub mod Clearing
+pub mod Counting
 pub mod Departures
 pub mod Entering
 pub mod Evictions

@@ -12,7 +12,8 @@ use Rattle.log_store.specs.declared.store.LogStore.{LogStore}
 use Rattle.page_store.specs.Staging.{pages_staged, HasQueueOn, Stages}
 use Rattle.site.specs.Moments.{ChangesOnly}
 use Rattle.flash_cache.specs.OnDisk.{HasLastStaged}
-use Rattle.page_store.proofs.StagingLaws.{last_none, log_leaves, among_first, queue_same, stages_ok, stages_err, stages_as, stages_weaker, stages_then, stages_none, stages_still, stages_beside}
+use Rattle.page_store.proofs.Counting.{unsynced_logged}
+use Rattle.page_store.proofs.StagingLaws.{counted_none, last_none, log_leaves, among_first, queue_same, stages_ok, stages_err, stages_as, stages_weaker, stages_then, stages_none, stages_still, stages_beside}
 use Rattle.redo_laws.specs.Calls.{KeepsInvariantBeside}
 use Rattle.record_model.specs.Touches.{CacheOp}
 use Rattle.second_chance.specs.Machine.{Rules, Cache, Staged, touched, finds, misses, after_works, staged_by_works}
@@ -61,12 +62,13 @@ stages_alone {result = result} {pages = pages} {before = before} {now = now} cha
   quiet = λ has. quiet has.fits.honest;
   writes = λ has calm. (let is = has.next in log_leaves pages.flash.geometry [] (next_group (cache_of pages)) before now (omega (arith, is)) calm (changes has.fits.honest));
   last = λ has calm. ok_always result (HasLastStaged pages.flash.geometry [] before now) (last_none pages.flash.geometry [] before now refl);
+  counted = λ has calm. counted_none result [] pages pages before now (unsynced_logged before now calm (changes has.fits.honest)) (ok_always result _ (omega arith)) (ok_always result _ refl);
   sizes = refl;
 }
 
 pub stages_read : {A : Type 0} {result : Result A Stop} {pages : PageStore} {before now : State} → (IsTrue before.honest → IsUnchanged before now) → Preserves before now → Stages result [] (next_group (cache_of pages)) pages pages before now
 stages_read {A} {result = result} {pages = pages} {before = before} {now = now} same goes =
-    stages_still (ok_always result _ refl) (omega arith) same refl (λ has. ok_always result (HasQueueOn pages now) (queue_same pages pages before now refl (ap (λ i. i.flash) (same has.fits.honest).image) (stays_honest before now goes has.fits.honest) has))
+    stages_still (ok_always result _ refl) (omega arith) same refl (ok_always result _ (omega arith)) (λ has. ok_always result (HasQueueOn pages now) (queue_same pages pages before now refl (ap (λ i. i.flash) (same has.fits.honest).image) (stays_honest before now goes has.fits.honest) has))
 
 -- no work
 pub no_reads : (r : Rules) (cache : Cache) (before now : State) → SameReads before now → ReadsFor r [] cache before now

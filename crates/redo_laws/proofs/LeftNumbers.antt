@@ -7,7 +7,7 @@ use Rattle.std.specs.List.{AllByRecursion}
 use Rattle.std.proofs.lemmas.List.{length-append}
 use Rattle.std_lemmas.proofs.AllOf.{all_left}
 use Rattle.site.specs.declared.geometry.Geometry.{Geometry}
-use Rattle.site.specs.State.{State, Image, Snapshot}
+use Rattle.site.specs.State.{State, Image, Snapshot, IsQuiet}
 use Rattle.site.specs.declared.outside.Dev.TheVariants.{Log}
 use Rattle.site.specs.declared.outside.Stop.{Stop}
 use Rattle.site.specs.Moments.{Leaves, LeavesOnly, ChangesOnly}
@@ -16,8 +16,8 @@ use Rattle.sealed_ring.specs.Ring.{hi_of, Units}
 use Rattle.image_changes.specs.Rings.{Masters, Blocks, log_shape, master_shape, KeepsUnits}
 use Rattle.image_changes.specs.Changes.{Change, AppendsMaster, Reaches, ring_of}
 use Rattle.image_changes.specs.Reached.{IsReached, IsFrontOf, LeavesFront}
-use Rattle.image_changes.specs.Costs.{CallsForUnits}
-use Rattle.image_changes.proofs.Counting.{calls_quiet, paid, cost_reached}
+use Rattle.page_store.specs.Costs.{CallsForUnits}
+use Rattle.page_store.proofs.Counting.{calls_logged, paid, cost_reached}
 use Rattle.log_store.specs.declared.store.LogStore.{LogStore}
 use Rattle.log_store.specs.LogList.{LogList, changes_if}
 use Rattle.log_store.specs.Representation.{LeavesLog, has_tail}
@@ -59,17 +59,18 @@ paid_if true list hi hi' next = let five : paid (changes_if true list) ≡ 5 = r
 paid_if false list hi hi' next = let none : paid (changes_if false list) ≡ 0 = refl in omega (arith, none, next)
 
 -- a call on the log makes so many calls of the site
-pub log_calls : {T : Type 0} (r : Result T Stop) (g : Geometry) (hi hi' : ℕ) (list : LogList) (sealing : Bool) (site new : State) → ChangesOnly Log site new → OnOk r (Reaches g (changes_if sealing list) site.image new.image)
+pub log_calls : {T : Type 0} (r : Result T Stop) (g : Geometry) (hi hi' : ℕ) (list : LogList) (sealing : Bool) (site new : State) → IsQuiet site → ChangesOnly Log site new → OnOk r (Reaches g (changes_if sealing list) site.image new.image)
     → OnOk r (hi' ≡ (if sealing then hi + 1 else hi)) → OnOk r (length new.past + 5 * hi ≡ length site.past + 5 * hi') → OnOk r (CallsForUnits g site new)
-log_calls (Ok x) g hi hi' list sealing site new changes reaches next calls = grind (arith, cost_reached, paid, paid_if, calls_quiet)
-log_calls (Err e) g hi hi' list sealing site new changes reaches next calls = grind (arith)
+log_calls (Ok x) g hi hi' list sealing site new quiet changes reaches next calls =
+    calls_logged g site new quiet changes (omega (arith, cost_reached g (changes_if sealing list) site.image new.image reaches, paid_if sealing list hi hi' next, calls))
+log_calls (Err e) g hi hi' list sealing site new quiet changes reaches next calls = tt
 
 -- so does one that appends a master unit
-pub save_calls : (g : Geometry) (unit : List ℕ) (site new : State) → ChangesOnly Log site new → Reaches g (AppendsMaster unit ∷ []) site.image new.image → length new.past ≡ length site.past + 5 → CallsForUnits g site new
-save_calls g unit site new changes reaches calls =
+pub save_calls : (g : Geometry) (unit : List ℕ) (site new : State) → IsQuiet site → ChangesOnly Log site new → Reaches g (AppendsMaster unit ∷ []) site.image new.image → length new.past ≡ length site.past + 5 → CallsForUnits g site new
+save_calls g unit site new quiet changes reaches calls =
     let cost = cost_reached g (AppendsMaster unit ∷ []) site.image new.image reaches in
     let five : paid (AppendsMaster unit ∷ []) ≡ 5 = refl in
-    calls_quiet g site new changes.only.grown changes.only.now.told (omega (arith, cost, five, calls))
+    calls_logged g site new quiet changes (omega (arith, cost, five, calls))
 
 -- a call on pages
 pub pages_skip : {T : Type 0} (r : Result T Stop) (g : Geometry) (given : ℕ → List ℕ) (log log' : LogStore) (list : LogList) (sealing : Bool) (site new : State) → log.ring.hi ≡ list.first + length list.blocks → (sealing ≡ true → has_tail log ≡ true)

@@ -8,7 +8,7 @@ use Rattle.site.specs.Moments.{Leaves, LeavesOnly}
 use Rattle.site.proofs.Laws.{holds_now, in_sequence, leaves_weaker, no_call, quiet_leaves, unchanged_calm}
 use Rattle.sealed_ring.specs.Ring.{hi_of}
 use Rattle.image_changes.specs.Rings.{log_shape, master_shape}
-use Rattle.image_changes.proofs.Counting.{calls_then, calls_unchanged}
+use Rattle.page_store.proofs.Counting.{calls_then, calls_unchanged}
 use Rattle.log_store.specs.declared.store.LogStore.{LogStore}
 use Rattle.redo_laws.specs.Holding.{blocks_to}
 use Rattle.redo_laws.specs.Numbers.{HasNumbers, SkipsNone}

@@ -8,13 +8,13 @@ use Rattle.site.specs.Moments.{LeavesOnly}
 use Rattle.site.proofs.Laws.{leaves_weaker}
 use Rattle.sealed_ring.specs.Ring.{hi_of}
 use Rattle.image_changes.specs.Rings.{master_shape}
-use Rattle.image_changes.specs.Costs.{CallsForUnits}
 use Rattle.log_records.specs.Log.{Entry}
 use Rattle.log_store.specs.declared.store.LogStore.{LogStore}
 use Rattle.log_store.specs.LogList.{LogList}
 use Rattle.page_store.specs.declared.store.PageStore.{PageStore}
 use Rattle.page_store.specs.Representation.{current}
 use Rattle.page_store.specs.Leaves.{LeavesPages}
+use Rattle.page_store.specs.Costs.{CallsForUnits}
 use Rattle.image_meaning.specs.Meaning.{kept_by}
 use Rattle.redo_laws.specs.Holding.{blocks_to}
 use Rattle.redo_undo.specs.Redoing.{Opening, IsRedoing}

@@ -30,7 +30,7 @@ use Rattle.redo_undo.specs.Stores.{HasCheckpoint}
 use Rattle.engine.specs.Image.{log_under}
 use Rattle.engine.specs.Leaves.{LeavesTable}
 use Rattle.page_store.proofs.StagingLaws.{fits_queue}
-use Rattle.engine.proofs.Asking.{from_ok, from_err, from_stopped, writes_stopped}
+use Rattle.engine.proofs.Asking.{from_ok, from_err, from_stopped, writes_stopped, staged_from}
 use Rattle.site.specs.Work.{Calls}
 use Rattle.engine.proofs.Recovers.{no_tail_still, kept_of, owed_found, commits_fit, commits_found, may_be_made, restarted_as, restarts_stopped}
 use Rattle.engine.proofs.RingCounts.{opened_next, restart_failed, restart_done}
@@ -216,7 +216,7 @@ returns-in-Ok-checkpoint-clause-recovers g c newest blocks table commits h =
       asks = from_ok c.in-Ok-checkpoint.field-0 _ _ _ _ _ _ _ _ refl (λ dev. refl) behind.2;
       writes = behind.2.stages.writes (fits_queue c.args.opened.pages _ c.requires.may.going.pages_going h.opened_is.ready.pages);
       log_reads = read_of g s newest blocks table commits h;
-      last = behind.2.stages.last (fits_queue c.args.opened.pages _ c.requires.may.going.pages_going h.opened_is.ready.pages);
+      last = staged_from _ _ _ _ _ _ behind.2 (fits_queue c.args.opened.pages _ c.requires.may.going.pages_going h.opened_is.ready.pages);
     }
 
 pub returns-clause-recovers : goal.returns-clause-recovers
@@ -232,7 +232,7 @@ returns-clause-recovers g c newest blocks table commits h =
       asks = from_err c.in-Err-checkpoint.stop _ _ _ _ _ _ behind.2;
       writes = behind.2.stages.writes (fits_queue c.args.opened.pages _ c.requires.may.going.pages_going h.opened_is.ready.pages);
       log_reads = read_of g s newest blocks table commits h;
-      last = behind.2.stages.last (fits_queue c.args.opened.pages _ c.requires.may.going.pages_going h.opened_is.ready.pages);
+      last = staged_from _ _ _ _ _ _ behind.2 (fits_queue c.args.opened.pages _ c.requires.may.going.pages_going h.opened_is.ready.pages);
     }
 
 pub returns-in-Ok-checkpoint-clause-restarts : goal.returns-in-Ok-checkpoint-clause-restarts

@@ -46,7 +46,7 @@ returns g c =
           record {
             ends = ends_by_pages (c.flush_all.ensures.keeps list ready) (λ quiet. leaves_table log pages site newest records table commits h c.requires.going.pages_going.own sealing tail new
                 ((c.flush_all.ensures.keeps list ready).any_moment quiet) ((c.flush_all.ensures.keeps list ready).ahead_moment quiet h.log_holds.ahead) ((c.flush_all.ensures.keeps list ready).rings_moment newest quiet h.log_holds.rings));
-            numbers = λ quiet. pages_skip c.flush_all.result pages.flash.geometry (current pages site.image) log c.flush_all.new.log list sealing site new (ready_next pages log list site ready) tail ((c.flush_all.ensures.keeps list ready).any_moment quiet) c.flush_all.ensures.works.forces.end (ok_as c.flush_all.result _ _ (λ stands. stands.device_calls) (c.flush_all.ensures.stands list ready));
+            numbers = λ quiet. pages_skip c.flush_all.result pages.flash.geometry (current pages site.image) log c.flush_all.new.log list sealing site new (ready_next pages log list site ready) tail ((c.flush_all.ensures.keeps list ready).any_moment quiet) c.flush_all.ensures.works.forces.end (ok_as c.flush_all.result _ _ (λ stands. stands.device_calls quiet) (c.flush_all.ensures.stands list ready));
             masters = λ none. ok_as c.flush_all.result _ (KeepsUnits master_shape site.image new.image) (λ stands. stands.leaves.masters) (c.flush_all.ensures.stands list ready);
           };
       asks =

@@ -131,7 +131,7 @@ returns-clause-keeps g c pages newest records table sizes h empty clean may =
           (hi_on log.geometry pages.flash.geometry log site.image sizes h.log_holds.ready.blocks.hi)
           (front g s pages newest records table sizes h empty clean may quiet)
           (ap blocks_to c.keep.ensures.kept)
-          (save_calls pages.flash.geometry (unit (m g s pages newest records table sizes h empty clean may)) site (g.S.Site.state c.save.new.site) (c.save.ensures.changes h.log_holds.ready.blocks.honest)
+          (save_calls pages.flash.geometry (unit (m g s pages newest records table sizes h empty clean may)) site (g.S.Site.state c.save.new.site) quiet (c.save.ensures.changes h.log_holds.ready.blocks.honest)
           (c.in-Ok.ensures.reaches pages.flash.geometry h.log_holds.rings.limits h.log_holds.rings.lengths h.log_holds.ready.blocks.honest may.ring) (c.in-Ok.ensures.device_calls h.log_holds.ready.blocks.honest));
       masters = λ none. absurd (omega (arith, none));
     }

@@ -58,7 +58,7 @@ returns-clause-keeps g c pages newest records table commits h =
       numbers = λ going quiet. log_skips c.force.result log.geometry log c.force.new.self list (has_tail log) site new 0 (ready_next pages log list site ready) (λ tail. tail)
           (c.force.ensures.seals.any_moment list (log_fits log site quiet ready.blocks) ready.records) (c.force.ensures.seals.front list (log_fits log site quiet ready.blocks) ready.records quiet)
           (ok_both c.force.result _ _ _ (λ next empty. same_at_most log c.force.new.self some next empty) c.force.ensures.seals.next c.force.ensures.empty)
-          (log_calls c.force.result log.geometry log.ring.hi c.force.new.self.ring.hi list (has_tail log) site new (c.force.ensures.seals.changes ready.blocks.honest) (c.force.ensures.seals.reaches list ready.blocks ready.records) c.force.ensures.seals.next (c.force.ensures.seals.device_calls ready.blocks.honest));
+          (log_calls c.force.result log.geometry log.ring.hi c.force.new.self.ring.hi list (has_tail log) site new quiet (c.force.ensures.seals.changes ready.blocks.honest) (c.force.ensures.seals.reaches list ready.blocks ready.records) c.force.ensures.seals.next (c.force.ensures.seals.device_calls ready.blocks.honest));
       quiet = λ quiet. quiet_stops c.force.result new site quiet (λ is. ap g.S.Site.state (c.force.ensures.unchanged (inr (c.force.ensures.seals.worn.0 is).1))) c.force.ensures.seals.stops;
       worn_log = λ is. (let worn = (c.force.ensures.seals.worn.0 is).1 in log_at_end log site new ready.blocks (ap g.S.Site.state (c.force.ensures.unchanged (inr worn))) worn);
       masters = ok_as c.force.result _ (KeepsUnits master_shape site.image new.image)

@@ -154,7 +154,7 @@ returns-clause-keeps g c pages newest records table commits h =
       numbers = λ going quiet. log_skips c.append.result log.geometry log c.append.new.self list sealing site new 1 (ready_next pages log list site ready) full
           (c.append.ensures.seals.any_moment list (log_fits log site quiet ready.blocks) ready.records) (c.append.ensures.seals.front list (log_fits log site quiet ready.blocks) ready.records quiet)
           (ok_by c.append.result _ _ (λ lsn is. most_blocks log c.append.new.self lsn sealing full is) (numbered g c))
-          (log_calls c.append.result log.geometry log.ring.hi c.append.new.self.ring.hi list sealing site new (c.append.ensures.seals.changes ready.blocks.honest) (c.append.ensures.seals.reaches list ready.blocks ready.records) c.append.ensures.seals.next (c.append.ensures.seals.device_calls ready.blocks.honest));
+          (log_calls c.append.result log.geometry log.ring.hi c.append.new.self.ring.hi list sealing site new quiet (c.append.ensures.seals.changes ready.blocks.honest) (c.append.ensures.seals.reaches list ready.blocks ready.records) c.append.ensures.seals.next (c.append.ensures.seals.device_calls ready.blocks.honest));
       quiet = λ quiet. quiet_stops c.append.result new site quiet (λ is. ap g.S.Site.state (c.append.ensures.unchanged (inr (c.append.ensures.seals.worn.0 is).1))) c.append.ensures.seals.stops;
       worn_log = λ is. (let worn = (c.append.ensures.seals.worn.0 is).1 in log_at_end log site new ready.blocks (ap g.S.Site.state (c.append.ensures.unchanged (inr worn))) worn);
       masters = ok_as c.append.result _ (KeepsUnits master_shape site.image new.image)

@@ -75,7 +75,7 @@ returns g c =
           record {
             ends = ends_by_pages (c.touch.ensures.keeps list ready) (λ quiet. leaves_table log pages site newest records table commits h c.requires.going.pages_going.own sealing tail new
                 ((c.touch.ensures.keeps list ready).any_moment quiet) ((c.touch.ensures.keeps list ready).ahead_moment quiet h.log_holds.ahead) ((c.touch.ensures.keeps list ready).rings_moment newest quiet h.log_holds.rings));
-            numbers = λ quiet. pages_skip c.touch.result pages.flash.geometry (current pages site.image) log c.touch.new.log list sealing site new (ready_next pages log list site ready) tail ((c.touch.ensures.keeps list ready).any_moment quiet) c.touch.ensures.works.forces.end (ok_as c.touch.result _ _ (λ stands. stands.device_calls) (c.touch.ensures.stands list ready));
+            numbers = λ quiet. pages_skip c.touch.result pages.flash.geometry (current pages site.image) log c.touch.new.log list sealing site new (ready_next pages log list site ready) tail ((c.touch.ensures.keeps list ready).any_moment quiet) c.touch.ensures.works.forces.end (ok_as c.touch.result _ _ (λ stands. stands.device_calls quiet) (c.touch.ensures.stands list ready));
             masters = λ none. ok_as c.touch.result _ (KeepsUnits master_shape site.image new.image) (λ stands. stands.leaves.masters) (c.touch.ensures.stands list ready);
           };
       redoing = redoing_now g c;
@@ -85,7 +85,7 @@ returns g c =
           record {
             ends = ends_by_pages (c.touch.ensures.keeps list h.ready) (λ quiet. touch_leaves o log pages site front h sealing never new ((c.touch.ensures.keeps list h.ready).any_moment quiet)
                 (rings_of o log pages site front h new ((c.touch.ensures.keeps list h.ready).rings_moment o.newest quiet (rings_given o log pages site front h))) c.requires.going.pages_going.own);
-            numbers = λ quiet. skips_touch o log pages site front h sealing never new c.touch.result c.touch.new.log c.touch.new.self ((c.touch.ensures.keeps list h.ready).any_moment quiet) (redoing_now g c o front h) (ok_as c.touch.result _ _ (λ stands. stands.device_calls) (c.touch.ensures.stands list h.ready));
+            numbers = λ quiet. skips_touch o log pages site front h sealing never new c.touch.result c.touch.new.log c.touch.new.self ((c.touch.ensures.keeps list h.ready).any_moment quiet) (redoing_now g c o front h) (ok_as c.touch.result _ _ (λ stands. stands.device_calls quiet) (c.touch.ensures.stands list h.ready));
             masters = λ none. ok_as c.touch.result _ (KeepsUnits master_shape site.image new.image) (λ stands. stands.leaves.masters) (c.touch.ensures.stands list h.ready);
           };
       at_rest = λ o front h.

@@ -18,7 +18,7 @@ use Rattle.page_store.specs.Representation.{current}
 use Rattle.page_store.specs.Ahead.{AreSealed, pushed_for_room}
 use Rattle.page_store.specs.Changing.{room_changes}
 use Rattle.page_store.specs.Leaves.{AreReady, LeavesPages}
-use Rattle.image_changes.proofs.Counting.{calls_then as counts_then, calls_unchanged}
+use Rattle.page_store.proofs.Counting.{calls_then as counts_then, calls_unchanged}
 use Rattle.page_store.specs.Calls.{Stands}
 use Rattle.page_store.proofs.PushLaws.{ok_four}
 use Rattle.page_store.proofs.Bringing.{snapshot_same, ready_same, current_again, ahead_in}
@@ -71,7 +71,7 @@ stands_in g c list ready =
       rings = λ newest rings. subst (AreRingsSoundUnder newest store.flash.geometry) (sym same.image) (stands.rings newest rings);
       reaches = subst (λ (i : Image). Reaches store.flash.geometry changes old.image i) (sym same.image) stands.reaches;
       calls = ap length same.past ∙ stands.calls;
-      device_calls = counts_then store.flash.geometry old mid new stands.device_calls (calls_unchanged store.flash.geometry mid new same);
+      device_calls = λ quiet. counts_then store.flash.geometry old mid new (stands.device_calls quiet) (calls_unchanged store.flash.geometry mid new same);
     })
     (read.fits fits) (c.read_in.ensures.current fits) c.read_in.ensures.put (c.read_in.ensures.read fits)
 

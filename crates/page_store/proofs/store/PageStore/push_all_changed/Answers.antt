@@ -190,7 +190,7 @@ loop-rest-preserved g c =
                 (has_pushed log list' store store' mid new so_far.stands.ready stands.ready.pages.flash push.works.geometry inv.going.pages_going.flash.next inv.going.pages_going.flash.limits inv.going.pages_going.flash.few (saved_next store) stands.reaches) save.directory save.frames
                 (gives_versions store.flash.geometry (saved_next store) mid.image new.image (save.gives list' so_far.stands.ready)));
             keeps = keeps_as (sym now) refl (keeps_then c.fronts_add_up.ensures (once g s) works.geometry (works.calls.stays_quiet ready.pages.flash.honest) so_far.stands so_far.keeps (c.in_default.ensures.keeps list' so_far.stands.ready));
-            stands = stands_as (sym now) refl (stands_then c.changes_add_up.ensures (once g s) works.geometry so_far.stands stands);
+            stands = stands_as (sym now) refl (stands_then c.changes_add_up.ensures (once g s) works.geometry (works.calls.stays_quiet ready.pages.flash.honest) so_far.stands stands);
           };
       forced = inv.forced
           ∙ next_round is_unsealed (room_for_pages (rules_for store) store.flash.directory) store.pool.frames inv.going.pages_going.own.pool.distinct b (has_tail log) (has_tail log') log.ring.hi log'.ring.hi push.works.forces.next push.works.forces.end

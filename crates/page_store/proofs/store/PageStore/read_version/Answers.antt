@@ -112,11 +112,13 @@ returns-in-Err-read_disk-clause-reads g c =
     search rules
 
 pub returns-in-Err-clause-stages : goal.returns-in-Err-clause-stages
-returns-in-Err-clause-stages g c = stages_still tt (omega arith) c.fetch.ensures.reads.same c.fetch.ensures.geometry (λ has. tt)
+returns-in-Err-clause-stages g c = stages_still tt (omega arith) c.fetch.ensures.reads.same c.fetch.ensures.geometry tt (λ has. tt)
 
 pub returns-then-found-clause-stages : goal.returns-then-found-clause-stages
 returns-then-found-clause-stages g c =
-    stages_still (ok_always c.sound_page.result _ refl) (omega arith) c.fetch.ensures.reads.same c.fetch.ensures.geometry (λ has.
+    let has : has_frame c.args.self.now.flash.directory c.args.page ≡ true = sym c.in-Ok.ensures.found ∙ c.if-found.true in
+    let same = ap (λ (f : FlashCache). f.directory.first) (c.in-Ok.ensures.marked has) in
+    stages_still (ok_always c.sound_page.result _ refl) (omega arith) c.fetch.ensures.reads.same c.fetch.ensures.geometry (ok_always c.sound_page.result _ (omega (arith, same))) (λ has.
     ok_always c.sound_page.result (HasQueueOn (record c.args.self.now { flash = c.fetch.new.self }) (g.S.Site.state c.fetch.new.site))
     (queue_pushed {T = Bool} (Ok c.in-Ok.found) c.fetch.new.self c.args.self.now has.groups (g.S.Site.state c.fetch.new.site) c.fetch.ensures.going (c.in-Ok.ensures.fits has.fits) (c.in-Ok.ensures.holds has.groups has.fits has.holds)))
 
@@ -126,7 +128,9 @@ returns-in-Ok-read_disk-clause-stages g c =
     let mid = g.S.Site.state c.fetch.new.site in
     let new = g.S.Site.state c.read_disk.new.site in
     let after : PageStore = record store { flash = c.fetch.new.self } in
-    stages_still (ok_always c.sound_page-in-Ok-read_disk.result _ refl) (omega arith) (search rules) c.fetch.ensures.geometry (λ has.
+    let unread = unframed g (goal.at.returns-in-Ok-read_disk-clause-stages g c).After-read_disk in
+    let first = ap (λ (f : FlashCache). f.directory.first) (c.fetch.ensures.none unread).1 in
+    stages_still (ok_always c.sound_page-in-Ok-read_disk.result _ refl) (omega arith) (search rules) c.fetch.ensures.geometry (ok_always c.sound_page-in-Ok-read_disk.result _ (omega (arith, first))) (λ has.
     let honest = stays_honest (g.S.Site.state c.args.site.now) mid c.fetch.ensures.reads.preserves has.fits.honest in
     let second = c.read_disk.ensures.same honest in
     ok_always c.sound_page-in-Ok-read_disk.result (HasQueueOn after new)
@@ -134,4 +138,4 @@ returns-in-Ok-read_disk-clause-stages g c =
     (queue_pushed {T = Bool} (Ok c.in-Ok.found) c.fetch.new.self store has.groups mid c.fetch.ensures.going (c.in-Ok.ensures.fits has.fits) (c.in-Ok.ensures.holds has.groups has.fits has.holds))))
 
 pub returns-in-Err-read_disk-clause-stages : goal.returns-in-Err-read_disk-clause-stages
-returns-in-Err-read_disk-clause-stages g c = stages_still tt (omega arith) (search rules) c.fetch.ensures.geometry (λ has. tt)
+returns-in-Err-read_disk-clause-stages g c = stages_still tt (omega arith) (search rules) c.fetch.ensures.geometry tt (λ has. tt)

@@ -12,7 +12,7 @@ use Rattle.log_store.specs.LogList.{LogList, sealed_if, changes_if}
 use Rattle.log_store.specs.Representation as log_store
 use Rattle.log_store.specs.Representation.{has_tail}
 use Rattle.image_changes.specs.Rings.{Masters, KeepsUnits, master_shape}
-use Rattle.image_changes.specs.Costs.{CallsForUnits}
+use Rattle.page_store.specs.Costs.{CallsForUnits}
 use Rattle.image_meaning.specs.Meaning.{kept_by, versions_on, master_of}
 use Rattle.image_meaning.proofs.Leaving.{under_leaves_either_for}
 use Rattle.redo_laws.specs.Holding.{IsLogWorn, blocks_to}
@@ -98,14 +98,14 @@ module _ (g : Over) (c : After-force g) (newest : Option Master) (records : List
       (c.force.ensures.seals.any_moment list (fits quiet) last.ready.records)
       (c.force.ensures.seals.front list (fits quiet) last.ready.records (calm quiet)) c.requires.may.going.both.pages_going.own))
 
-  skips : (r : Result ℕ Stop) → OnOk r (blocks_to c.force.new.self ≤ blocks_to log + 0) → OnOk r (CallsForUnits log.geometry mid new) → IsQuiet old →
+  skips : (r : Result ℕ Stop) → OnOk r (blocks_to c.force.new.self ≤ blocks_to log + 0) → (IsQuiet mid → OnOk r (CallsForUnits log.geometry mid new)) → IsQuiet old →
       SkipsNone r pages.flash.geometry c.args.self.now.log c.force.new.self old new 1 0
   skips r few calls quiet = then_skips r c.in-Ok.lsn pages.flash.geometry c.args.self.now.log log c.force.new.self old mid new 1 0 0 0 1 0
       (skips_on _ c.args.self.now.log.geometry pages.flash.geometry c.args.self.now.log log old mid 1 0 c.requires.may.going.both.sizes
       ((c.in-Ok.ensures.keeps pages newest records table commits held.both).numbers c.requires.may.going.both quiet))
       (skips_on r log.geometry pages.flash.geometry log c.force.new.self mid new 0 0 sizes
       (log_skips r log.geometry log c.force.new.self list (has_tail log) mid new 0 (ready_next pages log list mid last.ready) (λ tail. tail)
-      (c.force.ensures.seals.any_moment list (fits quiet) last.ready.records) (c.force.ensures.seals.front list (fits quiet) last.ready.records (calm quiet)) few calls)) (omega arith) refl
+      (c.force.ensures.seals.any_moment list (fits quiet) last.ready.records) (c.force.ensures.seals.front list (fits quiet) last.ready.records (calm quiet)) few (calls (calm quiet)))) (omega arith) refl
 
 pub returns-in-Ok-force-clause-holds : goal.returns-in-Ok-force-clause-holds
 returns-in-Ok-force-clause-holds g c newest records table commits held may =
@@ -167,7 +167,7 @@ returns-in-Err-force-clause-keeps g c newest records table commits held may =
         worn = λ is. absurd (never_worn_flash (Err c.in-Err-force.stop) c.in-Err-force.ensures.seals.stops is);
         readable = appends_foreign (Err c.in-Err-force.stop) c.in-Err-force.ensures.seals.stops;
       };
-      numbers = skips g s newest records table commits held may (Err c.in-Err-force.stop) tt tt;
+      numbers = skips g s newest records table commits held may (Err c.in-Err-force.stop) tt (λ quiet. tt);
     }
 
 pub returns-in-Ok-force-clause-keeps : goal.returns-in-Ok-force-clause-keeps
@@ -178,7 +178,7 @@ returns-in-Ok-force-clause-keeps g c newest records table commits held may =
     keeps_ok (moments g s newest records table commits held may)
     (skips g s newest records table commits held may (Ok c.in-Ok.lsn)
     (same_at_most c.log_record.new.log c.force.new.self c.in-Ok.ensures.some c.in-Ok-force.ensures.seals.next c.in-Ok-force.ensures.empty)
-    (log_calls (Ok c.in-Ok.lsn) log.geometry log.ring.hi c.force.new.self.ring.hi (list g s newest records table commits held may) (has_tail log) (g.S.Site.state c.log_record.new.site) (g.S.Site.state c.force.new.site)
+    (λ quiet. log_calls (Ok c.in-Ok.lsn) log.geometry log.ring.hi c.force.new.self.ring.hi (list g s newest records table commits held may) (has_tail log) (g.S.Site.state c.log_record.new.site) (g.S.Site.state c.force.new.site) quiet
     (c.force.ensures.seals.changes m.ready.blocks.honest) (c.in-Ok-force.ensures.seals.reaches _ m.ready.blocks m.ready.records) c.in-Ok-force.ensures.seals.next (c.in-Ok-force.ensures.seals.device_calls m.ready.blocks.honest)))
 
 pub returns-in-Err-clause-asks : goal.returns-in-Err-clause-asks
