@@ -1,42 +1,8 @@
 -- Calls on pages one after the other, each known by its record.
-use Rattle.std.proofs.Common.{◌≡◌, ℕ, ◌+◌, Bool, true, false, ◌||◌, List, [], ◌++◌, sym, subst, ap, ◌∙◌, arith}
-use Rattle.image_changes.proofs.Sequence.{reads_itself}
+use Rattle.page_store.proofs.Names.{◌≡◌, ℕ, ◌+◌, Bool, true, false, ◌||◌, List, [], ◌++◌, sym, subst, ap, ◌∙◌, arith, or_left, or_right, AllByRecursion, Result, Ok, Err, OnOk, IfErr, IsErrOf, Pool, sum_joined, AreCleanGiven, sum_of, calls_by, IsWorn, reads_itself, Change, Reaches, ChangesAddUp, FrontsAddUp, IsReached, IsFrontOf, LeavesFront, AreRingsSoundUnder, LogList, sealed_if, has_tail, HasRoom, LogStore, AreSealed, LeavesSealed, AreLogged, MayWork, KeepsInvariant, Pushes, StopsAtEnd, Keeps, Stands, KeepsGiven, StandsGiven, CallsForUnits, AreReady, LeavesPages, LeavesRings, AreGiven, KeepsCurrent, Invariant, current, PageStore, unchanged_calm, in_sequence, leaves_weaker, stays_honest, no_error, err_always, ok_as, ok_always, calls_then, calls_failed, IsUnchanged, Leaves, LeavesOnly, State, Image, IsQuiet, snapshot_of, Calls, Geometry, Log, Flash, Stop, Worn, Foreign, IsSound, IsLogged, end_forced, forces, IsLogAtEnd, Forces}
 use Rattle.log_store.proofs.SealLaws.{none_front}
-use Rattle.std.proofs.lemmas.Bool.{or_left, or_right}
-use Rattle.std.specs.Prelude.{Result, Ok, Err, OnOk, IfErr, IsErrOf}
-use Rattle.std.specs.List.{AllByRecursion}
-use Rattle.site.specs.declared.geometry.Geometry.{Geometry}
-use Rattle.site.specs.declared.outside.Dev.TheVariants.{Log, Flash}
-use Rattle.site.specs.declared.outside.Stop.{Stop}
-use Rattle.site.specs.declared.outside.Stop.TheVariants.{Worn, Foreign}
-use Rattle.site.specs.State.{State, Image, IsQuiet, snapshot_of}
-use Rattle.site.specs.Calls.{IsUnchanged}
-use Rattle.site.specs.Work.{Calls}
-use Rattle.site.specs.Moments.{Leaves, LeavesOnly}
-use Rattle.site.proofs.Laws.{unchanged_calm, in_sequence, leaves_weaker, stays_honest}
-use Rattle.site.proofs.Working.{no_error, err_always, ok_as, ok_always, calls_then, calls_failed}
-use Rattle.image_changes.specs.Changes.{Change, Reaches}
-use Rattle.image_changes.specs.Reached.{IsReached, IsFrontOf, LeavesFront}
-use Rattle.image_changes.specs.Laws.{ChangesAddUp, FrontsAddUp}
-use Rattle.page_store.specs.Costs.{CallsForUnits}
 use Rattle.page_store.proofs.Counting.{calls_none, calls_then as counts_then}
-use Rattle.image_meaning.specs.Beside.{AreRingsSoundUnder}
-use Rattle.slotted_page.specs.Layout.{IsSound}
-use Rattle.flash_cache.specs.Representation.{IsWorn}
-use Rattle.flash_cache.specs.Pushed.{sum_of, calls_by}
-use Rattle.flash_cache.specs.Kept.{AreCleanGiven}
-use Rattle.flash_cache.proofs.Written.{sum_joined}
-use Rattle.buffer_pool.specs.Frames.{State as Pool}
-use Rattle.log_store.specs.declared.store.LogStore.{LogStore}
-use Rattle.log_store.specs.Representation.{has_tail, HasRoom}
-use Rattle.log_store.specs.LogList.{LogList, sealed_if}
-use Rattle.write_ahead.specs.Forcing.{IsLogged, end_forced, forces, IsLogAtEnd, Forces}
-use Rattle.page_store.specs.declared.store.PageStore.{PageStore}
-use Rattle.page_store.specs.Representation.{Invariant, current}
-use Rattle.page_store.specs.Ahead.{AreSealed, LeavesSealed, AreLogged}
-use Rattle.page_store.specs.Leaves.{AreReady, LeavesPages, LeavesRings, AreGiven, KeepsCurrent}
 use Rattle.page_store.specs.Stopping.{MayStop}
-use Rattle.page_store.specs.Calls.{MayWork, KeepsInvariant, Pushes, StopsAtEnd, Keeps, Stands, KeepsGiven, StandsGiven}
 use Rattle.page_store.proofs.Evictions.{same_pages, stays_pages, stays_sealed}
 use Rattle.page_store.proofs.Bringing.{current_again}
 use Rattle.page_store.proofs.Rounds.{sealed_again, more_sealed, one_more_pages, one_more_push}

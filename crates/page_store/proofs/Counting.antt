@@ -1,26 +1,10 @@
 -- Calls are counted by the units that are appended, and by the frames that are staged.
-use Rattle.std.proofs.Common.{◌≡◌, ℕ, ◌+◌, ◌*◌, ◌≤◌, ◌<◌, Bool, true, false, List, [], ◌∷◌, ◌++◌, length, map, drop, arith, refl, sym, ap, subst, ◌∙◌}
+use Rattle.page_store.proofs.Names.{◌≡◌, ℕ, ◌+◌, ◌*◌, ◌≤◌, ◌<◌, Bool, true, false, List, [], ◌∷◌, ◌++◌, length, map, drop, arith, refl, sym, ap, subst, ◌∙◌, count_by-le-length, AllByRecursion, Change, SealsBlock, RewritesPages, AppendsGroup, AppendsSegment, AppendsMaster, ReadsAs, Makes, Reaches, Masters, Blocks, Groups, Segments, log_shape, master_shape, group_shape, segment_shape, cost_of, CallsForUnits, staging_calls, CallsForStaged, hi_of, Units, Staged, others_untouched, quiet_settled, each_weaker, works_join, works_rise, IsUnchanged, Leaves, LeavesOnly, EachMoment, SameBut, ChangesOnly, since, works_in, State, Image, Moment, Snapshot, MayLeave, MayStand, IsQuiet, IsSettled, now_of, Geometry, Dev, Log, Disk, is_unsynced, unsynced_in}
 use Rattle.std.specs.Prelude.{◌==◌, ◌&&◌, not, cond, take}
-use Rattle.std.specs.List.{AllByRecursion}
 use Rattle.std.proofs.lemmas.Grind.{common_steps}
-use Rattle.std.proofs.lemmas.List.Sums.{count_by-le-length}
-use Rattle.site.specs.declared.geometry.Geometry.{Geometry}
-use Rattle.site.specs.declared.outside.Dev.{Dev}
-use Rattle.site.specs.declared.outside.Dev.TheVariants.{Log, Disk}
-use Rattle.site.specs.State.{State, Image, Moment, Snapshot, MayLeave, MayStand, IsQuiet, IsSettled, now_of}
-use Rattle.site.specs.Calls.{IsUnchanged}
-use Rattle.site.specs.Moments.{Leaves, LeavesOnly, EachMoment, SameBut, ChangesOnly, since, works_in}
-use Rattle.site.proofs.Laws.{others_untouched, quiet_settled, each_weaker}
-use Rattle.site.proofs.Working.{works_join, works_rise}
 use Rattle.std.proofs.lemmas.List.{length-append}
-use Rattle.sealed_ring.specs.Ring.{hi_of, Units}
-use Rattle.image_changes.specs.Rings.{Masters, Blocks, Groups, Segments, log_shape, master_shape, group_shape, segment_shape}
-use Rattle.image_changes.specs.Changes.{Change, SealsBlock, RewritesPages, AppendsGroup, AppendsSegment, AppendsMaster, ReadsAs, Makes, Reaches}
-use Rattle.stage_out.specs.Staged.{is_unsynced, unsynced_in}
 use Rattle.stage_out.proofs.Unsynced.{unsynced_join}
 pub use Rattle.stage_out.proofs.Unsynced.{unsynced_untouched}
-use Rattle.second_chance.specs.Machine.{Staged}
-use Rattle.page_store.specs.Costs.{cost_of, CallsForUnits, staging_calls, CallsForStaged}
 
 pub calls_none : (g : Geometry) (s : State) → CallsForUnits g s s
 calls_none g s = record { works = omega arith; tells = omega arith }

@@ -1,19 +1,5 @@
 -- How many calls a push makes, by its changes and by the units that it appends.
-use Rattle.std.proofs.Common.{◌≡◌, ℕ, ◌+◌, ◌*◌, ◌≤◌, Bool, true, false, cond, List, [], ◌∷◌, ◌++◌, length, refl, ap, arith}
-use Rattle.std.specs.Prelude.{if◌then◌else◌}
-use Rattle.site.specs.declared.geometry.Geometry.{Geometry}
-use Rattle.site.specs.declared.outside.Dev.TheVariants.{Disk}
-use Rattle.site.specs.State.{State, Image, IsSettled}
-use Rattle.image_changes.specs.Changes.{Change, Reaches}
-use Rattle.stage_out.specs.Staged.{changes_of, calls_of, unsynced_in}
-use Rattle.frame_group.specs.Groups.{Frame as Stored}
-use Rattle.tail_rebuild.specs.Saving.{is_due, changes_of_save}
-use Rattle.log_store.specs.LogList.{LogList, changes_if}
-use Rattle.flash_cache.specs.declared.cache.FlashCache.{FlashCache}
-use Rattle.flash_cache.specs.Pushed.{staged_pages, changes_of_group, sum_of, calls_by}
-use Rattle.flash_cache.proofs.Written.{sum_joined, push_calls as group_calls}
-use Rattle.site.specs.Moments.{EachMoment}
-use Rattle.page_store.specs.Costs.{CallsForUnits}
+use Rattle.page_store.proofs.Names.{◌≡◌, ℕ, ◌+◌, ◌*◌, ◌≤◌, Bool, true, false, cond, List, [], ◌∷◌, ◌++◌, length, refl, ap, arith, if◌then◌else◌, sum_joined, group_calls, staged_pages, changes_of_group, sum_of, calls_by, FlashCache, Stored, Change, Reaches, LogList, changes_if, CallsForUnits, EachMoment, State, Image, IsSettled, Geometry, Disk, changes_of, calls_of, unsynced_in, is_due, changes_of_save}
 use Rattle.page_store.proofs.Counting.{IsSilent, silent_works, paid, paid_append, cost_reached}
 use Rattle.std.proofs.lemmas.Grind.{common_steps}
 

@@ -1,53 +1,13 @@
 -- What calls on pages write, one after the other.
-use Rattle.std.proofs.Common.{◌≡◌, ◌≢◌, ◌⊎◌, inl, inr, ⊎_elim, IsTrue, ℕ, zero, suc, ◌+◌, ◌*◌, ◌<◌, ◌≤◌, List, [], ◌∷◌, ◌++◌, length, drop, map, reverse, Bool, true, false, append_assoc, append-nil, arith, refl, sym, ap, subst, ◌∙◌}
-use Rattle.std.specs.Prelude.{Result, Ok, Err, OnOk, if◌then◌else◌, slice_index}
+use Rattle.page_store.proofs.Names.{◌≡◌, ◌≢◌, ◌⊎◌, inl, inr, ⊎_elim, IsTrue, ℕ, zero, suc, ◌+◌, ◌*◌, ◌<◌, ◌≤◌, List, [], ◌∷◌, ◌++◌, length, drop, map, reverse, Bool, true, false, append_assoc, append-nil, arith, refl, sym, ap, subst, ◌∙◌, eqb-true, map-append, Contains-append_left, Contains-append_right, AllByRecursion, Result, Ok, Err, OnOk, if◌then◌else◌, slice_index, Frame, page_on, wrote, rewritten, groups_by, segments_by, front_rewritten, front_sum, push_rewrites, push_groups, push_segments, save_rewrites, save_groups, save_segments, staged_pages, staged_marks, changes_of_push, sum_of, front_leaves, pushed_queue, disk_on, FlashCache, Stored, Change, LeavesFront, IsReached, IsFrontOf, group_shape, segment_shape, pool_page, cache_of, rules_for as rules, next_group, first_pushed, is_pushed, staging_calls, CallsForStaged, Invariant, Matches, pages_staged, staged_by_eviction, SavesBefore, WritesOnly, HasQueueOn, Stages, PageStore, flush, hi_of, FlushGoesOn, FlushEnds, Rules, Cache, Staged, must_be_pushed, staged_in_push, staged_by, push_changed, wants_flush, Placed, Queue, Known, in_sequence, leaves_weaker, untouched_leaves, others_untouched, each_both, each_weaker, settled_is, quiet_settled, quiet_leaves, no_call, unchanged_calm, holds_now, stays_honest, unchanged, ok_as, ok_always, IsUnchanged, Leaves, LeavesOnly, ChangesOnly, since, State, Image, Moment, Snapshot, MayStand, loose_of, content_of, IsQuiet, Calls, Geometry, Dev, Log, Flash, Disk, Stop, calls_of, unsynced_in, IsInNoSlot, LeavesGaps, is_due, changes_of_save}
 use Rattle.std.specs.List.{Contains}
-use Rattle.std.proofs.lemmas.Bool.{eqb-true}
-use Rattle.std.proofs.lemmas.List.{map-append}
-use Rattle.std.proofs.lemmas.List.Elements.{Contains-append_left, Contains-append_right}
-use Rattle.site.specs.declared.outside.Dev.{Dev}
-use Rattle.site.specs.declared.outside.Dev.TheVariants.{Log, Flash, Disk}
-use Rattle.site.specs.declared.outside.Stop.{Stop}
-use Rattle.site.specs.declared.geometry.Geometry.{Geometry}
-use Rattle.site.specs.State.{State, Image, Moment, Snapshot, MayStand, loose_of, content_of, IsQuiet}
-use Rattle.site.specs.Calls.{IsUnchanged}
-use Rattle.site.specs.Work.{Calls}
-use Rattle.site.specs.Moments.{Leaves, LeavesOnly, ChangesOnly, since}
-use Rattle.site.proofs.Laws.{in_sequence, leaves_weaker, untouched_leaves, others_untouched, each_both, each_weaker, settled_is, quiet_settled, quiet_leaves, no_call, unchanged_calm, holds_now, stays_honest, unchanged}
-use Rattle.site.proofs.Working.{ok_as, ok_always}
-use Rattle.sealed_ring.specs.Ring.{hi_of}
-use Rattle.image_changes.specs.Rings.{group_shape, segment_shape}
-use Rattle.image_changes.specs.Changes.{Change}
-use Rattle.image_changes.specs.Reached.{LeavesFront, IsReached, IsFrontOf}
-use Rattle.disk_pages.specs.Pages.{page_on}
-use Rattle.second_chance.specs.Queue.{Queue}
-use Rattle.second_chance.specs.Plans.{Placed}
-use Rattle.second_chance.specs.Machine.{Rules, Cache, Staged, must_be_pushed, staged_in_push, staged_by, push_changed, wants_flush}
-use Rattle.second_chance.specs.Laws.{FlushGoesOn, FlushEnds}
-use Rattle.record_model.specs.Touches.{flush}
-use Rattle.tail_rebuild.specs.Saving.{IsInNoSlot, LeavesGaps, is_due, changes_of_save}
-use Rattle.flash_cache.specs.declared.cache.FlashCache.{FlashCache}
-use Rattle.flash_cache.specs.Representation as flash_cache
-use Rattle.flash_cache.specs.Representation.{disk_on}
-use Rattle.flash_cache.specs.Pushed.{staged_pages, staged_marks, changes_of_push, sum_of}
-use Rattle.frame_group.specs.Groups.{Frame as Stored}
-use Rattle.buffer_pool.specs.declared.frame.Frame.{Frame}
-use Rattle.page_store.specs.declared.store.PageStore.{PageStore}
-use Rattle.page_store.specs.Caching.{pool_page, cache_of, rules, next_group, first_pushed, is_pushed}
-use Rattle.page_store.specs.Representation.{Invariant, Matches}
 use Rattle.flash_cache.specs.OnDisk.{HasFrameAt, HasLastStaged, SomeMoment}
 use Rattle.flash_cache.proofs.SomeMoments.{some_after_reads, some_behind, some_first}
-use Rattle.stage_out.specs.Staged.{calls_of, unsynced_in}
-use Rattle.flash_cache.specs.Pushed.{front_leaves, pushed_queue}
-use Rattle.second_chance.specs.declared.frame.Frame.{Frame as Known}
-use Rattle.std.specs.List.{AllByRecursion}
-use Rattle.page_store.specs.Costs.{staging_calls, CallsForStaged}
 use Rattle.page_store.proofs.Counting.{staged_counts_none, staged_counts_then, unsynced_logged}
-use Rattle.page_store.specs.Staging.{pages_staged, staged_by_eviction, SavesBefore, WritesOnly, HasQueueOn, Stages}
 use Rattle.page_store.proofs.PushLaws.{flash_fits_same, flash_holds_same}
 use Rattle.page_store.proofs.Evictions.{reverse_last}
-use Rattle.flash_cache.proofs.Written.{wrote, rewritten, groups_by, segments_by, front_rewritten, front_sum, push_rewrites, push_groups, push_segments, save_rewrites, save_groups, save_segments}
 use Rattle.std.proofs.lemmas.Grind.{common_steps}
+use Rattle.flash_cache.specs.Representation as flash_cache
 
 -- Images.
 

@@ -1,35 +1,12 @@
 -- The numbers of the rings in what a call has left.
 use Rattle.std.proofs.lemmas.Grind.{common_steps}
-use Rattle.image_changes.proofs.Sequence.{ring_kept}
-use Rattle.std.proofs.Common.{◌≡◌, ◌+◌, ◌*◌, ◌≤◌, Bool, true, false, List, [], ◌∷◌, ◌++◌, length, refl, ap, arith, ℕ}
-use Rattle.std.specs.Prelude.{Result, Ok, Err, OnOk, Some, ◌≢◌, if◌then◌else◌}
-use Rattle.std.specs.List.{AllByRecursion}
-use Rattle.std.proofs.lemmas.List.{length-append}
+use Rattle.redo_laws.proofs.Citing.{◌≡◌, ◌+◌, ◌*◌, ◌≤◌, Bool, true, false, List, [], ◌∷◌, ◌++◌, length, refl, ap, arith, ℕ, length-append, AllByRecursion, Result, Ok, Err, OnOk, ◌≢◌, if◌then◌else◌, ring_kept, Change, AppendsMaster, Reaches, ring_of, IsReached, IsFrontOf, LeavesFront, Masters, Blocks, log_shape, master_shape, KeepsUnits, LogList, changes_if, LeavesLog, has_tail, LogStore, calls_logged, paid, cost_reached, AreReady, LeavesPages, PageStore, blocks_to, HasNumbers, SkipsNone, hi_of, Units, each_both, each_weaker, leaves_weaker, ok_as, Leaves, LeavesOnly, ChangesOnly, State, Image, Snapshot, IsQuiet, Geometry, Log, Stop, end_forced}
+use Rattle.std.specs.Prelude.{Some}
 use Rattle.std_lemmas.proofs.AllOf.{all_left}
-use Rattle.site.specs.declared.geometry.Geometry.{Geometry}
-use Rattle.site.specs.State.{State, Image, Snapshot, IsQuiet}
-use Rattle.site.specs.declared.outside.Dev.TheVariants.{Log}
-use Rattle.site.specs.declared.outside.Stop.{Stop}
-use Rattle.site.specs.Moments.{Leaves, LeavesOnly, ChangesOnly}
-use Rattle.site.proofs.Laws.{each_both, each_weaker, leaves_weaker}
-use Rattle.sealed_ring.specs.Ring.{hi_of, Units}
-use Rattle.image_changes.specs.Rings.{Masters, Blocks, log_shape, master_shape, KeepsUnits}
-use Rattle.image_changes.specs.Changes.{Change, AppendsMaster, Reaches, ring_of}
-use Rattle.image_changes.specs.Reached.{IsReached, IsFrontOf, LeavesFront}
 use Rattle.page_store.specs.Costs.{CallsForUnits}
-use Rattle.page_store.proofs.Counting.{calls_logged, paid, cost_reached}
-use Rattle.log_store.specs.declared.store.LogStore.{LogStore}
-use Rattle.log_store.specs.LogList.{LogList, changes_if}
-use Rattle.log_store.specs.Representation.{LeavesLog, has_tail}
-use Rattle.write_ahead.specs.Forcing.{end_forced}
-use Rattle.page_store.specs.declared.store.PageStore.{PageStore}
-use Rattle.page_store.specs.Leaves.{AreReady, LeavesPages}
-use Rattle.redo_laws.specs.Holding.{blocks_to}
-use Rattle.redo_laws.specs.Numbers.{HasNumbers, SkipsNone}
 use Rattle.redo_laws.proofs.Touched.{tail_blocks}
 use Rattle.redo_laws.proofs.Forced.{seals_only, same_blocks}
 use Rattle.redo_laws.proofs.RingNumbers.{leaves_more}
-use Rattle.site.proofs.Working.{ok_as}
 
 -- the ring's next block is the one behind the blocks that are held
 pub ready_next : (pages : PageStore) (log : LogStore) (list : LogList) (site : State) → AreReady pages log list site → log.ring.hi ≡ list.first + length list.blocks

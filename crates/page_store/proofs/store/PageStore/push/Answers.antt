@@ -1,41 +1,11 @@
-use Rattle.std.specs.Prelude.{Ok, IsTrue}
-use Rattle.std.specs.List.{AllByRecursion}
-use Rattle.std.proofs.Common.{rules, refl, [], length, ◌≡◌, ◌++◌, ◌+◌, ◌*◌, ℕ, Bool, arith, sym, ap, ◌∙◌, subst, List}
-use Rattle.site.specs.declared.outside.Dev.TheVariants.{Log, Flash, Disk}
-use Rattle.site.specs.declared.geometry.Geometry.{Geometry}
-use Rattle.site.specs.State.{IsQuiet, IsSettled, snapshot_of}
-use Rattle.site.specs.Moments.{Leaves, LeavesOnly, SameBut}
-use Rattle.site.proofs.Laws.{each_weaker, leaves_weaker, in_sequence, quiet_settled, holds_now, stays_honest}
-use Rattle.log_store.specs.LogList.{LogList, sealed_if, changes_if}
-use Rattle.std_lemmas.proofs.Results.{ok_both}
+use Rattle.page_store.proofs.Names.{rules, refl, [], length, ◌≡◌, ◌++◌, ◌+◌, ◌*◌, ℕ, Bool, arith, sym, ap, ◌∙◌, subst, List, AllByRecursion, Ok, Frame, GivesVersions, staged_pages, pushed_groups, frames_pushed, changes_of_group, groups_on, FlashCache, Reaches, Change, IsReached, IsFrontOf, LeavesFront, LogList, sealed_if, changes_if, HasBlocks, LeavesLog, LeavesSealed, sealed_end, cache_of, rules_for, next_group, StandsGiven, given_changes, AreReady, LeavesPages, LeavesRings, AreTold, Invariant, HasQueueOn, Stages, PageStore, staged_in_push, Queue, each_weaker, leaves_weaker, in_sequence, quiet_settled, holds_now, stays_honest, no_error, ok_as, Leaves, LeavesOnly, SameBut, IsQuiet, IsSettled, snapshot_of, Geometry, Log, Flash, Disk, IsSound, ok_both, is_due, IsLogged, end_forced, forces, IsLogAtEnd}
+use Rattle.std.specs.Prelude.{IsTrue}
 use Rattle.page_store.proofs.Counting.{IsSilent, silent_leaves, unsynced_logged}
-use Rattle.flash_cache.specs.Pushed.{staged_pages, pushed_groups, frames_pushed, changes_of_group}
-use Rattle.slotted_page.specs.Layout.{IsSound}
-use Rattle.flash_cache.specs.Kept.{GivesVersions}
-use Rattle.log_store.specs.Representation.{HasBlocks, LeavesLog}
-use Rattle.image_changes.specs.Changes.{Reaches, Change}
-use Rattle.image_changes.specs.Reached.{IsReached, IsFrontOf, LeavesFront}
-use Rattle.write_ahead.specs.Forcing.{IsLogged, end_forced, forces, IsLogAtEnd}
-use Rattle.page_store.specs.declared.store.PageStore.{PageStore}
-use Rattle.buffer_pool.specs.declared.frame.Frame.{Frame}
-use Rattle.page_store.specs.Ahead.{LeavesSealed, sealed_end}
-use Rattle.page_store.specs.Calls.{StandsGiven}
-use Rattle.page_store.specs.Leaves.{AreReady, LeavesPages, LeavesRings}
-use Rattle.second_chance.specs.Queue.{Queue}
 use Rattle.page_store.proofs.Rings.{sealing_keeps, sound_pushed, pushing_keeps, rings_front}
 use Rattle.page_store.proofs.PushLaws.{version_same, group_changes_since, kept_where, masters_kept, own_sealing, force_leaves, force_sealed, between, Pushed, pushed, pushed_now, pushed_pages, push_leaves, pushed_sealed, reached_all, clean_given_same, gives_since, ok_under, ok_seven, fits_behind, log_fits, log_found, log_units_same}
-use Rattle.page_store.specs.Changing.{given_changes}
 use Rattle.page_store.proofs.Changing.{front_more}
-use Rattle.second_chance.specs.Machine.{staged_in_push}
-use Rattle.page_store.specs.Caching.{cache_of, rules as rules_for, next_group}
-use Rattle.page_store.specs.Staging.{HasQueueOn, Stages}
-use Rattle.tail_rebuild.specs.Saving.{is_due}
-use Rattle.flash_cache.specs.Representation.{groups_on}
 use Rattle.page_store.proofs.StagingLaws.{stages_beside, stages_between, stages_then, push_leaves as push_writes, push_counted, queue_pushed}
-use Rattle.site.proofs.Working.{no_error, ok_as}
 use Rattle.page_store.proofs.NextUnits.{next_logged, next_pushed, next_then, next_with}
-use Rattle.flash_cache.specs.declared.cache.FlashCache.{FlashCache}
-use Rattle.page_store.specs.Representation.{AreTold, Invariant}
 use Rattle.page_store.proofs.PushCalls.{PushTakes, push_takes, push_calls, four_most}
 use Rattle.page_store.proofs.ToldPages.{fits_told, going_told, told_pushed}
 use Rattle.page_store.proofs.store.PageStore.push.Goals as goal

@@ -1,23 +1,7 @@
-use Rattle.std.proofs.Common.{rules, ℕ, [], ◌≡◌, Bool, ◌++◌, true, false, refl, sym, ap, subst, ◌∙◌, arith, ◌≤◌, map}
-use Rattle.std.proofs.Math.Bool.{or-false}
-use Rattle.std.specs.Prelude.{nat_lt, ◌||◌}
-use Rattle.std.proofs.lemmas.Bool.{true≢false, or_left, or_right, and_left, and_parts}
-use Rattle.std.proofs.lemmas.Bool.Decides.{nat_tests}
-use Rattle.site.proofs.Working.{calls_nothing, no_error}
-use Rattle.second_chance.specs.Machine.{Rules, rules_of, Cache, push_changed, flushed, wants_flush}
-use Rattle.second_chance.specs.Laws.{changed_count}
-use Rattle.log_store.specs.LogList.{LogList, sealed_if}
-use Rattle.log_store.specs.Representation.{has_tail}
-use Rattle.write_ahead.specs.Forcing.{forces, is_unsealed, end_now}
-use Rattle.second_chance.proofs.GroupCounts.{changed_next}
-use Rattle.page_store.specs.declared.store.PageStore.{PageStore}
-use Rattle.page_store.specs.Caching.{next_group, cache_of, rules as rules_for}
-use Rattle.buffer_pool.specs.declared.frame.Frame.{Frame}
-use Rattle.page_store.specs.Flushing.{cleared_all, saved_next, flushed_first, flushed_contents, changed_frames}
-use Rattle.page_store.specs.Leaves.{AreReady}
-use Rattle.page_store.specs.Pulling.{room_for_pages}
+use Rattle.page_store.proofs.Names.{rules, ℕ, [], ◌≡◌, Bool, ◌++◌, true, false, refl, sym, ap, subst, ◌∙◌, arith, ◌≤◌, map, or-false, or_left, or_right, and_left, and_parts, nat_tests, nat_lt, Frame, LogList, sealed_if, has_tail, next_group, cache_of, rules_for, standing, push_changes, flush_changes, after_push, pushes_changes, cleared_all, saved_next, flushed_first, flushed_contents, changed_frames, AreReady, room_for_pages, PageStore, changed_next, changed_count, Rules, rules_of, Cache, push_changed, flushed, wants_flush, calls_nothing, no_error, forces, is_unsealed, end_now}
+use Rattle.std.specs.Prelude.{◌||◌}
+use Rattle.std.proofs.lemmas.Bool.{true≢false}
 use Rattle.page_store.proofs.Choosing.{first_changed}
-use Rattle.page_store.specs.Changing.{standing, push_changes, flush_changes, after_push, pushes_changes}
 use Rattle.page_store.proofs.Left.{some_left, none_left, front_pages, back_pages, all_changed}
 use Rattle.page_store.proofs.Unsealed.{next_round, nothing_forced, forced_by_first}
 use Rattle.page_store.proofs.Numbers.{flushed_next, flushed_more}

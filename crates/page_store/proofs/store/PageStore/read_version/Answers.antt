@@ -1,18 +1,6 @@
-use Rattle.std.specs.Prelude.{Ok, Bool}
-use Rattle.page_store.specs.declared.store.PageStore.{PageStore}
-use Rattle.page_store.specs.Staging.{HasQueueOn}
-use Rattle.std.proofs.Common.{rules, ◌≡◌, true, false, arith, sym, ap, subst, ◌∙◌, refl}
+use Rattle.page_store.proofs.Names.{rules, ◌≡◌, true, false, arith, sym, ap, subst, ◌∙◌, refl, Ok, page_on, FlashCache, Invariant, Matches, HasQueueOn, PageStore, has_frame, with_read, unchanged_in_sequence, stays_honest, ok_as, ok_always, Image, Log, Disk, Foreign, IsSound}
+use Rattle.std.specs.Prelude.{Bool}
 use Rattle.second_chance.proofs.Unread.{with_read_none, read_has}
-use Rattle.site.specs.declared.outside.Dev.TheVariants.{Log, Disk}
-use Rattle.site.specs.declared.outside.Stop.TheVariants.{Foreign}
-use Rattle.site.specs.State.{Image}
-use Rattle.disk_pages.specs.Pages.{page_on}
-use Rattle.slotted_page.specs.Layout.{IsSound}
-use Rattle.site.proofs.Laws.{unchanged_in_sequence, stays_honest}
-use Rattle.site.proofs.Working.{ok_as, ok_always}
-use Rattle.second_chance.specs.Queue.{has_frame, with_read}
-use Rattle.flash_cache.specs.declared.cache.FlashCache.{FlashCache}
-use Rattle.page_store.specs.Representation.{Invariant, Matches}
 use Rattle.page_store.proofs.PushLaws.{flash_fits_same, flash_holds_same, kept_where}
 use Rattle.page_store.proofs.Versions.{flash_later, store_with, fits_with}
 use Rattle.page_store.proofs.StagingLaws.{stages_still, queue_same, queue_pushed}
