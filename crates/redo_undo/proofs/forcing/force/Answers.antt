@@ -1,22 +1,6 @@
-use Rattle.image_changes.proofs.Sequence.{ring_kept}
-use Rattle.std_lemmas.proofs.Results.{ok_both}
-use Rattle.page_store.proofs.PushLaws.{log_fits}
-use Rattle.std.proofs.Common.{◌≡◌, ◌∙◌, true, sym, ap, inr, refl, true≢false, ◌+◌, Bool, false, nat_lt}
-use Rattle.log_store.specs.LogList.{LogList, changes_if}
-use Rattle.log_store.specs.Representation.{has_tail}
-use Rattle.image_meaning.specs.Meaning.{kept_by}
-use Rattle.image_changes.specs.Rings.{Masters, KeepsUnits, master_shape}
-use Rattle.redo_laws.specs.Holding.{Represents}
-use Rattle.site.proofs.Working.{no_error, ok_as}
-use Rattle.redo_laws.proofs.CallsInSequence.{nothing_happens}
-use Rattle.redo_laws.proofs.Appended.{append_leaves, current_same}
-use Rattle.redo_laws.proofs.Forced.{forced_holds, some_now, ok_five, quiet_stops, seals_only}
-use Rattle.redo_laws.proofs.WornLogs.{log_at_end}
-use Rattle.redo_laws.proofs.RingNumbers.{skips_nothing}
-use Rattle.redo_laws.proofs.LeftNumbers.{log_skips, log_calls, ready_next, same_at_most}
-use Rattle.redo_undo.proofs.forcing.force.Goals as goal
+use Rattle.redo_undo.proofs.Names.{◌≡◌, ◌∙◌, true, sym, ap, inr, refl, true≢false, ◌+◌, Bool, false, nat_lt, Ok, if◌then◌else◌, ring_kept, Masters, KeepsUnits, master_shape, kept_by, LogList, changes_if, has_tail, log_fits, append_leaves, current_same, nothing_happens, forced_holds, some_now, ok_five, quiet_stops, seals_only, log_skips, log_calls, ready_next, same_at_most, skips_nothing, log_at_end, Represents, no_error, ok_as, ok_both}
 use Rattle.redo_undo.proofs.Mirroring.{force_performs, numbers_left}
-use Rattle.std.specs.Prelude.{Ok, if◌then◌else◌}
+use Rattle.redo_undo.proofs.forcing.force.Goals as goal
 
 pub returns-clause-holds : goal.returns-clause-holds
 returns-clause-holds g c pages newest records table commits sizes h =

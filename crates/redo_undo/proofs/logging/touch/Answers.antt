@@ -1,36 +1,12 @@
-use Rattle.std.proofs.Common.{Bool, false, [], arith, ◌∙◌, List, ap, ℕ, sym, subst, append-nil, true≢false}
-use Rattle.std.specs.Prelude.{◌≡◌, OnOk, if◌then◌else◌}
-use Rattle.write_ahead.specs.Forcing.{forces}
-use Rattle.page_store.specs.Ahead.{pushed_by_touch}
-use Rattle.log_store.specs.LogList.{LogList, sealed_if}
-use Rattle.log_records.specs.Spelling.{used_by}
-use Rattle.page_store.specs.Leaves.{AreReady}
-use Rattle.redo_undo.specs.Redoing.{IsRedoing, Opening}
-use Rattle.redo_laws.proofs.Endings.{ends_by_pages}
-use Rattle.redo_laws.proofs.CallsInSequence.{some_group}
+use Rattle.redo_undo.proofs.Names.{Bool, false, [], arith, ◌∙◌, List, ap, ℕ, sym, subst, append-nil, true≢false, OnOk, if◌then◌else◌, KeepsUnits, master_shape, kept_by, Entry, used_by, LogList, sealed_if, stages_as, pushed_by_touch, cache_of, rules, AreReady, current, touch, touch_reads, some_group, touched_next, ends_by_pages, pages_skip, ready_next, forced_tail, leaves_table, touched_holds, RepresentsIn, Represents, IsRedoing, Opening, rules_of, staged_by, ok_as, Geometry, ok_both, forces}
+use Rattle.std.specs.Prelude.{◌≡◌}
 use Rattle.redo_undo.proofs.Redoings.{never_forced, rings_given, rings_of, touch_leaves, touched}
-use Rattle.record_model.specs.Touches.{touch}
-use Rattle.page_store.proofs.StagingLaws.{stages_as}
-use Rattle.redo_laws.proofs.Costs.{touched_next}
-use Rattle.second_chance.specs.Machine.{rules_of, staged_by}
-use Rattle.page_store.specs.Caching.{cache_of, rules}
-use Rattle.redo_laws.proofs.Asking.{touch_reads}
 use Rattle.redo_undo.proofs.Mirroring.{numbers_left, touch_performs, used_where}
 use Rattle.redo_undo.proofs.Resting.{rests_touched}
-use Rattle.image_meaning.specs.Meaning.{kept_by}
 use Rattle.redo_undo.proofs.UndoneNumbers.{skips_touch}
-use Rattle.image_changes.specs.Rings.{KeepsUnits, master_shape}
-use Rattle.site.proofs.Working.{ok_as}
-use Rattle.site.specs.declared.geometry.Geometry.{Geometry}
-use Rattle.redo_laws.specs.Holding.{RepresentsIn, Represents}
-use Rattle.redo_laws.proofs.Touched.{forced_tail, leaves_table, touched_holds}
-use Rattle.page_store.specs.Representation.{current}
-use Rattle.redo_laws.proofs.LeftNumbers.{pages_skip, ready_next}
 use Rattle.redo_undo.proofs.logging.touch.Given.{Over}
 use Rattle.redo_undo.proofs.logging.touch.Goals.{After-touch}
-use Rattle.log_records.specs.Log.{Entry}
 use Rattle.std.proofs.lemmas.Grind.{common_steps}
-use Rattle.std_lemmas.proofs.Results.{ok_both}
 use Rattle.redo_undo.proofs.logging.touch.Goals as goal
 
 redoing_now : (g : Over) (c : After-touch g) (o : Opening) (front : List Entry) →
