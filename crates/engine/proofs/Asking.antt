@@ -163,7 +163,6 @@ last_found g r works h r' works' start old mid new same sizes same_rules same_wo
     let there : HasStagedFrom g r works (cache_on g old.image) mid new =
     subst (λ (k : Cache). HasStagedFrom g r works k mid new) same_start
     (subst (λ (w : List CacheOp). HasStagedFrom g r w start mid new) same_works (subst (λ (x : Rules). HasStagedFrom g x works' start mid new) same_rules (subst (λ (x : Geometry). HasStagedFrom x r' works' start mid new) sizes last))) in
-
     record {
       last = last_after_reads g (staged_by_works r works (cache_on g old.image)) old mid new same.past there.last;
       counted = (let calls = there.counted.calls in let before = ap unsynced_in same.past in record { calls = omega (arith, calls, before); rises = there.counted.rises; within = there.counted.within });

@@ -54,7 +54,7 @@ one_few false b = omega arith
 
 unsynced_few : (moments : List Moment) → unsynced_in moments ≤ works_in moments
 unsynced_few [] = omega arith
-unsynced_few (m ∷ moments) = 
+unsynced_few (m ∷ moments) =
     let one : unsynced_in (m ∷ []) ≤ works_in (m ∷ []) = one_few (length m.telling == 0) (not (length m.loose.disk == 0)) in
     omega (arith, unsynced_join (m ∷ []) moments, works_join (m ∷ []) moments, one, unsynced_few moments)
 
