@@ -51,3 +51,9 @@ pub returns-in-Err-clause-performs : goal.returns-in-Err-clause-performs
 returns-in-Err-clause-performs g c s fits =
     let is : c.args.wanted ≡ true = search rules in
     performs_as (ap (λ (b : Bool). if b then saves else []) is) (performs_failed (c.in-Err.ensures.performs s fits))
+
+pub returns-in-Ok-clause-asks : goal.returns-in-Ok-clause-asks
+returns-in-Ok-clause-asks g c =
+    let is : c.args.wanted ≡ true = search rules in
+    subst (λ (b : Bool). StepsMachine {T = Unit {0}} (Ok tt) (if b then checkpoint_works else []) c.args.self.now.store.pages c.carry_out_checkpoint.new.self.store.pages (g.S.Site.state c.args.site.now) (g.S.Site.state c.carry_out_checkpoint.new.site)) (sym is)
+    c.in-Ok.ensures.asks
