@@ -1,36 +1,9 @@
 -- Calls that ask the cache for work, one after the other.
-use Rattle.redo_laws.proofs.Costs.{numbers_rise}
-use Rattle.std.proofs.Common.{map, append_assoc, ◌-◌, ◌/◌, ◌≡◌, ◌+◌, ◌≤◌, ◌<◌, List, [], ◌∷◌, ◌++◌, arith, sym, ap, subst, ◌∙◌, ℕ}
-use Rattle.std.specs.Prelude.{Result, Ok, Err, OnOk}
-use Rattle.site.specs.declared.outside.Dev.TheVariants.{Flash, Disk}
-use Rattle.site.specs.declared.outside.Stop.{Stop}
-use Rattle.site.specs.State.{State as Site, Image, Snapshot, IsQuiet}
-use Rattle.site.specs.declared.geometry.Geometry.{Geometry}
-use Rattle.site.specs.Moments.{Leaves, LeavesOnly}
-use Rattle.site.proofs.Laws.{in_sequence}
-use Rattle.sealed_ring.specs.Ring.{hi_of}
-use Rattle.image_changes.specs.Rings.{group_shape, units_on}
-use Rattle.frame_group.specs.Groups.{Frame, frames_in}
-use Rattle.second_chance.specs.Queue.{frame_of as known_of}
-use Rattle.page_store.proofs.StagingLaws.{last_after_reads, still_leaves}
-use Rattle.std.proofs.lemmas.List.{length-map, map-append}
-use Rattle.site.specs.Calls.{SameReads, IsUnchanged}
-use Rattle.std.specs.List.{range_with_len}
-use Rattle.record_model.specs.Touches.{CacheOp, read_touch}
+use Rattle.engine.proofs.Names.{map, append_assoc, ◌-◌, ◌/◌, ◌≡◌, ◌+◌, ◌≤◌, ◌<◌, List, [], ◌∷◌, ◌++◌, arith, sym, ap, subst, ◌∙◌, ℕ, length-map, map-append, range_with_len, Result, Ok, Err, OnOk, Invariant, AsksFrom, HasStagedFrom, WritesFrom, cache_on, Engine, Frame, frames_in, group_shape, units_on, last_after_reads, still_leaves, PageStore, CacheOp, read_touch, asks_then, asks_stopped, asks_same, change_made, numbers_rise, one_touch, StepsMachine, one_change, NumbersRise, MayWork, TransactionStore, hi_of, Rules, Cache, after_works, staged_by_works, known_of, in_sequence, SameReads, IsUnchanged, Leaves, LeavesOnly, Site, Image, Snapshot, IsQuiet, Geometry, Flash, Disk, Stop}
 use Rattle.engine.proofs.Scans.{range_more, range_at}
-use Rattle.second_chance.specs.Machine.{Rules, Cache, after_works, staged_by_works}
-use Rattle.page_store.specs.declared.store.PageStore.{PageStore}
 use Rattle.page_store.specs.Caching.{cache_of, rules, with_change, next_group}
 use Rattle.page_store.specs.Costs.{CallsForStaged, unsynced_in}
-use Rattle.redo_laws.specs.MachineSteps.{one_touch, StepsMachine, one_change, NumbersRise}
-use Rattle.redo_undo.specs.declared.store.TransactionStore.{TransactionStore}
-use Rattle.engine.specs.declared.engine.Engine.{Engine}
-use Rattle.engine.specs.Invariant.{Invariant}
-use Rattle.engine.specs.Paging.{AsksFrom, HasStagedFrom, WritesFrom, cache_on}
 use Rattle.page_store.specs.Staging.{HasQueueOn, Stages, WritesOnly}
-use Rattle.redo_undo.specs.Stores.{MayWork}
-use Rattle.redo_laws.proofs.Asking.{asks_then, asks_stopped, asks_same}
-use Rattle.redo_laws.proofs.AskingUndo.{change_made}
 
 -- A page that is touched, and then changed.
 pub change_ok : {A B : Type 0} (a : A) (b : B) (page : ℕ) (old mid new : PageStore) (before between now : Site) → 1 ≤ (rules old).groups → StepsMachine {T = A} (Ok a) (one_touch page) old mid before between →
