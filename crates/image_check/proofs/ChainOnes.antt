@@ -1,6 +1,6 @@
 -- One unfinished transaction after one record more.
 use Rattle.std.proofs.lemmas.Grind.{common_steps}
-use Rattle.std.proofs.Common.{◌≡◌, ℕ, ◌-◌, ◌==◌, nat_eq, Bool, true, false, true≢false, cond, List, [], ◌∷◌, ◌++◌, length, map, take, drop, Option, Some, None, option_map, refl, sym, ap, subst, ◌∙◌, arith}
+use Rattle.std.proofs.Common.{◌≡◌, ℕ, ◌-◌, ◌==◌, nat_eq, Bool, true, false, cond, List, [], ◌∷◌, ◌++◌, length, map, take, drop, Option, Some, None, option_map, refl, sym, ap, subst, ◌∙◌, arith}
 use Rattle.std.specs.Prelude.{reverse}
 use Rattle.std.proofs.lemmas.List.{append-nil, length-append, reverse-append, reverse-reverse, take_at}
 use Rattle.std.proofs.lemmas.List.Elements.{filter-append}
@@ -11,8 +11,8 @@ use Rattle.record_model.specs.State.{Content}
 use Rattle.log_records.specs.declared.log_record.LogRecord.{LogRecord}
 use Rattle.log_records.specs.declared.log_record.LogRecord.TheVariants.{Begin, Update, Clr, Commit, End}
 use Rattle.log_records.specs.Log.{Entry, is_of, is_update, entries_of, number_of, before_of, after_of, last_on}
-use Rattle.log_records.specs.Unfinished.{is_clr, prev_of, open_by, open_updates}
-use Rattle.log_records.specs.Sound.{Continues, Undoes, ShowsLast, last_number}
+use Rattle.log_records.specs.Unfinished.{prev_of}
+use Rattle.log_records.specs.Sound.{Continues, ShowsLast}
 use Rattle.log_laws.proofs.Orders.{InTurn-append}
 use Rattle.log_laws.proofs.Values.{last_same, last_new}
 use Rattle.image_check.specs.declared.chain.Chain.{Chain}

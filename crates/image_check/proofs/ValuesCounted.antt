@@ -1,6 +1,6 @@
 -- Values counted page by page.
 use Rattle.std.proofs.Common.{◌≡◌, ℕ, zero, suc, ◌+◌, ◌*◌, ◌<◌, Bool, true, false, cond, ◌≤◌, List, [], ◌∷◌, ◌++◌, map, count_by, is_some, refl, sym, ap, subst, ◌∙◌, arith}
-use Rattle.std.specs.Prelude.{Option, Some, None, IfSome, IfNone}
+use Rattle.std.specs.Prelude.{Option, None, IfNone}
 use Rattle.std.specs.List.{range_with_len}
 use Rattle.std.proofs.lemmas.List.FromFn.{sum_by-map-range_with_len_more}
 use Rattle.std_lemmas.proofs.AllOf.{all_left}
@@ -11,7 +11,6 @@ use Rattle.log_records.specs.Log.{Entry, Version, version_at, slot_at, value_of,
 use Rattle.log_records.specs.Sound.{Pairwise}
 use Rattle.slotted_page.specs.Layout.{slots_of}
 use Rattle.second_chance.specs.Queue.{Queue}
-use Rattle.image_form.specs.Newest.{ShowsFrames}
 use Rattle.image_meaning.specs.Meaning.{version_in, versions_on}
 use Rattle.image_meaning.proofs.Redos.{slot_of_page}
 use Rattle.image_meaning.proofs.Versions.{length-versions}

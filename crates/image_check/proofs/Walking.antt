@@ -1,7 +1,7 @@
 -- Calls that only read, one after the other, and walks over the log that was found.
 use Rattle.std.proofs.lemmas.Grind.{common_steps}
 use Rattle.std.proofs.Common.{◌≡◌, ℕ, ◌+◌, ◌*◌, ◌≤◌, List, [], ◌∷◌, ◌++◌, length, sym, ap, ◌∙◌, subst, arith}
-use Rattle.std.specs.Prelude.{Option, Some, None, Result, Ok, Err, IfSome}
+use Rattle.std.specs.Prelude.{Option, Some, None, Ok, Err, IfSome}
 use Rattle.site.specs.declared.outside.Stop.{Stop}
 use Rattle.site.specs.declared.outside.Stop.TheVariants.{Memory}
 use Rattle.site.specs.State.{State, Image}
@@ -21,7 +21,6 @@ use Rattle.image_form.proofs.BlocksJudged.{finds_later}
 use Rattle.image_form.proofs.FirstRule.{may_be_read_later}
 use Rattle.image_form.proofs.Walks.{Walked, walked_none, walked_more, walked_all, gives_at}
 use Rattle.image_check.specs.Judging.{MayBeJudged, Sees, JudgesBy, records_of, kept_blocks}
-use Rattle.log_judge.specs.Outcomes.{OrMemory}
 
 -- What was found is there after calls that only read.
 

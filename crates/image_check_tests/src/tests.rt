@@ -482,11 +482,7 @@ enum PageRule {
 }
 
 // Whether such a rule holds, where the rings are of the form.
-fn holds_of_pages(
-    alloc: Global,
-    site: &mut MemSite,
-    rule: PageRule,
-) -> Result<Option<bool>, Stop> {
+fn holds_of_pages(alloc: Global, site: &mut MemSite, rule: PageRule) -> Result<Option<bool>, Stop> {
     let Some(geometry) = rule_lengths(site) else {
         return Ok(None);
     };

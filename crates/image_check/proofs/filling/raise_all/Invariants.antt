@@ -1,4 +1,4 @@
-use Rattle.std.proofs.Common.{◌≡◌, ◌++◌, ◌≤◌, List, length, take, reverse}
+use Rattle.std.proofs.Common.{◌++◌, ◌≤◌, List, length, take, reverse}
 use Rattle.std.specs.Prelude.{Ok}
 use Rattle.site.specs.Work.{OnlyReads}
 use Rattle.log_records.specs.declared.log_record.LogRecord.{LogRecord}

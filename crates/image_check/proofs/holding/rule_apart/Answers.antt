@@ -1,4 +1,4 @@
-use Rattle.std.proofs.Common.{arith, rules, None, true≢false, refl, sym, ◌∙◌, subst}
+use Rattle.std.proofs.Common.{rules, None, true≢false, refl, sym, ◌∙◌, subst}
 use Rattle.std.proofs.lemmas.Result.{err_from_is_err_and}
 use Rattle.site.proofs.Working.{looks_then, looks_failed}
 use Rattle.log_records.specs.Sound.{Pairwise, HoldsOff}

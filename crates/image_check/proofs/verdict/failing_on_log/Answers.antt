@@ -1,4 +1,4 @@
-use Rattle.std.proofs.Common.{rules, ap, refl, List, arith, ◌*◌, ◌+◌}
+use Rattle.std.proofs.Common.{rules, ap, refl, List, arith, ◌*◌}
 use Rattle.std.specs.Prelude.{is_none}
 use Rattle.log_records.specs.declared.log_record.LogRecord.{LogRecord}
 use Rattle.image_form.proofs.Counts.{few_more, few_then}

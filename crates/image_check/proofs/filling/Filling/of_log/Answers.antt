@@ -1,5 +1,5 @@
-use Rattle.std.proofs.Common.{arith, rules, ◌≡◌, ◌+◌, ◌≤◌, ◌++◌, ◌∷◌, [], ℕ, Ok, Err, true≢false, refl, sym, ◌∙◌, subst}
-use Rattle.std.specs.Prelude.{IfSome, ◌↔◌, IsTrue}
+use Rattle.std.proofs.Common.{arith, rules, ◌≡◌, ◌+◌, ◌≤◌, ◌++◌, ◌∷◌, [], Ok, Err, true≢false, refl, sym, ◌∙◌, subst}
+use Rattle.std.specs.Prelude.{◌↔◌, IsTrue}
 use Rattle.std.proofs.lemmas.Result.{err_from_is_err_and}
 use Rattle.site.specs.State.{State, Image}
 use Rattle.site.specs.Work.{OnlyReads}

@@ -48,7 +48,6 @@ returns-clause-lengths g c lengths finds versions kept =
           (subst (AreKeptOn (versions_on geometry image) lengths c.args.page) there (kept.each c.args.page less)),
     )
 
-
 pub returns-in-Some-clause-some : goal.returns-in-Some-clause-some
 returns-in-Some-clause-some g c = (omega (arith, c.if-page-geometry.false, ap (λ (k : Geometry). k.pages) c.geometry.ensures), record { log = omega arith; pages = omega arith })
 

@@ -1,4 +1,4 @@
-use Rattle.std.proofs.Common.{rules, ◌≡◌, ◌*◌, ◌≤◌, inl, inr, ℕ, Option, Some, true≢false, is_some, refl, sym, ap, ◌∙◌, subst, arith, ◌+◌, Ok}
+use Rattle.std.proofs.Common.{◌≡◌, ◌*◌, ◌≤◌, inl, inr, ℕ, Option, Some, true≢false, is_some, refl, sym, ap, ◌∙◌, subst, arith, ◌+◌, Ok}
 use Rattle.std.specs.Prelude.{IfSome}
 use Rattle.std.proofs.lemmas.Bool.{cases_eq}
 use Rattle.site.specs.declared.geometry.Geometry.{Geometry}

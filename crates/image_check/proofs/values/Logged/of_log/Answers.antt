@@ -1,4 +1,4 @@
-use Rattle.std.proofs.Common.{arith, rules, true≢false, Ok, Err, refl, sym, ◌∙◌, subst}
+use Rattle.std.proofs.Common.{rules, true≢false, Ok, Err, refl, sym, ◌∙◌, subst}
 use Rattle.std.specs.List.{AllByRecursion}
 use Rattle.std.proofs.lemmas.Result.{err_from_is_err_and}
 use Rattle.std_lemmas.proofs.AllOf.{all_push, all_right}
