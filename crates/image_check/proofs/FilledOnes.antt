@@ -17,8 +17,8 @@ use Rattle.site.specs.State.{Image}
 use Rattle.flash_cache.specs.Representation.{version_on}
 use Rattle.log_laws.specs.Analysis.{unfinished_at}
 use Rattle.std.specs.BTreeMap.{BTreeMap}
-use Rattle.image_check.specs.declared.unfinished.Left.{Left}
-use Rattle.image_check.specs.Unended.{AreLeft, entry_of}
+use Rattle.log_judge.specs.declared.unfinished.Left.{Left}
+use Rattle.log_judge.specs.Unended.{AreLeft, entry_of}
 use Rattle.record_model.specs.State.{Content, content_at, greatest, length_of, page_room}
 use Rattle.log_records.specs.declared.log_record.LogRecord.{LogRecord}
 use Rattle.log_records.specs.Log.{Entry, Version, version_at, slot_at, number_of, is_number, is_on, before_of, after_of, last_where, last_on, shown, shown_by}

@@ -21,8 +21,8 @@ use Rattle.log_laws.proofs.Lists.{one_true, last_where-filter, last_passes}
 use Rattle.log_laws.proofs.Listing.{listed_is_loser, begun_is_listed}
 use Rattle.log_laws.proofs.Losers.{any_of_those}
 use Rattle.log_laws.proofs.Values.{last_same, last_new}
-use Rattle.image_check.specs.declared.unfinished.Left.{Left}
-use Rattle.image_check.specs.Unended.{AreLeft, entry_of}
+use Rattle.log_judge.specs.declared.unfinished.Left.{Left}
+use Rattle.log_judge.specs.Unended.{AreLeft, entry_of}
 use Rattle.std.specs.BTreeMap.{BTreeMap, is_at}
 use Rattle.std.specs.Cmp.{unsigned_tied}
 use Rattle.std.specs.Ordering.{nat_cmp}

@@ -1,10 +1,7 @@
 pub mod Decisions
 pub mod Walking
-pub mod Numbering
 pub mod Readings
 pub mod Standing
-pub mod OpenOnes
-pub mod LeftOnes
 pub mod HeldOnes
 pub mod ShownOnes
 pub mod ChainOnes

@@ -24,7 +24,7 @@ use Rattle.log_laws.proofs.Parts.{InTurn-right, all_below}
 use Rattle.log_records.proofs.Entries.{in_order_left}
 use Rattle.image_check.proofs.ChainOnes.{other_same, own_more}
 use Rattle.image_check.proofs.HeldOnes.{chain_listed}
-use Rattle.image_check.proofs.OpenOnes.{begin_only}
+use Rattle.log_judge.proofs.OpenOnes.{begin_only}
 use Rattle.log_laws.proofs.Orderly.{fresh_of}
 
 -- A transaction on the list has its Begin, and this is its first record.

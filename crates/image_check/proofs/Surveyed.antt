@@ -4,13 +4,15 @@ use Rattle.std.proofs.Common.{◌≡◌, ℕ, ◌+◌, ◌^◌, ◌≤◌, ◌<�
 use Rattle.lsn_set.specs.declared.lsn_set.LsnSet.{LsnSet}
 use Rattle.std.proofs.lemmas.List.{length-append}
 use Rattle.log_records.specs.Log.{Entry}
-use Rattle.log_records.specs.Sound.{Master, InTurn, IsInOrder}
-use Rattle.log_laws.proofs.Orders.{InTurn-append, InTurn-all}
+use Rattle.log_records.specs.Sound.{Master, LogicalImage, InTurn, IsInOrder}
+use Rattle.log_laws.proofs.Orders.{InTurn-append, InTurn-all, InTurn-weaker}
 use Rattle.image_check.specs.declared.survey.Survey.{Survey}
-use Rattle.image_check.specs.Opening.{AreOpen, MayStand}
+use Rattle.log_judge.specs.Opening.{AreOpen, MayStand}
 use Rattle.image_check.specs.Surveying.{Surveys}
-use Rattle.image_check.specs.Unended.{Comes}
-use Rattle.log_laws.proofs.Parts.{all_below}
+use Rattle.log_judge.specs.Unended.{Comes}
+use Rattle.log_laws.proofs.Parts.{all_below, InTurn-right}
+use Rattle.std_lemmas.proofs.AllOf.{all_right}
+use Rattle.image_form.specs.Verdict.{RecordsFollowBegins}
 use Rattle.log_records.proofs.Entries.{in_order_left}
 use Rattle.log_laws.proofs.Orderly.{fresh_of}
 
@@ -37,3 +39,11 @@ one_more {m = m} front e so_far shorter may opens surveys =
       surveys = surveys;
       few = omega (arith, few, shorter, longer);
     }
+
+-- What the rule says of the next record.
+
+pub third_at : (p : LogicalImage) (front : List Entry) (e : Entry) (back : List Entry) → p.log ≡ front ++ e ∷ back → RecordsFollowBegins p → MayStand p.master front e
+third_at p front e back split rule = grind (arith, common_steps, all_right, InTurn-right)
+
+pub third_of : (p : LogicalImage) → InTurn (MayStand p.master) [] p.log → RecordsFollowBegins p
+third_of p stand = grind (arith, common_steps, InTurn-weaker, InTurn-all)

@@ -18,7 +18,8 @@ use Rattle.image_form.proofs.BlockLists.{log_in_order}
 use Rattle.image_form.proofs.BlocksJudged.{finds_later}
 use Rattle.image_form.proofs.FirstRule.{may_be_read_later}
 use Rattle.image_form.proofs.Walks.{Walked, walked_none, walked_more, walked_all, gives_at}
-use Rattle.image_check.specs.Judging.{MayBeJudged, Sees, JudgesBy, OrMemory, records_of, kept_blocks}
+use Rattle.image_check.specs.Judging.{MayBeJudged, Sees, JudgesBy, records_of, kept_blocks}
+use Rattle.log_judge.specs.Outcomes.{OrMemory}
 
 -- What was found is there after calls that only read.
 
@@ -35,15 +36,6 @@ in_order {found = found} {blocks = blocks} sees = log_in_order found.master.kept
 -- calls that only read, behind which memory lacks
 pub reads_lacked : {A B : Type 0} {x : A} {stop : Stop} {a b : State} → stop ≡ Memory → OnlyReads {T = A} (Ok x) a b → OnlyReads {T = B} (Err stop) a b
 reads_lacked {B = B} {a = a} {b = b} is reads = grind (arith, common_steps)
-
--- what is said of an answer
-pub goes_well : {T : Type 0} {x : T} {P : T → Type 0} → P x → OrMemory (Ok x) P
-goes_well says = record { done = says; stops = tt }
-
--- and said otherwise
-pub memory_as : {T : Type 0} (r : Result T Stop) {P Q : T → Type 0} → ((x : T) → P x → Q x) → OrMemory r P → OrMemory r Q
-memory_as (Ok x) f says = record { done = f x says.done; stops = tt }
-memory_as (Err e) f says = record { done = tt; stops = says.stops }
 
 -- A walk over the records of what was found.
 

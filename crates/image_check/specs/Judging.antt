@@ -47,8 +47,3 @@ pub record JudgesBy {T : Type 0} (found : Found) (walks : ℕ) (result : Result 
   pub says : IfOk result (λ x. (blocks : List (List LogRecord)) → Sees found blocks old → Says blocks x)
   pub reads : OnlyReads result old new
   pub few : new.log_reads ≤ old.log_reads + walks * kept_blocks found
-
--- what is said of an answer; an error is want of memory
-pub record OrMemory {T : Type 0} (result : Result T Stop) (Done : T → Type 0) : Type 0 where
-  pub done : IfOk result Done
-  pub stops : IfErr result (λ stop. stop ≡ Memory)

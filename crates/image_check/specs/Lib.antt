@@ -6,9 +6,7 @@ pub mod Holding
 pub mod Judgement
 pub mod Judging
 pub mod Laws
-pub mod Opening
 pub mod Showing
 pub mod Surveying
-pub mod Unended
 pub mod Values
 pub mod Writing

@@ -14,17 +14,17 @@ ghost use Rattle.image_check.specs.Filling.{AreKept, FitsAt, HaveRoom, HearsLog,
 ghost use Rattle.image_check.specs.Filling.{filled, opened, put_back_by};
 ghost use Rattle.image_check.specs.Judging.{JudgesBy, MayBeJudged, reading_of, records_of};
 ghost use Rattle.image_check.specs.Showing.{FindsVersions};
-ghost use Rattle.image_check.specs.Unended.{AreLeft};
+ghost use Rattle.log_judge.specs.Unended.{AreLeft};
 ghost use Rattle.image_form.specs.Verdict.{OctetsAreFormed, RecordsFollowBegins, LosersCanBeUndone, VersionsFit};
 ghost use Rattle.image_form.specs.Verdict.{PagesHaveRoom, logical_image_of};
 
 use crate::chains::Chains;
 use crate::lengths::Lengths;
-use crate::txns::txn_of;
-use crate::unfinished::LeftTxns;
+use crate::unfinished::is_left;
 use crate::values::page_of;
 use flash_directory::Directory;
 use image_form::{Found, Place, Walk, find_frames};
+use log_judge::{LeftTxns, txn_of};
 use log_records::LogRecord;
 use site::{Site, Stop};
 use std::alloc::Global;
@@ -78,7 +78,7 @@ impl Filling {
             Ok(fits) => fits,
             Err(stop) => return Err(stop),
         };
-        if !left.has(txn_of(lsn, &rec)) {
+        if !is_left(left, txn_of(lsn, &rec)) {
             return Ok(fits);
         }
         if let Err(stop) = self.chains.hear(lsn, rec) {

@@ -10,7 +10,8 @@ ghost use Rattle.slotted_page.specs.Layout.{slots_of, IsSound};
 ghost use Rattle.flash_cache.specs.Representation.{version_on};
 ghost use Rattle.image_meaning.specs.Meaning.{versions_on};
 ghost use Rattle.image_form.specs.Newest.{AreLive};
-ghost use Rattle.image_check.specs.Judging.{MayBeJudged, OrMemory};
+ghost use Rattle.image_check.specs.Judging.{MayBeJudged};
+ghost use Rattle.log_judge.specs.Outcomes.{OrMemory};
 ghost use Rattle.image_check.specs.Showing.{FindsVersions, AreExpected, IsKnownEarly, IsAs, HasContents, is_logged};
 
 use crate::holding::number_of;

@@ -15,6 +15,7 @@ use Rattle.flash_cache.specs.Representation.{disk_on}
 use Rattle.second_chance.specs.Machine.{Rules, Cache, Staged, staged_in_eviction}
 use Rattle.page_store.specs.declared.store.PageStore.{PageStore}
 use Rattle.page_store.specs.Caching.{cache_of, rules, next_group}
+use Rattle.page_store.specs.Costs.{CallsForStaged}
 
 -- what the eviction of the coldest page stages
 abbrev pub staged_by_eviction : Rules → Cache → List Staged
@@ -42,7 +43,7 @@ pub record HasQueueOn (store : PageStore) (site : State) : Type 0 where
   pub room : 1 ≤ (rules store).groups
 
 -- A call beside which at most these frames are staged, and groups appended below this number, whatever the log has: a
--- crash meanwhile leaves no more than that. At Ok the disk has the frames that were staged last.
+-- crash meanwhile leaves no more than that. At Ok the disk has the frames that were staged last, by their calls alone.
 pub record Stages {T : Type 0} (result : Result T Stop) (staged : List Staged) (next : ℕ) (old new : PageStore)
     (before now : State) : Type 0 where
   pub holds : HasQueueOn old before → OnOk result (HasQueueOn new now)
@@ -51,4 +52,6 @@ pub record Stages {T : Type 0} (result : Result T Stop) (staged : List Staged) (
       → LeavesOnly before now (λ s. WritesOnly old.flash.geometry staged next before.image s.image)
   pub last : HasQueueOn old before → IsQuiet before
       → OnOk result (HasLastStaged old.flash.geometry staged before now)
+  pub counted : HasQueueOn old before → IsQuiet before
+      → OnOk result (CallsForStaged staged old.flash.directory.first new.flash.directory.first before now)
   pub sizes : new.flash.geometry ≡ old.flash.geometry

@@ -9,7 +9,7 @@ use Rattle.log_records.specs.Unfinished.{left_open, losers}
 use Rattle.image_meaning.specs.Meaning.{versions_on}
 use Rattle.image_form.specs.Octets.{AreVersions}
 use Rattle.image_check.specs.declared.chains.Chains.{Chains}
-use Rattle.image_check.specs.declared.unfinished.Left.{Left}
+use Rattle.log_judge.specs.declared.unfinished.Left.{Left}
 use Rattle.image_check.specs.Filling.{AreKept, HaveRoom, Opens, left_in, opened, put_back_by}
 use Rattle.image_check.proofs.FilledOnes.{Leaving, leaving_first, leaving_chain, chain_fails, left_room, left_txns, all_listed}
 use Rattle.image_check.proofs.ShownOnes.{versions_later}

@@ -6,11 +6,11 @@ use Rattle.log_records.specs.Log.{Entry}
 use Rattle.log_records.specs.Unfinished.{losers}
 use Rattle.image_meaning.specs.Meaning.{versions_on}
 use Rattle.image_form.specs.Octets.{AreVersions}
-use Rattle.image_check.specs.declared.unfinished.Left.{Left}
+use Rattle.log_judge.specs.declared.unfinished.Left.{Left}
 use Rattle.image_check.specs.Filling.{AreKept, HaveRoom, KeepsOpen, opened, put_back_by}
 use Rattle.image_check.specs.Judging.{MayBeJudged}
 use Rattle.image_check.specs.Showing.{FindsVersions}
-use Rattle.image_check.specs.Unended.{AreLeft}
+use Rattle.log_judge.specs.Unended.{AreLeft}
 use Rattle.image_check.proofs.FilledOnes.{Leaving}
 use Rattle.image_check.proofs.filling.find_crowded.Given as goal
 

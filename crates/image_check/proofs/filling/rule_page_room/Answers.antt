@@ -16,7 +16,7 @@ use Rattle.image_check.specs.Filling.{AreKept, HaveRoom, HearsLog, RedoneFits, o
 use Rattle.log_records.specs.Unfinished.{losers}
 use Rattle.image_check.specs.Judging.{Sees, reading_of, records_of}
 use Rattle.image_check.specs.Showing.{FindsVersions}
-use Rattle.image_check.specs.Unended.{AreLeft}
+use Rattle.log_judge.specs.Unended.{AreLeft}
 use Rattle.image_check.proofs.FilledOnes.{both_of_rule, filled_is, keeps_open, kept_as, rule_of_both, shown_room, under}
 use Rattle.image_check.proofs.ShownOnes.{versions_later}
 use Rattle.image_check.proofs.ValuesCounted.{shows_some, none_found}

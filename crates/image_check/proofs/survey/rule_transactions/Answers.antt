@@ -9,7 +9,7 @@ use Rattle.checkpoint.specs.Newest.{seen}
 use Rattle.image_form.specs.Walking.{to_go}
 use Rattle.image_form.specs.Verdict.{logical_image_of}
 use Rattle.image_check.specs.Judging.{reading_of}
-use Rattle.image_check.proofs.OpenOnes.{third_at, third_of}
+use Rattle.image_check.proofs.Surveyed.{third_at, third_of}
 use Rattle.image_check.proofs.Surveyed.{comes, one_more}
 use Rattle.image_check.proofs.Walking.{in_order, walk_begins, walk_goes_on, judged_at, judged_end, reads_lacked}
 use Rattle.image_check.proofs.survey.rule_transactions.Goals as goal

@@ -1,21 +1,7 @@
-use Rattle.std.specs.Prelude.{Ok, slice_index}
-use Rattle.std.proofs.Common.{inl, rules, refl, ◌≡◌, ◌∙◌, ◌≤◌, ◌∷◌, List, [], ℕ, length, arith, sym, ap, subst}
-use Rattle.std.proofs.lemmas.Result.{on_ok_weaker}
-use Rattle.std_lemmas.proofs.Results.{on_ok}
-use Rattle.site.specs.declared.outside.Dev.TheVariants.{Flash, Disk}
-use Rattle.site.specs.declared.geometry.Geometry.{Geometry}
-use Rattle.site.specs.State.{State, IsQuiet, MayStand}
-use Rattle.site.proofs.Working.{no_error}
-use Rattle.site.proofs.Laws.{each_weaker, leaves_weaker, untouched_leaves, settled_is, stays_honest, others_untouched, quiet_settled}
-use Rattle.site.specs.Moments.{OnlyDevice, SameAt, SameBut, Untouched}
-use Rattle.stage_out.specs.Staged.{HasStaged, calls_of}
-use Rattle.tail_rebuild.specs.Saving.{LeavesGaps}
-use Rattle.tail_rebuild.proofs.Save.{gaps_then, gaps_appended}
-use Rattle.stage_out.proofs.Unsynced.{unsynced_untouched}
+use Rattle.flash_cache.proofs.Names.{inl, rules, refl, ◌≡◌, ◌∙◌, ◌≤◌, ◌∷◌, List, [], ℕ, length, arith, sym, ap, subst, on_ok_weaker, Ok, slice_index, each_weaker, leaves_weaker, untouched_leaves, settled_is, stays_honest, others_untouched, quiet_settled, no_error, lengths_later, ok_as, OnlyDevice, SameAt, SameBut, Untouched, State, IsQuiet, MayStand, Geometry, Flash, Disk, unsynced_untouched, HasStaged, calls_of, on_ok, gaps_then, gaps_appended, LeavesGaps}
 use Rattle.flash_cache.proofs.PushLaws.{push_leaves, stage_only}
 use Rattle.flash_cache.proofs.NextSegments.{next_elsewhere, next_then}
 use Rattle.flash_cache.proofs.Staging.{goes_on_later, fits_on, pages_changed, pages_in_sequence, all_made}
-use Rattle.site.proofs.Working.{lengths_later, ok_as}
 use Rattle.flash_cache.proofs.SomeMoments.{some_first, some_of}
 use Rattle.flash_cache.proofs.cache.FlashCache.write.Goals as goal
 

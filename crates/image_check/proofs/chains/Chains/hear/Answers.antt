@@ -5,7 +5,7 @@ use Rattle.image_check.specs.declared.chain.Chain.{Chain}
 use Rattle.image_check.specs.declared.chains.Chains.{Chains}
 use Rattle.image_check.specs.Chaining.{Keeps, HearsOwn}
 use Rattle.image_check.proofs.StrayOnes.{chains_begin, chains_go_on, chains_break}
-use Rattle.image_check.proofs.Walking.{goes_well, memory_as}
+use Rattle.log_judge.proofs.Outcomes.{goes_well, memory_as}
 use Rattle.image_check.proofs.chains.Chains.hear.Goals as goal
 use Rattle.image_check.proofs.chains.Chains.hear.Goals.{In-Ok}
 

@@ -5,16 +5,16 @@ use Rattle.log_records.specs.Unfinished.{losers}
 use Rattle.image_check.proofs.StrayOnes.{chains_same}
 use Rattle.image_check.proofs.filling.Filling.hear.Goals as goal
 
-pub returns-then-not-has-clause-heard : goal.returns-then-not-has-clause-heard
-returns-then-not-has-clause-heard g c log records finds versions at left is =
+pub returns-then-not-is_left-clause-heard : goal.returns-then-not-is_left-clause-heard
+returns-then-not-is_left-clause-heard g c log records finds versions at left is =
     let e : Entry = record { lsn = c.args.lsn; rec = c.args.rec } in
     let fills = c.in-Ok.ensures.heard records finds versions is.lengths in
-    let unlisted : list_any (λ t. t == txn_of e) (losers log) ≡ false = ap (λ (n : ℕ). list_any (λ t. t == n) (losers log)) (sym c.txn_of.ensures) ∙ sym (c.has.ensures log left) ∙ c.if-not-has.true in
+    let unlisted : list_any (λ t. t == txn_of e) (losers log) ≡ false = ap (λ (n : ℕ). list_any (λ t. t == n) (losers log)) (sym c.txn_of.ensures) ∙ sym (c.is_left.ensures log left) ∙ c.if-not-is_left.true in
     (record { lengths = fills.kept_so; chains = chains_same log records e c.args.self.now.chains unlisted is.chains }, fills.fits_so)
 
 pub returns-clause-heard : goal.returns-clause-heard
 returns-clause-heard g c log records finds versions at left is =
     let e : Entry = record { lsn = c.args.lsn; rec = c.args.rec } in
     let fills = c.in-Ok.ensures.heard records finds versions is.lengths in
-    let listed : list_any (λ t. t == txn_of e) (losers log) ≡ true = ap (λ (n : ℕ). list_any (λ t. t == n) (losers log)) (sym c.txn_of.ensures) ∙ sym (c.has.ensures log left) ∙ c.if-not-has.false in
+    let listed : list_any (λ t. t == txn_of e) (losers log) ≡ true = ap (λ (n : ℕ). list_any (λ t. t == n) (losers log)) (sym c.txn_of.ensures) ∙ sym (c.is_left.ensures log left) ∙ c.if-not-is_left.false in
     (record { lengths = fills.kept_so; chains = c.in_default.ensures.done log records at listed is.chains }, fills.fits_so)

@@ -4,7 +4,7 @@ use Rattle.image_meaning.specs.Meaning.{versions_on}
 use Rattle.log_records.specs.Sound.{HaveBegunBefore}
 use Rattle.image_check.specs.Judging.{records_of}
 use Rattle.image_check.specs.Showing.{FindsVersions}
-use Rattle.image_check.specs.Unended.{AreLeft}
+use Rattle.log_judge.specs.Unended.{AreLeft}
 use Rattle.image_check.proofs.FilledOnes.{FilledSoFar}
 use Rattle.image_check.proofs.Walking.{WalksOver}
 use Rattle.image_check.proofs.filling.Filling.of_log.Given as goal

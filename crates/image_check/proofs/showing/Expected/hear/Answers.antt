@@ -5,7 +5,7 @@ use Rattle.record_model.specs.State.{Content}
 use Rattle.indexmap.specs.IndexMap.{get}
 use Rattle.log_records.specs.Log.{Entry, number_of}
 use Rattle.image_check.proofs.ShownOnes.{is_known, expected_same, expected_more, on_none, on_unknown}
-use Rattle.image_check.proofs.Walking.{goes_well}
+use Rattle.log_judge.proofs.Outcomes.{goes_well}
 use Rattle.image_check.proofs.showing.Expected.hear.Goals as goal
 
 pub returns-in_default : goal.returns-in_default

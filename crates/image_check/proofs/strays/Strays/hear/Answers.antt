@@ -4,7 +4,7 @@ use Rattle.std.proofs.lemmas.Bool.{cases_Bool, eqb-true}
 use Rattle.indexmap.specs.IndexMap.{get}
 use Rattle.log_records.specs.Log.{Entry, txn_of, is_closing}
 use Rattle.image_check.proofs.StrayOnes.{strays_more}
-use Rattle.image_check.proofs.Walking.{goes_well, memory_as}
+use Rattle.log_judge.proofs.Outcomes.{goes_well, memory_as}
 use Rattle.image_check.proofs.strays.Strays.hear.Goals as goal
 
 pub returns-then-closes : goal.returns-then-closes

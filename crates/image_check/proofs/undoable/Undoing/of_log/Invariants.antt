@@ -2,7 +2,7 @@ use Rattle.image_form.specs.Walking.{to_go}
 use Rattle.log_records.specs.Sound.{HaveBegunBefore}
 use Rattle.image_check.specs.Chaining.{IsUndoing}
 use Rattle.image_check.specs.Judging.{records_of}
-use Rattle.image_check.specs.Unended.{AreLeft}
+use Rattle.log_judge.specs.Unended.{AreLeft}
 use Rattle.image_check.proofs.Walking.{WalksOver}
 use Rattle.image_check.proofs.undoable.Undoing.of_log.Given as goal
 

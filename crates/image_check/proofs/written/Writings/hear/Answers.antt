@@ -6,7 +6,7 @@ use Rattle.log_records.specs.declared.log_record.LogRecord.TheVariants.{Begin, U
 use Rattle.image_check.specs.declared.written.Written.{Written}
 use Rattle.image_check.specs.declared.written.Writings.{Writings}
 use Rattle.image_check.specs.Writing.{AreWritten, before_by}
-use Rattle.image_check.proofs.Walking.{goes_well, memory_as}
+use Rattle.log_judge.proofs.Outcomes.{goes_well, memory_as}
 use Rattle.image_check.proofs.WrittenOnes.{written_begin, written_closed, written_on}
 use Rattle.image_check.proofs.written.Writings.hear.Goals as goal
 
