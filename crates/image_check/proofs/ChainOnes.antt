@@ -1,23 +1,7 @@
 -- One unfinished transaction after one record more.
 use Rattle.std.proofs.lemmas.Grind.{common_steps}
-use Rattle.std.proofs.Common.{◌≡◌, ℕ, ◌-◌, ◌==◌, nat_eq, Bool, true, false, cond, List, [], ◌∷◌, ◌++◌, length, map, take, drop, Option, Some, None, option_map, refl, sym, ap, subst, ◌∙◌, arith}
+use Rattle.image_check.proofs.Names.{◌≡◌, ℕ, ◌-◌, ◌==◌, nat_eq, Bool, true, false, cond, List, [], ◌∷◌, ◌++◌, length, map, take, drop, Option, Some, None, option_map, refl, sym, ap, subst, ◌∙◌, arith, append-nil, length-append, reverse-append, reverse-reverse, take_at, filter-append, same_Some, AreLast, IsKept, Keeps, begin_at, IsAs, Chain, IndexMap, get, InTurn-append, last_same, last_new, Entry, is_of, is_update, entries_of, number_of, before_of, after_of, last_on, Continues, ShowsLast, prev_of, LogRecord, Begin, Update, Clr, Commit, End, Content, option_or_none}
 use Rattle.std.specs.Prelude.{reverse}
-use Rattle.std.proofs.lemmas.List.{append-nil, length-append, reverse-append, reverse-reverse, take_at}
-use Rattle.std.proofs.lemmas.List.Elements.{filter-append}
-use Rattle.std.proofs.lemmas.Option.{same_Some}
-use Rattle.std_lemmas.proofs.Options.{option_or_none}
-use Rattle.indexmap.specs.IndexMap.{IndexMap, get}
-use Rattle.record_model.specs.State.{Content}
-use Rattle.log_records.specs.declared.log_record.LogRecord.{LogRecord}
-use Rattle.log_records.specs.declared.log_record.LogRecord.TheVariants.{Begin, Update, Clr, Commit, End}
-use Rattle.log_records.specs.Log.{Entry, is_of, is_update, entries_of, number_of, before_of, after_of, last_on}
-use Rattle.log_records.specs.Unfinished.{prev_of}
-use Rattle.log_records.specs.Sound.{Continues, ShowsLast}
-use Rattle.log_laws.proofs.Orders.{InTurn-append}
-use Rattle.log_laws.proofs.Values.{last_same, last_new}
-use Rattle.image_check.specs.declared.chain.Chain.{Chain}
-use Rattle.image_check.specs.Chaining.{AreLast, IsKept, Keeps, begin_at}
-use Rattle.image_check.specs.Showing.{IsAs}
 use Rattle.log_judge.proofs.ChainOnes.{last_push, open_push, undoes_none}
 
 -- One record more.

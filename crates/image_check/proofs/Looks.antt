@@ -1,13 +1,6 @@
 -- What is read of versions where each is read once.
-use Rattle.std.proofs.Common.{◌≡◌, ◌==◌, ℕ, zero, suc, ◌+◌, ◌≤◌, ◌<◌, inl, inr, Bool, true, false, cond, nat_eq, Option, Some, is_some, Ok, Err, sym, ap, ◌∙◌, subst, arith}
-use Rattle.std.specs.Prelude.{Result, OnOk}
-use Rattle.std.proofs.lemmas.Bool.{cases_eq, eq-eqb}
-use Rattle.indexmap.specs.IndexMap.{IndexMap, get}
-use Rattle.site.specs.declared.outside.Stop.{Stop}
-use Rattle.site.specs.State.{State}
-use Rattle.image_form.specs.Counted.{ReadsAtMost}
-use Rattle.image_form.proofs.Counts.{few_more}
-use Rattle.image_check.specs.Looking.{LooksOnce, without}
+use Rattle.image_check.proofs.Names.{◌≡◌, ◌==◌, ℕ, zero, suc, ◌+◌, ◌≤◌, ◌<◌, inl, inr, Bool, true, false, cond, nat_eq, Option, Some, Err, sym, ap, ◌∙◌, subst, arith, cases_eq, eq-eqb, Result, OnOk, LooksOnce, without, few_more, ReadsAtMost, IndexMap, get, State, Stop}
+use Rattle.std.proofs.Common.{is_some, Ok}
 
 pub without_most : {X S : Type 0} (entries : IndexMap ℕ X S) (n : ℕ) → without entries n ≤ n
 without_most entries zero = omega arith

@@ -1,20 +1,10 @@
 -- What one walk over the kept blocks has found so far.
 use Rattle.std.proofs.lemmas.Grind.{common_steps}
-use Rattle.std.proofs.Common.{◌≡◌, ℕ, ◌+◌, ◌^◌, ◌≤◌, ◌<◌, List, [], ◌∷◌, ◌++◌, length, arith}
+use Rattle.image_check.proofs.Names.{◌≡◌, ℕ, ◌+◌, ◌^◌, ◌≤◌, ◌<◌, List, [], ◌∷◌, ◌++◌, length, arith, length-append, Survey, RecordsFollowBegins, Comes, fresh_of, InTurn-append, InTurn-all, InTurn-weaker, all_below, InTurn-right, in_order_left, Entry, LogicalImage, InTurn, IsInOrder, all_right}
 use Rattle.lsn_set.specs.declared.lsn_set.LsnSet.{LsnSet}
-use Rattle.std.proofs.lemmas.List.{length-append}
-use Rattle.log_records.specs.Log.{Entry}
-use Rattle.log_records.specs.Sound.{Master, LogicalImage, InTurn, IsInOrder}
-use Rattle.log_laws.proofs.Orders.{InTurn-append, InTurn-all, InTurn-weaker}
-use Rattle.image_check.specs.declared.survey.Survey.{Survey}
+use Rattle.log_records.specs.Sound.{Master}
 use Rattle.log_judge.specs.Opening.{AreOpen, MayStand}
 use Rattle.image_check.specs.Surveying.{Surveys}
-use Rattle.log_judge.specs.Unended.{Comes}
-use Rattle.log_laws.proofs.Parts.{all_below, InTurn-right}
-use Rattle.std_lemmas.proofs.AllOf.{all_right}
-use Rattle.image_form.specs.Verdict.{RecordsFollowBegins}
-use Rattle.log_records.proofs.Entries.{in_order_left}
-use Rattle.log_laws.proofs.Orderly.{fresh_of}
 
 -- the records so far follow the third rule and are fewer than what was to be read; the open transactions are known, and what they leave
 pub record SurveyedSoFar (m : Master) (most : ℕ) (txns : LsnSet) (survey : Survey) (records : List Entry) : Type 0 where

@@ -1,26 +1,12 @@
 -- Calls that only read, one after the other, and walks over the log that was found.
 use Rattle.std.proofs.lemmas.Grind.{common_steps}
-use Rattle.std.proofs.Common.{◌≡◌, ℕ, ◌+◌, ◌*◌, ◌≤◌, List, [], ◌∷◌, ◌++◌, length, sym, ap, ◌∙◌, subst, arith}
-use Rattle.std.specs.Prelude.{Option, Some, None, Ok, Err, IfSome}
-use Rattle.site.specs.declared.outside.Stop.{Stop}
+use Rattle.image_check.proofs.Names.{◌≡◌, ℕ, ◌+◌, ◌*◌, ◌≤◌, List, [], ◌∷◌, ◌++◌, length, sym, ap, ◌∙◌, subst, arith, Ok, IfSome, MayBeJudged, Sees, JudgesBy, records_of, kept_blocks, log_in_order, may_be_read_later, ReadsAtMost, MayWalk, StandsBefore, Gives, unread, Found, Entry, IsInOrder, LogRecord, Finds, HasBlocks, looks_then, looks_answered, State, Image, OnlyReads, Stop}
+use Rattle.std.specs.Prelude.{Option, Some, None, Err}
 use Rattle.site.specs.declared.outside.Stop.TheVariants.{Memory}
-use Rattle.site.specs.State.{State, Image}
-use Rattle.site.specs.Work.{OnlyReads}
-use Rattle.site.proofs.Working.{looks_then, looks_answered}
-use Rattle.log_records.specs.declared.log_record.LogRecord.{LogRecord}
-use Rattle.log_records.specs.Log.{Entry}
-use Rattle.log_records.specs.Sound.{IsInOrder}
 use Rattle.log_store.specs.declared.store.LogStore.{LogStore}
-use Rattle.log_store.specs.Representation.{Finds, HasBlocks}
-use Rattle.image_form.specs.declared.formed.Found.{Found}
 use Rattle.image_form.specs.declared.walk.Walk.{Walk}
-use Rattle.image_form.specs.Counted.{ReadsAtMost}
-use Rattle.image_form.specs.Walking.{MayWalk, StandsBefore, Gives, unread}
-use Rattle.image_form.proofs.BlockLists.{log_in_order}
 use Rattle.image_form.proofs.BlocksJudged.{finds_later}
-use Rattle.image_form.proofs.FirstRule.{may_be_read_later}
 use Rattle.image_form.proofs.Walks.{Walked, walked_none, walked_more, walked_all, gives_at}
-use Rattle.image_check.specs.Judging.{MayBeJudged, Sees, JudgesBy, records_of, kept_blocks}
 
 -- What was found is there after calls that only read.
 

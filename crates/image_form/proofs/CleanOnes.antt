@@ -1,29 +1,8 @@
 -- Frames that aren't dirty, group by group.
-use Rattle.std.proofs.Common.{◌≡◌, ℕ, zero, suc, ◌+◌, ◌*◌, ◌<◌, ◌≤◌, true, List, [], ◌∷◌, get_or, take, drop, Some, None, refl, sym, ap, ◌∙◌, subst, arith}
-use Rattle.std.specs.Prelude.{Option, slice_get}
-use Rattle.std.specs.List.{AllByRecursion}
-use Rattle.std.proofs.lemmas.Option.{none-some, slice_get_within, slice_get-get_or, get_or_from_slice_get}
-use Rattle.site.specs.declared.geometry.Geometry.{Geometry}
-use Rattle.site.specs.State.{Image}
-use Rattle.sealed_ring.specs.Ring.{IsLive, hi_of}
-use Rattle.image_changes.specs.Rings.{group_shape}
-use Rattle.byte_fields.specs.declared.frame_head.FrameHead.{FrameHead}
-use Rattle.byte_fields.specs.FrameHeads.{blank}
-use Rattle.frame_group.specs.declared.group.TheConstants.{PAGE_LEN, HEADS_LEN}
-use Rattle.frame_group.specs.Groups.{Frame, head_of, heads_of, frames_in, IsGroup}
-use Rattle.frame_group.proofs.Front.{heads_are_group}
+use Rattle.image_form.proofs.Names.{◌≡◌, ℕ, zero, suc, ◌+◌, ◌*◌, ◌<◌, ◌≤◌, true, List, [], ◌∷◌, get_or, take, drop, None, refl, sym, ap, ◌∙◌, subst, arith, none-some, slice_get_within, slice_get-get_or, get_or_from_slice_get, AllByRecursion, Option, slice_get, present_are_first, blank, FrameHead, disk_on, frames_on, IsCleanOn, newest, place_in, heads_are_group, pages_stand, Frame, head_of, heads_of, frames_in, IsGroup, PAGE_LEN, HEADS_LEN, group_shape, IsCleanFrame, ShowsFrames, IsGroupOn, AreGroups, IsFrameOf, IsLive, hi_of, Queue, Image, Geometry, group_on}
+use Rattle.std.proofs.Common.{Some}
 use Rattle.frame_group.proofs.LastFrames.{last_is_of_page}
-use Rattle.frame_group.proofs.Pages.{pages_stand}
-use Rattle.byte_fields.proofs.GroupHeads.{present_are_first}
-use Rattle.second_chance.specs.Queue.{Queue}
 use Rattle.flash_directory.specs.declared.place.Place.{Place}
-use Rattle.flash_directory.specs.Heads.{newest, place_in}
-use Rattle.flash_cache.specs.Representation.{disk_on, frames_on, IsCleanOn}
-use Rattle.tail_rebuild.specs.Standing.{group_on}
-use Rattle.image_meaning.specs.Meaning.{IsFrameOf}
-use Rattle.image_form.specs.Octets.{IsGroupOn, AreGroups}
-use Rattle.image_form.specs.Framing.{IsCleanFrame}
-use Rattle.image_form.specs.Newest.{ShowsFrames}
 use Rattle.image_form.proofs.GroupsRead.{no_frame, head_is, frames_count}
 use Rattle.image_form.proofs.NewestRead.{no_newest, stands_newest}
 

@@ -1,17 +1,7 @@
 -- Calls that only read, by how often they do.
-use Rattle.std.proofs.Common.{◌≡◌, ◌≢◌, ℕ, ◌+◌, ◌*◌, ◌/◌, ◌≤◌, Bool, true, false, true≢false, refl, ap, sym, ◌∙◌, subst, arith}
-use Rattle.std.specs.Prelude.{Result}
+use Rattle.image_form.proofs.Names.{◌≡◌, ◌≢◌, ℕ, ◌+◌, ◌*◌, ◌/◌, ◌≤◌, Bool, true, false, true≢false, refl, ap, sym, ◌∙◌, subst, arith, Result, log_shape, group_shape, segment_shape, ReadsAtMost, ReadsBySizes, HasSizes, Shape, Preserves, State, reads_of, Geometry, Log, Flash, Disk, Stop}
 use Rattle.site.specs.declared.outside.Dev.{Dev}
-use Rattle.site.specs.declared.outside.Dev.TheVariants.{Log, Flash, Disk}
-use Rattle.site.specs.declared.outside.Stop.{Stop}
-use Rattle.site.specs.declared.geometry.Geometry.{Geometry}
-use Rattle.site.specs.State.{State, reads_of}
-use Rattle.site.specs.Calls.{Preserves}
-use Rattle.sealed_ring.specs.declared.slots.Shape.{Shape}
 use Rattle.sealed_ring.specs.Reading.{ReadsFrom}
-use Rattle.image_changes.specs.Rings.{log_shape, group_shape, segment_shape}
-use Rattle.image_form.specs.Octets.{HasSizes}
-use Rattle.image_form.specs.Counted.{ReadsAtMost, ReadsBySizes}
 use Rattle.image_form.proofs.FirstRule.{one_size}
 
 -- one call behind another, and a greater bound

@@ -1,3 +1,4 @@
+mod Names
 pub mod BlocksJudged
 pub mod Lasting
 pub mod LiveUnits

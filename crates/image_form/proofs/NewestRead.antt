@@ -1,32 +1,14 @@
 -- The queue of the live groups' frames, and the versions that it leads to.
 use Rattle.std.proofs.lemmas.Grind.{common_steps}
-use Rattle.std.proofs.Common.{◌≡◌, ℕ, zero, suc, ◌+◌, ◌-◌, ◌*◌, ◌%◌, ◌≤◌, ◌<◌, List, [], ◌∷◌, ◌++◌, length, get_or, map, take, drop, Option, Some, None, option_map, refl, sym, ap, subst, ◌∙◌, arith}
-use Rattle.std.proofs.lemmas.List.{length-map, length-append, map-append, get_or-map}
-use Rattle.std.proofs.lemmas.Option.{none-some}
-use Rattle.site.specs.declared.geometry.Geometry.{Geometry}
-use Rattle.site.specs.State.{Image}
-use Rattle.sealed_ring.specs.Ring.{IsLive, hi_of, content_at, units_from}
-use Rattle.sealed_ring.proofs.Heads.{unit_is}
-use Rattle.sealed_ring.proofs.Units.{live_count}
-use Rattle.image_changes.specs.Rings.{group_shape, units_on}
-use Rattle.byte_fields.specs.declared.frame_head.FrameHead.{FrameHead}
-use Rattle.byte_fields.specs.FrameHeads.{AreGroupHeads}
-use Rattle.std.specs.Prelude.{IfSome, All}
-use Rattle.frame_group.specs.Groups.{Frame, heads_of, frames_in, IsGroup}
+use Rattle.image_form.proofs.Names.{◌≡◌, ℕ, zero, suc, ◌+◌, ◌-◌, ◌*◌, ◌%◌, ◌≤◌, ◌<◌, List, [], ◌∷◌, ◌++◌, length, get_or, map, take, drop, None, option_map, refl, sym, ap, subst, ◌∙◌, arith, length-map, length-append, map-append, get_or-map, none-some, IfSome, AreGroupHeads, FrameHead, AllTogether, Shows, disk_on, groups_on, frames_on, version_on, last_place, newest, known_in, frames_are_in, pages_stand, Frame, heads_of, frames_in, IsGroup, group_shape, units_on, ShowsFrames, AreGroups, unit_is, live_count, IsLive, hi_of, content_at, units_from, Queue, Image, Geometry, group_on}
+use Rattle.std.proofs.Common.{Option, Some}
+use Rattle.std.specs.Prelude.{All}
 use Rattle.frame_group.specs.Versions.{frames_of, last_frame, version_by}
-use Rattle.frame_group.proofs.Contents.{frames_are_in}
-use Rattle.frame_group.proofs.Pages.{pages_stand}
-use Rattle.second_chance.specs.Queue.{Queue}
 use Rattle.flash_directory.specs.declared.place.Place.{Place}
-use Rattle.flash_directory.specs.Heads.{last_place, newest, frames_in as known_in}
 use Rattle.flash_directory.proofs.Newest.{placed, last_among-place}
-use Rattle.flash_cache.specs.Representation.{AllTogether, Shows, disk_on, groups_on, frames_on, version_on}
 use Rattle.flash_cache.proofs.Fetching.{newest_at}
 use Rattle.flash_cache.proofs.Queues.{joined, last_of_groups, together_length, together_at}
 use Rattle.flash_cache.proofs.Standing.{known_groups, all_shown}
-use Rattle.tail_rebuild.specs.Standing.{group_on}
-use Rattle.image_form.specs.Octets.{AreGroups}
-use Rattle.image_form.specs.Newest.{ShowsFrames}
 use Rattle.image_form.proofs.GroupsRead.{no_frame}
 use Rattle.sealed_ring.proofs.Alters.{units_push}
 

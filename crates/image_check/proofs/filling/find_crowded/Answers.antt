@@ -1,16 +1,6 @@
-use Rattle.std.proofs.Common.{◌≡◌, ◌==◌, ◌++◌, ◌∷◌, [], ℕ, List, true, true≢false, map, nat_eq, reverse, is_none, refl, rules, sym, ap, ◌∙◌, subst, Ok, Err, arith}
+use Rattle.image_check.proofs.Names.{◌≡◌, ◌==◌, ◌++◌, ◌∷◌, [], ℕ, List, true, true≢false, map, nat_eq, reverse, refl, rules, sym, ap, ◌∙◌, subst, Err, arith, AllByRecursion, list_any, AreKept, HaveRoom, Opens, left_in, opened, put_back_by, Chains, AreVersions, versions_on, get, Left, Entry, left_open, losers, looks_then, looks_answered, State, Image}
+use Rattle.std.proofs.Common.{is_none, Ok}
 use Rattle.std.specs.Prelude.{Some}
-use Rattle.std.specs.List.{AllByRecursion, list_any}
-use Rattle.site.specs.State.{State, Image}
-use Rattle.site.proofs.Working.{looks_then, looks_answered}
-use Rattle.indexmap.specs.IndexMap.{get}
-use Rattle.log_records.specs.Log.{Entry}
-use Rattle.log_records.specs.Unfinished.{left_open, losers}
-use Rattle.image_meaning.specs.Meaning.{versions_on}
-use Rattle.image_form.specs.Octets.{AreVersions}
-use Rattle.image_check.specs.declared.chains.Chains.{Chains}
-use Rattle.log_judge.specs.declared.unfinished.Left.{Left}
-use Rattle.image_check.specs.Filling.{AreKept, HaveRoom, Opens, left_in, opened, put_back_by}
 use Rattle.image_check.proofs.Looks.{looked_none, looked_failed, looked_answered, looked_then}
 use Rattle.image_check.proofs.FilledOnes.{Leaving, leaving_first, leaving_chain, chain_fails, left_room, left_txns, all_listed}
 use Rattle.image_check.proofs.ShownOnes.{versions_later}

@@ -1,17 +1,4 @@
-use Rattle.std.proofs.Common.{◌≡◌, ◌==◌, ℕ, List, [], true, map}
-use Rattle.std.specs.Prelude.{Ok}
-use Rattle.std.specs.List.{AllByRecursion, list_any}
-use Rattle.site.specs.Work.{OnlyReads}
-use Rattle.log_records.specs.Log.{Entry}
-use Rattle.log_records.specs.Unfinished.{losers}
-use Rattle.image_meaning.specs.Meaning.{versions_on}
-use Rattle.image_form.specs.Octets.{AreVersions}
-use Rattle.log_judge.specs.declared.unfinished.Left.{Left}
-use Rattle.image_check.specs.Filling.{AreKept, HaveRoom, KeepsOpen, opened, put_back_by}
-use Rattle.image_check.specs.Looking.{LooksOnce}
-use Rattle.image_check.specs.Judging.{MayBeJudged}
-use Rattle.image_check.specs.Showing.{FindsVersions}
-use Rattle.log_judge.specs.Unended.{AreLeft}
+use Rattle.image_check.proofs.Names.{◌≡◌, ◌==◌, ℕ, List, [], true, map, AllByRecursion, list_any, Ok, AreKept, HaveRoom, KeepsOpen, opened, put_back_by, MayBeJudged, LooksOnce, FindsVersions, AreVersions, versions_on, AreLeft, Left, Entry, losers, OnlyReads}
 use Rattle.image_check.proofs.FilledOnes.{Leaving}
 use Rattle.image_check.proofs.filling.find_crowded.Given as goal
 

@@ -1,12 +1,5 @@
-use Rattle.std.proofs.Common.{◌≡◌, ◌-◌, ◌++◌, ◌∷◌, [], ℕ, List, suc, true≢false, length, take, reverse, refl, rules, sym, ap, ◌∙◌, subst, arith, Ok, Err, None}
-use Rattle.std.proofs.lemmas.List.{take_all}
-use Rattle.site.specs.State.{State, Image}
-use Rattle.site.proofs.Working.{looks_then, looks_answered}
-use Rattle.log_records.specs.declared.log_record.LogRecord.{LogRecord}
-use Rattle.log_records.specs.Log.{number_of}
-use Rattle.image_meaning.specs.Meaning.{versions_on}
-use Rattle.image_form.specs.Octets.{AreVersions}
-use Rattle.image_check.specs.Filling.{AreKept, Fills, opened}
+use Rattle.image_check.proofs.Names.{◌≡◌, ◌-◌, ◌++◌, ◌∷◌, [], ℕ, List, suc, true≢false, length, take, reverse, refl, rules, sym, ap, ◌∙◌, subst, arith, Err, None, take_all, AreKept, Fills, opened, AreVersions, versions_on, number_of, LogRecord, looks_then, looks_answered, State, Image}
+use Rattle.std.proofs.Common.{Ok}
 use Rattle.image_check.proofs.Looks.{looked_none, looked_failed, looked_answered, looked_then}
 use Rattle.image_check.proofs.FilledOnes.{Leaving, leaving_first, leaving_more, leaving_fails, left_kept, left_room, last_first}
 use Rattle.image_check.proofs.ShownOnes.{versions_later}

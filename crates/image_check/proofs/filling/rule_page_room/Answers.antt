@@ -1,33 +1,13 @@
-use Rattle.std.proofs.Common.{rules, ◌≡◌, ◌↔◌, IsTrue, List, [], true≢false, sym, ap, ◌∙◌, subst, arith, ◌+◌, ◌*◌}
-use Rattle.std.specs.Prelude.{Result, Some, IfOk, IfSome, IfNone, is_none, is_ok}
-use Rattle.site.specs.declared.geometry.Geometry.{Geometry}
-use Rattle.site.specs.State.{State, Image}
-use Rattle.site.proofs.Working.{looks_then, looks_answered, looks_failed}
-use Rattle.log_records.specs.declared.log_record.LogRecord.{LogRecord}
-use Rattle.image_form.specs.declared.place.Place.{Place}
-use Rattle.image_form.specs.Octets.{AreGroups, AreVersions}
-use Rattle.image_form.specs.Findings.{AreFound}
-use Rattle.image_form.specs.Newest.{ShowsFrames}
-use Rattle.image_form.specs.Verdict.{OctetsAreFormed, RecordsFollowBegins, LosersCanBeUndone, VersionsFit, PagesHaveRoom, logical_image_of}
-use Rattle.image_form.proofs.FirstRule.{answers_as}
-use Rattle.image_form.proofs.NewestRead.{shown_some}
-use Rattle.image_meaning.specs.Meaning.{versions_on}
-use Rattle.image_check.specs.declared.filling.Filling.{Filling}
-use Rattle.image_check.specs.Filling.{AreKept, HaveRoom, HearsLog, RedoneFits, opened, put_back_by}
-use Rattle.log_records.specs.Unfinished.{losers}
-use Rattle.image_check.specs.Judging.{Sees, kept_blocks, reading_of, records_of}
-use Rattle.image_check.specs.Showing.{FindsVersions}
-use Rattle.log_judge.specs.Unended.{AreLeft}
-use Rattle.image_form.proofs.Counts.{few_more, few_then}
-use Rattle.image_check.specs.Looking.{without}
+use Rattle.image_check.proofs.Names.{rules, ◌≡◌, ◌↔◌, IsTrue, List, [], true≢false, sym, ap, ◌∙◌, subst, arith, ◌+◌, ◌*◌, Result, IfOk, IfSome, IfNone, is_none, is_ok, AreKept, HaveRoom, HearsLog, RedoneFits, opened, put_back_by, Sees, kept_blocks, reading_of, records_of, without, FindsVersions, Filling, few_more, few_then, answers_as, shown_some, AreFound, ShowsFrames, AreGroups, AreVersions, OctetsAreFormed, RecordsFollowBegins, LosersCanBeUndone, VersionsFit, PagesHaveRoom, logical_image_of, Place, versions_on, AreLeft, losers, LogRecord, looks_then, looks_answered, looks_failed, State, Image, Geometry}
+use Rattle.std.specs.Prelude.{Some}
 use Rattle.image_check.proofs.Looks.{without_most}
 use Rattle.image_check.proofs.FilledOnes.{both_of_rule, filled_is, keeps_open, kept_as, rule_of_both, shown_room, under}
 use Rattle.image_check.proofs.ShownOnes.{versions_later}
 use Rattle.image_check.proofs.ValuesCounted.{none_found}
 use Rattle.image_check.proofs.Walking.{in_order, may_later, sees_later}
 use Rattle.image_check.proofs.filling.rule_page_room.Given.{Over}
-use Rattle.image_check.proofs.filling.rule_page_room.Goals as goal
 use Rattle.image_check.proofs.filling.rule_page_room.Goals.{In-Ok-Some}
+use Rattle.image_check.proofs.filling.rule_page_room.Goals as goal
 
 pub returns-in-Ok-None : goal.returns-in-Ok-None
 returns-in-Ok-None g c = record {

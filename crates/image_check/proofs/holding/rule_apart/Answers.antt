@@ -1,9 +1,4 @@
-use Rattle.std.proofs.Common.{rules, None, true≢false, refl, sym, ◌∙◌, subst}
-use Rattle.std.proofs.lemmas.Result.{err_from_is_err_and}
-use Rattle.site.proofs.Working.{looks_then, looks_failed}
-use Rattle.log_records.specs.Sound.{Pairwise, HoldsOff}
-use Rattle.image_form.specs.Verdict.{logical_image_of}
-use Rattle.image_check.specs.Judging.{reading_of, records_of}
+use Rattle.image_check.proofs.Names.{rules, None, true≢false, refl, sym, ◌∙◌, subst, err_from_is_err_and, reading_of, records_of, logical_image_of, Pairwise, HoldsOff, looks_then, looks_failed}
 use Rattle.image_check.proofs.HeldOnes.{held_none, listed, apart_none, none_apart, pairwise_push, pairwise_at}
 use Rattle.image_check.proofs.Walking.{reads_lacked, walk_begins, walk_goes_on, judged_at, judged_end, walk_few}
 use Rattle.image_check.proofs.holding.rule_apart.Goals as goal

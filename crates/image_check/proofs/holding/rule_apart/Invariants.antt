@@ -1,7 +1,4 @@
-use Rattle.image_form.specs.Walking.{to_go}
-use Rattle.image_form.specs.Verdict.{LosersCanBeUndone, logical_image_of}
-use Rattle.image_check.specs.Judging.{reading_of, records_of}
-use Rattle.log_judge.specs.Unended.{AreLeft}
+use Rattle.image_check.proofs.Names.{reading_of, records_of, LosersCanBeUndone, logical_image_of, to_go, AreLeft}
 use Rattle.image_check.proofs.HeldOnes.{Apart}
 use Rattle.image_check.proofs.Walking.{WalksOver}
 use Rattle.image_check.proofs.holding.rule_apart.Given as goal

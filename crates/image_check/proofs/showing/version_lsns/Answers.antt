@@ -1,10 +1,5 @@
-use Rattle.std.proofs.Common.{length, ◌∙◌, ap, arith, length-append, ◌+◌}
-use Rattle.site.specs.declared.geometry.Geometry.{Geometry}
-use Rattle.site.specs.State.{State, Image}
-use Rattle.site.proofs.Working.{looks_then, looks_answered}
-use Rattle.slotted_page.specs.Layout.{lsn_of}
-use Rattle.flash_cache.specs.Representation.{version_on}
-use Rattle.image_form.proofs.Counts.{few_then}
+use Rattle.image_check.proofs.Names.{length, ◌∙◌, ap, arith, ◌+◌, version_on, few_then, looks_then, looks_answered, State, Image, Geometry, lsn_of}
+use Rattle.std.proofs.Common.{length-append}
 use Rattle.image_check.proofs.ShownOnes.{versions_later, first_lsns, lsns_more}
 use Rattle.image_check.proofs.Walking.{may_later}
 use Rattle.image_check.proofs.showing.version_lsns.Goals as goal

@@ -1,9 +1,4 @@
-use Rattle.std.proofs.Common.{◌≡◌, length}
-use Rattle.std.specs.Prelude.{Ok}
-use Rattle.site.specs.Work.{OnlyReads}
-use Rattle.image_form.specs.Counted.{ReadsAtMost}
-use Rattle.image_check.specs.Judging.{MayBeJudged}
-use Rattle.image_check.specs.Showing.{FindsVersions}
+use Rattle.image_check.proofs.Names.{◌≡◌, length, Ok, MayBeJudged, FindsVersions, ReadsAtMost, OnlyReads}
 use Rattle.image_check.proofs.ShownOnes.{first_lsns}
 use Rattle.image_check.proofs.showing.version_lsns.Given as goal
 

@@ -1,16 +1,7 @@
-use Rattle.std.proofs.lemmas.Result.{err_from_is_err_and}
-use Rattle.site.proofs.Working.{looks_then, looks_failed}
-use Rattle.std.proofs.Common.{rules, ◌+◌, ◌*◌, List, length, ◌<◌, ℕ, true≢false, Err, Ok, refl, sym, ◌∙◌, subst, arith}
-use Rattle.std.specs.Prelude.{Option, IfSome}
-use Rattle.log_records.specs.declared.log_record.LogRecord.{LogRecord}
-use Rattle.log_records.specs.Log.{Entry}
-use Rattle.log_records.specs.Sound.{IsInOrder}
-use Rattle.checkpoint.specs.Newest.{seen}
-use Rattle.image_form.specs.Walking.{to_go}
-use Rattle.image_form.specs.Verdict.{logical_image_of}
-use Rattle.image_check.specs.Judging.{reading_of}
-use Rattle.image_check.proofs.Surveyed.{third_at, third_of}
-use Rattle.image_check.proofs.Surveyed.{comes, one_more}
+use Rattle.image_check.proofs.Names.{rules, ◌+◌, ◌*◌, List, length, ◌<◌, ℕ, true≢false, Err, refl, sym, ◌∙◌, subst, arith, err_from_is_err_and, IfSome, seen, reading_of, logical_image_of, to_go, Entry, IsInOrder, LogRecord, looks_then, looks_failed}
+use Rattle.std.proofs.Common.{Ok}
+use Rattle.std.specs.Prelude.{Option}
+use Rattle.image_check.proofs.Surveyed.{third_at, third_of, comes, one_more}
 use Rattle.image_check.proofs.Walking.{in_order, walk_begins, walk_goes_on, judged_at, judged_end, reads_lacked, walk_few}
 use Rattle.image_check.proofs.survey.rule_transactions.Goals as goal
 

@@ -1,5 +1,4 @@
-use Rattle.checkpoint.specs.Newest.{seen}
-use Rattle.image_form.specs.Walking.{to_go}
+use Rattle.image_check.proofs.Names.{seen, to_go}
 use Rattle.image_check.proofs.Surveyed.{SurveyedSoFar}
 use Rattle.image_check.proofs.Walking.{WalksOver}
 use Rattle.image_check.proofs.survey.rule_transactions.Given as goal

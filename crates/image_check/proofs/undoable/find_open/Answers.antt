@@ -1,12 +1,4 @@
-use Rattle.std.proofs.Common.{rules, ◌≡◌, ◌==◌, ◌&&◌, ℕ, Bool, true, false, true≢false, not, nat_eq, cond, refl, sym, ap, ◌∙◌}
-use Rattle.std.specs.Prelude.{is_some}
-use Rattle.std.proofs.lemmas.Bool.{and_parts, not-true}
-use Rattle.std.proofs.lemmas.Result.{err_from_is_err_and}
-use Rattle.std_lemmas.proofs.Bools.{and_true}
-use Rattle.indexmap.specs.IndexMap.{get}
-use Rattle.site.proofs.Working.{looks_then, looks_failed}
-use Rattle.log_records.specs.Log.{Entry, txn_of, is_closed, is_closing}
-use Rattle.image_check.specs.Judging.{records_of}
+use Rattle.image_check.proofs.Names.{rules, ◌≡◌, ◌==◌, ◌&&◌, ℕ, Bool, true, false, true≢false, not, nat_eq, cond, refl, sym, ap, ◌∙◌, and_parts, not-true, err_from_is_err_and, is_some, records_of, get, Entry, txn_of, is_closed, is_closing, looks_then, looks_failed, and_true}
 use Rattle.image_check.proofs.StrayOnes.{closing_more}
 use Rattle.image_check.proofs.Walking.{walk_begins, walk_goes_on, judged_end, walk_few}
 use Rattle.image_check.proofs.undoable.find_open.Goals as goal

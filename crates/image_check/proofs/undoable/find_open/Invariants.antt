@@ -1,8 +1,4 @@
-use Rattle.std.proofs.Common.{◌≡◌, ◌&&◌, ℕ, nat_eq, not}
-use Rattle.std.specs.Prelude.{is_some}
-use Rattle.indexmap.specs.IndexMap.{get}
-use Rattle.log_records.specs.Log.{is_closed}
-use Rattle.image_form.specs.Walking.{to_go}
+use Rattle.image_check.proofs.Names.{◌≡◌, ◌&&◌, ℕ, nat_eq, not, is_some, to_go, get, is_closed}
 use Rattle.image_check.proofs.Walking.{WalksOver}
 use Rattle.image_check.proofs.undoable.find_open.Given as goal
 

@@ -1,12 +1,4 @@
-use Rattle.std.proofs.Common.{◌*◌, arith, rules, ◌≡◌, ◌==◌, ℕ, Option, true, true≢false, sym, subst}
-use Rattle.std.specs.Prelude.{IfSome}
-use Rattle.std.specs.List.{list_any}
-use Rattle.log_records.specs.Log.{entries_of}
-use Rattle.log_records.specs.Unfinished.{losers}
-use Rattle.log_records.specs.Sound.{IsLoserChain}
-use Rattle.image_form.specs.Verdict.{logical_image_of}
-use Rattle.image_form.proofs.Counts.{few_more, few_then}
-use Rattle.image_check.specs.Judging.{kept_blocks, reading_of, records_of}
+use Rattle.image_check.proofs.Names.{◌*◌, arith, rules, ◌≡◌, ◌==◌, ℕ, Option, true, true≢false, sym, subst, list_any, IfSome, kept_blocks, reading_of, records_of, few_more, few_then, logical_image_of, entries_of, IsLoserChain, losers}
 use Rattle.image_check.proofs.StrayOnes.{fourth_of, chains_of, chains_whole, closed_of}
 use Rattle.image_check.proofs.Walking.{in_order, may_later, sees_later}
 use Rattle.image_check.proofs.undoable.rule_undoable.Goals as goal

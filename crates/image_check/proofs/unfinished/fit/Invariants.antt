@@ -1,6 +1,4 @@
-use Rattle.std.proofs.Common.{◌≡◌, ◌+◌}
-use Rattle.std.specs.BTreeMap.{values}
-use Rattle.image_check.specs.Counting.{owed_for}
+use Rattle.image_check.proofs.Names.{◌≡◌, ◌+◌, values, owed_for}
 use Rattle.image_check.proofs.unfinished.fit.Given as goal
 
 abbrev pub invariant-loop-left : goal.invariant-loop-left

@@ -1,4 +1,4 @@
-use Rattle.std.proofs.Common.{◌∙◌}
+use Rattle.image_check.proofs.Names.{◌∙◌}
 use Rattle.image_check.proofs.HeldOnes.{has_is}
 use Rattle.image_check.proofs.unfinished.is_left.Goals as goal
 

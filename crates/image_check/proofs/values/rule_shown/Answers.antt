@@ -1,17 +1,4 @@
-use Rattle.std.proofs.Common.{rules, IsTrue, sym, subst, ◌+◌, ◌*◌, ap, arith}
-use Rattle.std.specs.Prelude.{IfSome, IfNone}
-use Rattle.site.specs.declared.geometry.Geometry.{Geometry}
-use Rattle.site.specs.State.{State, Image}
-use Rattle.site.proofs.Working.{looks_then, looks_failed}
-use Rattle.image_form.specs.Octets.{AreGroups, AreVersions}
-use Rattle.image_form.specs.Findings.{AreFound}
-use Rattle.image_form.specs.Newest.{ShowsFrames}
-use Rattle.image_form.specs.Verdict.{logical_image_of}
-use Rattle.image_form.proofs.NewestRead.{shown_some}
-use Rattle.image_check.specs.Judging.{kept_blocks, reading_of}
-use Rattle.image_check.specs.Showing.{FindsVersions}
-use Rattle.image_check.specs.Values.{ShowsLog}
-use Rattle.image_form.proofs.Counts.{few_more, few_then}
+use Rattle.image_check.proofs.Names.{rules, IsTrue, sym, subst, ◌+◌, ◌*◌, ap, arith, IfSome, IfNone, kept_blocks, reading_of, FindsVersions, ShowsLog, few_more, few_then, shown_some, AreFound, ShowsFrames, AreGroups, AreVersions, logical_image_of, looks_then, looks_failed, State, Image, Geometry}
 use Rattle.image_check.proofs.ShownOnes.{versions_later}
 use Rattle.image_check.proofs.ValuesCounted.{none_found}
 use Rattle.image_check.proofs.Walking.{may_later, sees_later}

@@ -1,16 +1,6 @@
-use Rattle.std.proofs.Common.{rules, ◌≡◌, ◌*◌, ◌↔◌, ℕ, IsTrue, List, Result, Err, true, true≢false, refl, sym, ap, ◌∙◌, subst, arith}
-use Rattle.std.specs.Prelude.{IfOk, is_ok}
-use Rattle.std.specs.List.{AllByRecursion, list_all}
-use Rattle.site.specs.State.{State, Image}
-use Rattle.site.proofs.Working.{looks_then, looks_answered, looks_failed}
-use Rattle.image_form.specs.declared.place.Place.{Place}
-use Rattle.image_form.specs.Octets.{AreVersions}
-use Rattle.image_form.specs.Verdict.{logical_image_of, values_of}
+use Rattle.image_check.proofs.Names.{rules, ◌≡◌, ◌*◌, ◌↔◌, ℕ, IsTrue, List, Err, true, true≢false, refl, sym, ap, ◌∙◌, subst, arith, AllByRecursion, list_all, IfOk, is_ok, kept_blocks, reading_of, records_of, IsKnownEarly, is_logged, Hears, few_more, few_then, AreVersions, logical_image_of, values_of, Place, looks_then, looks_answered, looks_failed, State, Image}
+use Rattle.std.proofs.Common.{Result}
 use Rattle.image_check.specs.declared.values.Logged.{Logged}
-use Rattle.image_check.specs.Judging.{kept_blocks, reading_of, records_of}
-use Rattle.image_check.specs.Showing.{IsKnownEarly, is_logged}
-use Rattle.image_check.specs.Values.{Hears}
-use Rattle.image_form.proofs.Counts.{few_more, few_then}
 use Rattle.image_check.proofs.ShownOnes.{versions_later, AllHave, rule_logged, rule_early, rule_contents, rule_of}
 use Rattle.image_check.proofs.Walking.{may_later, sees_later}
 use Rattle.image_check.proofs.values.show_log.Goals as goal

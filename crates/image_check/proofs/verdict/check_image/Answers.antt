@@ -1,17 +1,4 @@
-use Rattle.std.proofs.Common.{◌≡◌, subst, ◌+◌, ◌-◌, ◌*◌, ◌≤◌, arith}
-use Rattle.std.specs.Prelude.{Result, Ok, IfOk}
-use Rattle.site.specs.declared.geometry.Geometry.{Geometry}
-use Rattle.site.specs.State.{State, Image}
-use Rattle.image_check.specs.Judging.{kept_blocks}
-use Rattle.image_check.specs.Deciding.{log_checked, pages_checked}
-use Rattle.image_check.specs.Judgement.{IsVerdictOn}
-use Rattle.image_form.specs.declared.formed.Found.{Found}
-use Rattle.image_form.specs.declared.place.Place.{Place}
-use Rattle.image_form.specs.Counted.{log_looks, page_looks}
-use Rattle.image_form.specs.Formed.{IsFormedOr, MayBeRead}
-use Rattle.image_form.proofs.Counts.{by_more, by_then}
-use Rattle.image_form.specs.Verdict.{FailsFirst}
-use Rattle.image_form.proofs.FirstRule.{answers_as}
+use Rattle.image_check.proofs.Names.{◌≡◌, subst, ◌+◌, ◌-◌, ◌*◌, ◌≤◌, arith, Result, Ok, IfOk, log_checked, pages_checked, IsVerdictOn, kept_blocks, by_more, by_then, answers_as, log_looks, page_looks, IsFormedOr, MayBeRead, FailsFirst, Found, Place, State, Image, Geometry}
 use Rattle.image_check.proofs.Decisions.{fails_kept, meets_both}
 use Rattle.image_check.proofs.verdict.check_image.Goals as goal
 

@@ -1,21 +1,10 @@
-use Rattle.std.proofs.Common.{◌≡◌, ◌↔◌, IsTrue, Bool, ap, sym, subst, List, arith, ◌*◌, rules}
-use Rattle.std.specs.Prelude.{Some, None, is_none}
-use Rattle.site.specs.declared.geometry.Geometry.{Geometry}
-use Rattle.site.specs.State.{State}
-use Rattle.site.proofs.Working.{looks_then, looks_answered}
-use Rattle.log_records.specs.declared.log_record.LogRecord.{LogRecord}
-use Rattle.image_form.specs.declared.formed.Found.{Found}
-use Rattle.image_form.specs.Octets.{AreGroups}
-use Rattle.image_form.specs.Findings.{MayRead, AreFound}
-use Rattle.image_form.specs.Verdict.{OctetsAreFormed, FramesAreClean, SegmentsFollowGroups}
-use Rattle.image_form.proofs.Counts.{few_more, few_then}
-use Rattle.image_check.specs.Judging.{kept_blocks}
-use Rattle.image_check.specs.Deciding.{MeetsBefore}
+use Rattle.image_check.proofs.Names.{◌≡◌, ◌↔◌, IsTrue, Bool, ap, sym, subst, List, arith, ◌*◌, rules, is_none, MeetsBefore, kept_blocks, few_more, few_then, MayRead, AreFound, AreGroups, OctetsAreFormed, FramesAreClean, SegmentsFollowGroups, Found, LogRecord, looks_then, looks_answered, State, Geometry}
+use Rattle.std.specs.Prelude.{Some, None}
 use Rattle.image_check.proofs.Decisions.{Past, at_first, holds_so, fails_so, hold_all}
 use Rattle.image_check.proofs.Walking.{may_later}
 use Rattle.image_check.proofs.verdict.failing_on_flash.Given.{Over}
-use Rattle.image_check.proofs.verdict.failing_on_flash.Goals as goal
 use Rattle.image_check.proofs.verdict.failing_on_flash.Goals.{In_default}
+use Rattle.image_check.proofs.verdict.failing_on_flash.Goals as goal
 
 pub rule_following-requires : goal.rule_following-requires
 rule_following-requires g c =

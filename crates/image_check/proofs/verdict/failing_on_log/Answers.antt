@@ -1,14 +1,9 @@
-use Rattle.std.proofs.Common.{rules, ap, refl, List, arith, ◌*◌}
-use Rattle.std.specs.Prelude.{is_none}
-use Rattle.log_records.specs.declared.log_record.LogRecord.{LogRecord}
-use Rattle.image_form.proofs.Counts.{few_more, few_then}
-use Rattle.image_check.specs.Judging.{kept_blocks}
-use Rattle.image_check.specs.Deciding.{MeetsBefore, IsSurveyOf}
+use Rattle.image_check.proofs.Names.{rules, ap, refl, List, arith, ◌*◌, is_none, MeetsBefore, IsSurveyOf, kept_blocks, few_more, few_then, LogRecord}
 use Rattle.image_check.proofs.Decisions.{Past, sees_of, at_first, holds_so, fails_so, hold_all}
 use Rattle.image_check.proofs.Walking.{may_later}
 use Rattle.image_check.proofs.verdict.failing_on_log.Given.{Over}
-use Rattle.image_check.proofs.verdict.failing_on_log.Goals as goal
 use Rattle.image_check.proofs.verdict.failing_on_log.Goals.{In_default}
+use Rattle.image_check.proofs.verdict.failing_on_log.Goals as goal
 
 pub rule_apart-requires : goal.rule_apart-requires
 rule_apart-requires g c = may_later c.in_ok-place.ensures.reads c.requires

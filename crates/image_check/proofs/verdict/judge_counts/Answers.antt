@@ -1,10 +1,5 @@
-use Rattle.std.proofs.Common.{rules, ℕ, true≢false, sym, ◌∙◌, subst, arith}
+use Rattle.image_check.proofs.Names.{rules, ℕ, true≢false, sym, ◌∙◌, subst, arith, CommitsAre, reading_of, records_of, answers_as, logical_image_of, State}
 use Rattle.std.specs.Prelude.{Option, Some, None}
-use Rattle.site.specs.State.{State}
-use Rattle.image_form.specs.Verdict.{logical_image_of}
-use Rattle.image_form.proofs.FirstRule.{answers_as}
-use Rattle.image_check.specs.Counting.{CommitsAre}
-use Rattle.image_check.specs.Judging.{reading_of, records_of}
 use Rattle.image_check.proofs.Decisions.{sees_of, at_first, holds_here, fails_by, verdict_by}
 use Rattle.image_check.proofs.verdict.judge_counts.Goals as goal
 

@@ -1,20 +1,10 @@
-use Rattle.std.proofs.Common.{rules, ℕ, List, ap, subst, arith, ◌*◌, ◌+◌}
-use Rattle.std.specs.Prelude.{Option, Some, Result, IfOk, is_ok}
-use Rattle.site.specs.State.{State, Image}
-use Rattle.log_records.specs.declared.log_record.LogRecord.{LogRecord}
-use Rattle.image_form.specs.declared.place.Place.{Place}
-use Rattle.image_form.specs.Verdict.{HoldBefore}
-use Rattle.image_form.proofs.FirstRule.{answers_as}
-use Rattle.image_form.proofs.Counts.{few_more, few_then}
-use Rattle.image_check.specs.declared.survey.Survey.{Survey}
-use Rattle.image_check.specs.Deciding.{MeetsBefore, HoldOr, IsSurveyOf}
-use Rattle.image_check.specs.Judgement.{IsVerdictOn}
-use Rattle.image_check.specs.Judging.{kept_blocks, reading_of}
+use Rattle.image_check.proofs.Names.{rules, ℕ, List, ap, subst, arith, ◌*◌, ◌+◌, Result, IfOk, is_ok, MeetsBefore, HoldOr, IsSurveyOf, IsVerdictOn, kept_blocks, reading_of, Survey, few_more, few_then, answers_as, HoldBefore, Place, LogRecord, State, Image}
+use Rattle.std.specs.Prelude.{Option, Some}
 use Rattle.image_check.proofs.Decisions.{Past, sees_of, at_first, holds_so, fails_so, reaches, verdict_by}
 use Rattle.image_check.proofs.Walking.{may_later}
 use Rattle.image_check.proofs.verdict.judge_found.Given.{Over}
-use Rattle.image_check.proofs.verdict.judge_found.Goals as goal
 use Rattle.image_check.proofs.verdict.judge_found.Goals.{In-Ok}
+use Rattle.image_check.proofs.verdict.judge_found.Goals as goal
 
 pub failing_on_log-requires : goal.failing_on_log-requires
 failing_on_log-requires g c = may_later c.in_ok-survey.ensures.reads c.requires

@@ -1,19 +1,10 @@
-use Rattle.std.proofs.Common.{rules, ◌≡◌, ℕ, List, ap, subst, sym, refl, arith, ◌*◌, ◌+◌}
-use Rattle.std.specs.Prelude.{Option, Some, Result, IfOk, is_ok}
-use Rattle.site.specs.State.{State, Image}
-use Rattle.log_records.specs.declared.log_record.LogRecord.{LogRecord}
-use Rattle.image_form.specs.declared.place.Place.{Place}
-use Rattle.image_form.specs.Verdict.{HoldBefore, logical_image_of, values_of}
-use Rattle.image_form.proofs.FirstRule.{answers_as}
-use Rattle.image_form.proofs.Counts.{few_more, few_then}
-use Rattle.image_check.specs.Deciding.{MeetsBefore, HoldOr}
-use Rattle.image_check.specs.Judgement.{IsVerdictOn}
-use Rattle.image_check.specs.Judging.{kept_blocks, reading_of}
+use Rattle.image_check.proofs.Names.{rules, ◌≡◌, ℕ, List, ap, subst, sym, refl, arith, ◌*◌, ◌+◌, Result, IfOk, is_ok, MeetsBefore, HoldOr, IsVerdictOn, kept_blocks, reading_of, few_more, few_then, answers_as, HoldBefore, logical_image_of, values_of, Place, LogRecord, State, Image}
+use Rattle.std.specs.Prelude.{Option, Some}
 use Rattle.image_check.proofs.Decisions.{Past, sees_of, at_first, holds_so, fails_so, reaches, verdict_by}
 use Rattle.image_check.proofs.Walking.{may_later}
 use Rattle.image_check.proofs.verdict.judge_pages.Given.{Over}
-use Rattle.image_check.proofs.verdict.judge_pages.Goals as goal
 use Rattle.image_check.proofs.verdict.judge_pages.Goals.{In-Ok}
+use Rattle.image_check.proofs.verdict.judge_pages.Goals as goal
 
 pub failing_on_flash-requires : goal.failing_on_flash-requires
 failing_on_flash-requires g c = may_later c.in_ok-records.ensures.reads c.requires

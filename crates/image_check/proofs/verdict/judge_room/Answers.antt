@@ -1,15 +1,9 @@
-use Rattle.std.proofs.Common.{rules, ◌≡◌, IsTrue, refl, ap, subst, sym, arith}
-use Rattle.std.specs.Prelude.{is_none, ◌↔◌, List}
-use Rattle.site.specs.State.{Image}
-use Rattle.log_records.specs.declared.log_record.LogRecord.{LogRecord}
-use Rattle.log_records.specs.Sound.{commit_count}
-use Rattle.image_form.specs.Verdict.{PagesHaveRoom, logical_image_of, values_of}
-use Rattle.image_check.specs.Deciding.{MeetsBefore, IsSurveyOf}
-use Rattle.image_check.specs.Judging.{reading_of}
+use Rattle.image_check.proofs.Names.{rules, ◌≡◌, IsTrue, refl, ap, subst, sym, arith, is_none, MeetsBefore, IsSurveyOf, reading_of, PagesHaveRoom, logical_image_of, values_of, commit_count, LogRecord, Image}
+use Rattle.std.specs.Prelude.{◌↔◌, List}
 use Rattle.image_check.proofs.Decisions.{sees_of, at_first, holds_so, fails_so, verdict_by, sound_by}
 use Rattle.image_check.proofs.verdict.judge_room.Given.{Over}
-use Rattle.image_check.proofs.verdict.judge_room.Goals as goal
 use Rattle.image_check.proofs.verdict.judge_room.Goals.{In_ok-place}
+use Rattle.image_check.proofs.verdict.judge_room.Goals as goal
 
 -- what the rule says where those before it hold
 says : (g : Over) (c : In_ok-place g) (blocks : List (List LogRecord)) → MeetsBefore 12 c.args.found.now blocks (g.S.Site.state c.args.site.now) → IsSurveyOf c.args.found.now blocks c.args.survey.now →

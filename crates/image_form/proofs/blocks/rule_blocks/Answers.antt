@@ -1,11 +1,4 @@
-use Rattle.std.proofs.Common.{rules, ◌≡◌, ◌-◌, ◌≤◌, ◌<◌, ℕ, true, false, sym, ap, ◌∙◌, subst, true≢false, arith, ◌+◌, min, refl}
-use Rattle.std.specs.Prelude.{Err}
-use Rattle.site.specs.declared.geometry.Geometry.{Geometry}
-use Rattle.site.specs.declared.outside.Dev.TheVariants.{Log}
-use Rattle.site.specs.State.{State, Image}
-use Rattle.log_store.specs.Representation.{Finds, block_on}
-use Rattle.image_form.specs.Octets.{IsBlockOn}
-use Rattle.image_form.specs.Counted.{ReadsAtMost}
+use Rattle.image_form.proofs.Names.{rules, ◌≡◌, ◌-◌, ◌≤◌, ◌<◌, ℕ, true, false, sym, ap, ◌∙◌, subst, true≢false, arith, ◌+◌, min, refl, Err, ReadsAtMost, IsBlockOn, Finds, block_on, State, Image, Geometry, Log}
 use Rattle.image_form.proofs.Counts.{few_then, few_more, log_few}
 use Rattle.image_form.proofs.BlocksJudged.{finds_later, going_later, one_is_not, one_is}
 use Rattle.image_form.proofs.blocks.rule_blocks.Goals as goal

@@ -1,12 +1,4 @@
-use Rattle.std.proofs.Common.{ℕ, ◌≤◌, ◌<◌, List, ◌-◌}
-use Rattle.std.specs.Prelude.{Ok}
-use Rattle.sealed_ring.specs.Ring.{IsLive}
-use Rattle.image_changes.specs.Rings.{log_shape}
-use Rattle.log_records.specs.declared.log_record.LogRecord.{LogRecord}
-use Rattle.log_store.specs.Representation.{Invariant, Finds, block_on}
-use Rattle.site.specs.Work.{OnlyReads}
-use Rattle.image_form.specs.Counted.{ReadsAtMost}
-use Rattle.image_form.specs.Octets.{IsBlockOn}
+use Rattle.image_form.proofs.Names.{ℕ, ◌≤◌, ◌<◌, List, ◌-◌, Ok, log_shape, ReadsAtMost, IsBlockOn, LogRecord, Invariant, Finds, block_on, IsLive, OnlyReads}
 use Rattle.image_form.proofs.blocks.rule_blocks.Given as goal
 
 abbrev pub invariant-loop-block : goal.invariant-loop-block

@@ -1,17 +1,5 @@
-use Rattle.std.proofs.Common.{◌≡◌, ◌+◌, ◌-◌, ◌*◌, inl, inr, ℕ, List, true≢false, refl, sym, ◌∙◌, subst, arith}
-use Rattle.std.specs.Prelude.{Ok}
-use Rattle.std.proofs.lemmas.Bool.{cases_eq}
-use Rattle.site.specs.State.{State, Image}
-use Rattle.site.proofs.Laws.{stays_honest}
-use Rattle.site.proofs.Working.{looks_then, looks_answered}
-use Rattle.sealed_ring.specs.Ring.{IsLive, hi_of}
-use Rattle.image_changes.specs.Rings.{group_shape}
-use Rattle.frame_group.specs.Groups.{Frame, frames_in}
-use Rattle.frame_group.proofs.Contents.{frames_are_in}
-use Rattle.tail_rebuild.specs.Standing.{group_on}
-use Rattle.image_form.specs.Octets.{IsGroupOn}
+use Rattle.image_form.proofs.Names.{◌≡◌, ◌+◌, ◌-◌, ◌*◌, inl, inr, ℕ, List, true≢false, refl, sym, ◌∙◌, subst, arith, cases_eq, Ok, frames_are_in, Frame, frames_in, group_shape, IsCleanFrame, IsGroupOn, IsLive, hi_of, stays_honest, looks_then, looks_answered, State, Image, group_on}
 use Rattle.image_form.proofs.Counts.{few_then}
-use Rattle.image_form.specs.Framing.{IsCleanFrame}
 use Rattle.image_form.proofs.Lasting.{found_later, may_read_later}
 use Rattle.image_form.proofs.CleanOnes.{clean_of_each, each_clean}
 use Rattle.image_form.proofs.UnitsJudged.{end_is, live_there}

@@ -1,14 +1,4 @@
-use Rattle.std.proofs.Common.{ℕ, ◌<◌, IsTrue, ◌*◌, ◌-◌}
-use Rattle.std.specs.Prelude.{Ok}
-use Rattle.sealed_ring.specs.Ring.{IsLive}
-use Rattle.image_changes.specs.Rings.{group_shape}
-use Rattle.frame_group.specs.Groups.{frames_in}
-use Rattle.tail_rebuild.specs.Standing.{group_on}
-use Rattle.site.specs.Work.{OnlyReads}
-use Rattle.image_form.specs.Counted.{ReadsAtMost}
-use Rattle.image_form.specs.Octets.{AreGroups}
-use Rattle.image_form.specs.Framing.{IsCleanFrame}
-use Rattle.image_form.specs.Findings.{MayRead, AreFound}
+use Rattle.image_form.proofs.Names.{ℕ, ◌<◌, IsTrue, ◌*◌, ◌-◌, Ok, frames_in, group_shape, ReadsAtMost, MayRead, AreFound, IsCleanFrame, AreGroups, IsLive, OnlyReads, group_on}
 use Rattle.image_form.proofs.clean.find_unclean.Given as goal
 
 abbrev pub invariant-loop-group : goal.invariant-loop-group

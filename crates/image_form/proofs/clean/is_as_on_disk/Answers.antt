@@ -1,6 +1,4 @@
-use Rattle.std.proofs.Common.{ap, arith}
-use Rattle.site.specs.declared.outside.Dev.TheVariants.{Disk}
-use Rattle.sealed_ring.specs.declared.slots.Shape.{Shape}
+use Rattle.image_form.proofs.Names.{ap, arith, Shape, Disk}
 use Rattle.image_form.proofs.Counts.{few_then, flash_few, disk_few}
 use Rattle.image_form.proofs.clean.is_as_on_disk.Goals as goal
 

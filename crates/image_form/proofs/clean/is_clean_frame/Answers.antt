@@ -1,13 +1,5 @@
-use Rattle.std.proofs.Common.{◌≡◌, ℕ, List, false, true≢false, get_or, Some, refl, sym, ap, ◌∙◌, arith}
-use Rattle.std.specs.Prelude.{slice_get}
-use Rattle.std.proofs.lemmas.Bool.{not-true, not-false}
-use Rattle.site.specs.State.{State}
-use Rattle.byte_fields.specs.declared.frame_head.FrameHead.{FrameHead}
-use Rattle.byte_fields.specs.FrameHeads.{blank}
-use Rattle.frame_group.specs.Groups.{Frame, head_of, heads_of}
-use Rattle.tail_rebuild.specs.Standing.{group_on}
-use Rattle.flash_directory.specs.Heads.{newest}
-use Rattle.flash_cache.specs.Representation.{disk_on}
+use Rattle.image_form.proofs.Names.{◌≡◌, ℕ, List, false, true≢false, get_or, refl, sym, ap, ◌∙◌, arith, not-true, not-false, slice_get, blank, FrameHead, disk_on, newest, Frame, head_of, heads_of, State, group_on}
+use Rattle.std.proofs.Common.{Some}
 use Rattle.image_form.proofs.CleanOnes.{head_there, octets_there, page_exists, present_there}
 use Rattle.image_form.proofs.clean.is_clean_frame.Goals as goal
 

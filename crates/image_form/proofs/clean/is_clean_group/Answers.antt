@@ -1,15 +1,4 @@
-use Rattle.std.proofs.Common.{◌≡◌, ◌+◌, ◌*◌, inl, inr, ℕ, List, true≢false, refl, sym, ◌∙◌, subst, arith}
-use Rattle.std.specs.Prelude.{Option, Some, Ok}
-use Rattle.std.proofs.lemmas.Bool.{cases_eq, cases_lt}
-use Rattle.std.proofs.lemmas.Option.{none-some, same_Some, slice_get_within}
-use Rattle.site.specs.State.{State, Image}
-use Rattle.site.proofs.Laws.{stays_honest}
-use Rattle.site.proofs.Working.{looks_then, looks_answered}
-use Rattle.byte_fields.specs.declared.frame_head.FrameHead.{FrameHead}
-use Rattle.frame_group.specs.Groups.{Frame, heads_of}
-use Rattle.tail_rebuild.specs.Standing.{group_on}
-use Rattle.image_form.specs.Octets.{IsGroupOn}
-use Rattle.image_form.specs.Framing.{IsCleanFrame}
+use Rattle.image_form.proofs.Names.{◌≡◌, ◌+◌, ◌*◌, inl, inr, ℕ, List, true≢false, refl, sym, ◌∙◌, subst, arith, cases_eq, cases_lt, none-some, same_Some, slice_get_within, Option, Some, Ok, FrameHead, Frame, heads_of, IsCleanFrame, IsGroupOn, stays_honest, looks_then, looks_answered, State, Image, group_on}
 use Rattle.image_form.proofs.Counts.{few_then}
 use Rattle.image_form.proofs.Lasting.{found_later, may_read_later}
 use Rattle.image_form.proofs.clean.is_clean_group.Goals as goal

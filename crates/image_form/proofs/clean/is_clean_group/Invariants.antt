@@ -1,12 +1,4 @@
-use Rattle.std.proofs.Common.{ℕ, ◌<◌, List, IsTrue, ◌*◌, ◌+◌}
-use Rattle.std.specs.Prelude.{Ok}
-use Rattle.frame_group.specs.Groups.{Frame}
-use Rattle.tail_rebuild.specs.Standing.{group_on}
-use Rattle.site.specs.Work.{OnlyReads}
-use Rattle.image_form.specs.Counted.{ReadsAtMost}
-use Rattle.image_form.specs.Octets.{IsGroupOn}
-use Rattle.image_form.specs.Framing.{IsCleanFrame}
-use Rattle.image_form.specs.Findings.{MayRead, AreFound}
+use Rattle.image_form.proofs.Names.{ℕ, ◌<◌, List, IsTrue, ◌*◌, ◌+◌, Ok, Frame, ReadsAtMost, MayRead, AreFound, IsCleanFrame, IsGroupOn, OnlyReads, group_on}
 use Rattle.image_form.proofs.clean.is_clean_group.Given as goal
 
 abbrev pub invariant-loop-index : goal.invariant-loop-index

@@ -1,5 +1,4 @@
-use Rattle.std.proofs.Common.{ap, arith}
-use Rattle.sealed_ring.specs.declared.slots.Shape.{Shape}
+use Rattle.image_form.proofs.Names.{ap, arith, Shape}
 use Rattle.image_form.proofs.Counts.{few_then, flash_few}
 use Rattle.image_form.proofs.following.are_saved.Goals as goal
 

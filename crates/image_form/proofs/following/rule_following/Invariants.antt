@@ -1,10 +1,4 @@
-use Rattle.std.proofs.Common.{ℕ, ◌<◌, IsTrue, ◌*◌, ◌-◌}
-use Rattle.std.specs.Prelude.{Ok}
-use Rattle.sealed_ring.specs.Ring.{IsLive}
-use Rattle.image_changes.specs.Rings.{group_shape}
-use Rattle.site.specs.Work.{OnlyReads}
-use Rattle.image_form.specs.Counted.{ReadsAtMost}
-use Rattle.image_form.specs.Findings.{MayRead, AreFound, AreHeadsSaved}
+use Rattle.image_form.proofs.Names.{ℕ, ◌<◌, IsTrue, ◌*◌, ◌-◌, Ok, group_shape, ReadsAtMost, MayRead, AreFound, AreHeadsSaved, IsLive, OnlyReads}
 use Rattle.image_form.proofs.following.rule_following.Given as goal
 
 abbrev pub invariant-loop-group : goal.invariant-loop-group

@@ -1,18 +1,8 @@
-use Rattle.std.proofs.Common.{rules, subst, ◌+◌, ◌*◌, arith}
-use Rattle.std.specs.Prelude.{Option, Result, Ok, Err}
-use Rattle.site.specs.declared.geometry.Geometry.{Geometry}
-use Rattle.site.specs.State.{State}
-use Rattle.site.proofs.Working.{looks_then, looks_answered}
-use Rattle.image_form.specs.declared.formed.Found.{Found}
-use Rattle.image_form.specs.declared.place.Place.{Place}
-use Rattle.image_form.specs.declared.place.Place.TheVariants as place
-use Rattle.image_form.specs.declared.rings.Rings.{Rings}
-use Rattle.image_form.specs.Octets.{HasSizes, AreRings}
-use Rattle.image_form.specs.Findings.{SizesAre, RingsAre}
-use Rattle.image_form.specs.Counted.{log_to_find, pages_to_find}
+use Rattle.image_form.proofs.Names.{rules, subst, ◌+◌, ◌*◌, arith, Option, Result, Ok, Err, log_to_find, pages_to_find, SizesAre, RingsAre, HasSizes, AreRings, Found, Place, Rings, looks_then, looks_answered, State, Geometry}
 use Rattle.image_form.proofs.Counts.{by_no_sizes, by_sizes, few_more, few_then}
 use Rattle.image_form.proofs.Lasting.{sizes_later}
 use Rattle.image_form.proofs.FirstRule.{one_size}
+use Rattle.image_form.specs.declared.place.Place.TheVariants as place
 use Rattle.image_form.proofs.formed.find.Goals as goal
 
 pub find_log-requires : goal.find_log-requires

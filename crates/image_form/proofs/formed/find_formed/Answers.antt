@@ -1,12 +1,4 @@
-use Rattle.std.proofs.Common.{◌≡◌, sym, subst, ◌+◌, ◌*◌, arith}
-use Rattle.std.specs.Prelude.{Result, IfOk, is_none}
-use Rattle.site.specs.declared.geometry.Geometry.{Geometry}
-use Rattle.site.specs.State.{State}
-use Rattle.image_form.specs.declared.formed.Found.{Found}
-use Rattle.image_form.specs.declared.place.Place.{Place}
-use Rattle.image_form.specs.Formed.{IsThere, IsThereOr, MayBeRead}
-use Rattle.image_form.specs.Verdict.{FailsFirst}
-use Rattle.image_form.specs.Counted.{log_looks, log_to_find, page_looks, pages_to_find, segment_slots}
+use Rattle.image_form.proofs.Names.{◌≡◌, sym, subst, ◌+◌, ◌*◌, arith, Result, IfOk, is_none, log_looks, log_to_find, page_looks, pages_to_find, segment_slots, IsThere, IsThereOr, MayBeRead, FailsFirst, Found, Place, State, Geometry}
 use Rattle.image_form.proofs.Counts.{by_more, by_then}
 use Rattle.image_form.proofs.FirstRule.{may_be_read_later, fails_formed, placed}
 use Rattle.image_form.proofs.formed.find_formed.Goals as goal

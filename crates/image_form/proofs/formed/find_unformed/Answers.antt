@@ -1,18 +1,10 @@
-use Rattle.std.proofs.Common.{rules, ◌≡◌, ◌↔◌, IsTrue, true≢false, Ok, refl, sym, subst, ◌+◌, ◌*◌, ap, arith}
-use Rattle.std.specs.Prelude.{Some, is_none}
-use Rattle.site.specs.declared.geometry.Geometry.{Geometry}
-use Rattle.site.specs.State.{State}
-use Rattle.site.proofs.Working.{looks_then, looks_answered}
-use Rattle.image_form.specs.Octets.{AreBlocks, AreGroups, SegmentsAreFormed, AreVersions}
-use Rattle.image_form.specs.Findings.{MayRead}
-use Rattle.image_form.specs.Formed.{IsThere}
-use Rattle.image_form.specs.Verdict.{OctetsAreFormed}
-use Rattle.image_form.specs.Counted.{segment_slots}
+use Rattle.image_form.proofs.Names.{rules, ◌≡◌, ◌↔◌, IsTrue, true≢false, refl, sym, subst, ◌+◌, ◌*◌, ap, arith, Some, is_none, segment_slots, MayRead, IsThere, AreBlocks, AreGroups, SegmentsAreFormed, AreVersions, OctetsAreFormed, looks_then, looks_answered, State, Geometry}
+use Rattle.std.proofs.Common.{Ok}
 use Rattle.image_form.proofs.Counts.{few_more, few_then}
 use Rattle.image_form.proofs.FirstRule.{StillThere, may_be_read_later, still_there, part_holds, part_fails, placed, unplaced, answers_as}
 use Rattle.image_form.proofs.formed.find_unformed.Given.{Over}
-use Rattle.image_form.proofs.formed.find_unformed.Goals as goal
 use Rattle.image_form.proofs.formed.find_unformed.Goals.{In_default, In_default-2}
+use Rattle.image_form.proofs.formed.find_unformed.Goals as goal
 
 pub rule_groups-requires : goal.rule_groups-requires
 rule_groups-requires g c =

@@ -1,18 +1,10 @@
-use Rattle.std.proofs.Common.{rules, refl, ◌≡◌, ℕ, List, IsTrue, sym, ◌∙◌, subst, true≢false, arith, ap, ◌+◌, ◌-◌, ◌*◌}
-use Rattle.site.specs.State.{State}
-use Rattle.sealed_ring.specs.declared.slots.Shape.{Shape}
-use Rattle.image_changes.specs.Rings.{group_shape}
-use Rattle.frame_group.specs.Groups.{Frame}
-use Rattle.tail_rebuild.specs.Standing.{group_on}
-use Rattle.image_form.specs.Octets.{IsGroupOn}
-use Rattle.image_form.specs.Findings.{AreFound}
-use Rattle.image_form.specs.Counted.{ReadsAtMost}
+use Rattle.image_form.proofs.Names.{rules, refl, ◌≡◌, ℕ, List, IsTrue, sym, ◌∙◌, subst, true≢false, arith, ap, ◌+◌, ◌-◌, ◌*◌, Frame, group_shape, ReadsAtMost, AreFound, IsGroupOn, Shape, State, group_on}
 use Rattle.image_form.proofs.Counts.{few_then, flash_few}
 use Rattle.image_form.proofs.Lasting.{may_read_later}
 use Rattle.image_form.proofs.UnitsJudged.{live_there, one_more, read_whole}
 use Rattle.image_form.proofs.groups.rule_groups.Given.{Over}
-use Rattle.image_form.proofs.groups.rule_groups.Goals as goal
 use Rattle.image_form.proofs.groups.rule_groups.Goals.{In_default}
+use Rattle.image_form.proofs.groups.rule_groups.Goals as goal
 
 -- what was read
 whole : (g : Over) (c : In_default g) → IsTrue (g.S.Site.state c.args.site.now).honest → AreFound c.args.rings.now (g.S.Site.state c.args.site.now) → c.read_part.new.into ≡ group_on c.args.geometry.now (g.S.Site.state c.args.site.now).image c.loop-group.group

@@ -1,5 +1,4 @@
-use Rattle.std.proofs.Common.{refl, arith}
-use Rattle.site.specs.declared.outside.Dev.TheVariants.{Log}
+use Rattle.image_form.proofs.Names.{refl, arith, Log}
 use Rattle.image_form.proofs.Counts.{log_few}
 use Rattle.image_form.proofs.master.rule_master.Goals as goal
 

@@ -1,10 +1,4 @@
-use Rattle.std.proofs.Common.{◌≡◌, ◌+◌, ◌-◌, ◌≤◌, length, All, IsTrue}
-use Rattle.std.specs.Prelude.{Ok}
-use Rattle.byte_fields.specs.FrameHeads.{AreGroupHeads}
-use Rattle.site.specs.Work.{OnlyReads}
-use Rattle.image_form.specs.Counted.{ReadsAtMost}
-use Rattle.image_form.specs.Octets.{AreGroups}
-use Rattle.image_form.specs.Findings.{MayRead, AreFound}
+use Rattle.image_form.proofs.Names.{◌≡◌, ◌+◌, ◌-◌, ◌≤◌, length, All, IsTrue, Ok, AreGroupHeads, ReadsAtMost, MayRead, AreFound, AreGroups, OnlyReads}
 use Rattle.image_form.proofs.NewestRead.{AreHeadsFrom}
 use Rattle.image_form.proofs.newest.find_frames.Given as goal
 

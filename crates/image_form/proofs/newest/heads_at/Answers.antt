@@ -1,9 +1,5 @@
-use Rattle.std.proofs.Common.{◌≡◌, take, drop, Some, ap, ◌∙◌, arith}
-use Rattle.sealed_ring.specs.declared.slots.Shape.{Shape}
-use Rattle.sealed_ring.specs.Ring.{unit_at}
-use Rattle.site.specs.State.{State}
-use Rattle.image_changes.specs.Rings.{units_on}
-use Rattle.tail_rebuild.specs.Standing.{group_on}
+use Rattle.image_form.proofs.Names.{◌≡◌, take, drop, ap, ◌∙◌, arith, units_on, unit_at, Shape, State, group_on}
+use Rattle.std.proofs.Common.{Some}
 use Rattle.image_form.proofs.Counts.{flash_few}
 use Rattle.image_form.proofs.SavedHeads.{heads_of_part, no_heads_of_part}
 use Rattle.image_form.proofs.newest.heads_at.Goals as goal

@@ -1,9 +1,5 @@
-use Rattle.std.proofs.Common.{◌≡◌, ◌+◌, ◌-◌, ◌*◌, rules, ℕ, length, take, drop, sym, ap, ◌∙◌, subst, arith}
+use Rattle.image_form.proofs.Names.{◌≡◌, ◌+◌, ◌-◌, ◌*◌, rules, ℕ, length, take, drop, sym, ap, ◌∙◌, subst, arith, units_on, IsLive, unit_at, Shape, State}
 use Rattle.std.proofs.lemmas.Result.{on_ok_weaker}
-use Rattle.sealed_ring.specs.declared.slots.Shape.{Shape}
-use Rattle.sealed_ring.specs.Ring.{IsLive, unit_at}
-use Rattle.site.specs.State.{State}
-use Rattle.image_changes.specs.Rings.{units_on}
 use Rattle.image_form.proofs.Counts.{flash_few, disk_few}
 use Rattle.image_form.proofs.NewestRead.{disk_version, frame_version}
 use Rattle.image_form.proofs.newest.read_version.Goals as goal

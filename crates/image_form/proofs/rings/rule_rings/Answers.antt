@@ -1,19 +1,7 @@
-use Rattle.std.proofs.Common.{◌≡◌, IsTrue, sym, ◌∙◌, subst}
-use Rattle.std.specs.Prelude.{Result, Ok, Err}
-use Rattle.site.specs.State.{State, Image}
-use Rattle.site.proofs.Laws.{stays_honest, goes_in_sequence}
-use Rattle.site.specs.Calls.{Preserves}
-use Rattle.sealed_ring.specs.declared.slots.Shape.{Shape}
-use Rattle.sealed_ring.specs.Ring.{IsRing}
-use Rattle.sealed_ring.specs.Ready.{region}
-use Rattle.image_changes.specs.Rings.{master_shape, log_shape, group_shape}
-use Rattle.site.proofs.Working.{looks_then, looks_failed, looks_answered}
-use Rattle.image_form.specs.declared.place.Place.{Place}
-use Rattle.image_form.specs.declared.place.Place.TheVariants as place
-use Rattle.image_form.specs.declared.rings.Rings.{Rings}
+use Rattle.image_form.proofs.Names.{◌≡◌, IsTrue, sym, ◌∙◌, subst, Result, Ok, Err, master_shape, log_shape, group_shape, Place, Rings, usable_later, region, IsRing, Shape, stays_honest, goes_in_sequence, looks_then, looks_failed, looks_answered, Preserves, State, Image}
 use Rattle.image_form.proofs.Counts.{one_ring, two_rings, three_rings, four_rings}
 use Rattle.image_form.proofs.Lasting.{judged_some, usable_some, shape_some, fits_later, sizes_later}
-use Rattle.sealed_ring.proofs.Stays.{usable_later}
+use Rattle.image_form.specs.declared.place.Place.TheVariants as place
 use Rattle.image_form.proofs.rings.rule_rings.Goals as goal
 
 pub returns-clause-rings : goal.returns-clause-rings

@@ -1,18 +1,10 @@
-use Rattle.std.proofs.Common.{rules, refl, ◌≡◌, ℕ, List, IsTrue, sym, ◌∙◌, subst, true≢false, arith, ap, ◌+◌, ◌-◌, ◌/◌}
-use Rattle.site.specs.State.{State}
-use Rattle.sealed_ring.specs.declared.slots.Shape.{Shape}
-use Rattle.image_changes.specs.Rings.{segment_shape}
-use Rattle.byte_fields.specs.declared.frame_head.FrameHead.{FrameHead}
-use Rattle.tail_rebuild.specs.Standing.{segment_on}
-use Rattle.image_form.specs.Octets.{IsSegmentOn}
-use Rattle.image_form.specs.Findings.{AreFound}
-use Rattle.image_form.specs.Counted.{ReadsAtMost}
+use Rattle.image_form.proofs.Names.{rules, refl, ◌≡◌, ℕ, List, IsTrue, sym, ◌∙◌, subst, true≢false, arith, ap, ◌+◌, ◌-◌, ◌/◌, FrameHead, segment_shape, ReadsAtMost, AreFound, IsSegmentOn, Shape, State, segment_on}
 use Rattle.image_form.proofs.Counts.{few_then, flash_few}
 use Rattle.image_form.proofs.Lasting.{may_read_later}
 use Rattle.image_form.proofs.UnitsJudged.{live_there, one_more, read_whole}
 use Rattle.image_form.proofs.segments.rule_segments.Given.{Over}
-use Rattle.image_form.proofs.segments.rule_segments.Goals as goal
 use Rattle.image_form.proofs.segments.rule_segments.Goals.{In_default}
+use Rattle.image_form.proofs.segments.rule_segments.Goals as goal
 
 -- what was read
 whole : (g : Over) (c : In_default g) → IsTrue (g.S.Site.state c.args.site.now).honest → AreFound c.args.rings.now (g.S.Site.state c.args.site.now) → c.read_part.new.into ≡ segment_on c.args.geometry.now (g.S.Site.state c.args.site.now).image c.loop-segment.segment

@@ -1,13 +1,4 @@
-use Rattle.std.proofs.Common.{ℕ, ◌<◌, List, IsTrue, ◌-◌}
-use Rattle.std.specs.Prelude.{Ok}
-use Rattle.sealed_ring.specs.Ring.{IsLive}
-use Rattle.image_changes.specs.Rings.{segment_shape}
-use Rattle.byte_fields.specs.declared.frame_head.FrameHead.{FrameHead}
-use Rattle.tail_rebuild.specs.Standing.{segment_on}
-use Rattle.site.specs.Work.{OnlyReads}
-use Rattle.image_form.specs.Counted.{ReadsAtMost}
-use Rattle.image_form.specs.Octets.{IsSegmentOn}
-use Rattle.image_form.specs.Findings.{MayRead, AreFound}
+use Rattle.image_form.proofs.Names.{ℕ, ◌<◌, List, IsTrue, ◌-◌, Ok, FrameHead, segment_shape, ReadsAtMost, MayRead, AreFound, IsSegmentOn, IsLive, OnlyReads, segment_on}
 use Rattle.image_form.proofs.segments.rule_segments.Given as goal
 
 abbrev pub invariant-loop-segment : goal.invariant-loop-segment

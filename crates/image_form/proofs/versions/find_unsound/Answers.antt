@@ -1,11 +1,4 @@
-use Rattle.std.proofs.Common.{rules, ◌≡◌, ◌+◌, inl, inr, ℕ, true≢false, refl, sym, ◌∙◌, subst, arith}
-use Rattle.std.proofs.lemmas.Bool.{cases_eq}
-use Rattle.site.specs.State.{State, Image}
-use Rattle.site.proofs.Laws.{stays_honest}
-use Rattle.slotted_page.specs.Layout.{IsSound}
-use Rattle.flash_cache.specs.Representation.{version_on}
-use Rattle.image_form.specs.Octets.{AreGroups}
-use Rattle.image_form.specs.Newest.{ShowsFrames}
+use Rattle.image_form.proofs.Names.{rules, ◌≡◌, ◌+◌, inl, inr, ℕ, true≢false, refl, sym, ◌∙◌, subst, arith, cases_eq, version_on, ShowsFrames, AreGroups, stays_honest, State, Image, IsSound}
 use Rattle.image_form.proofs.Counts.{few_then}
 use Rattle.image_form.proofs.Lasting.{found_later, may_read_later}
 use Rattle.image_form.proofs.versions.find_unsound.Goals as goal

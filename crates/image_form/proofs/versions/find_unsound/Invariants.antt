@@ -1,12 +1,4 @@
-use Rattle.std.proofs.Common.{ℕ, ◌<◌, IsTrue}
-use Rattle.std.specs.Prelude.{Ok}
-use Rattle.slotted_page.specs.Layout.{IsSound}
-use Rattle.flash_cache.specs.Representation.{version_on}
-use Rattle.site.specs.Work.{OnlyReads}
-use Rattle.image_form.specs.Counted.{ReadsAtMost}
-use Rattle.image_form.specs.Octets.{AreGroups}
-use Rattle.image_form.specs.Newest.{ShowsFrames}
-use Rattle.image_form.specs.Findings.{MayRead, AreFound}
+use Rattle.image_form.proofs.Names.{ℕ, ◌<◌, IsTrue, Ok, version_on, ReadsAtMost, MayRead, AreFound, ShowsFrames, AreGroups, OnlyReads, IsSound}
 use Rattle.image_form.proofs.versions.find_unsound.Given as goal
 
 abbrev pub invariant-loop-page : goal.invariant-loop-page

@@ -1,10 +1,4 @@
-use Rattle.std.proofs.Common.{◌≡◌, ◌↔◌, IsTrue, sym, subst}
-use Rattle.std.specs.Prelude.{Ok, Err, is_none}
-use Rattle.site.specs.State.{State, Image}
-use Rattle.site.proofs.Laws.{stays_honest}
-use Rattle.site.proofs.Working.{looks_then}
-use Rattle.image_form.specs.Newest.{ShowsFrames}
-use Rattle.image_form.specs.Octets.{AreGroups, AreVersions}
+use Rattle.image_form.proofs.Names.{◌≡◌, ◌↔◌, IsTrue, sym, subst, Ok, Err, is_none, ShowsFrames, AreGroups, AreVersions, stays_honest, looks_then, State, Image}
 use Rattle.image_form.proofs.Lasting.{found_later, may_read_later}
 use Rattle.image_form.proofs.NewestRead.{shown_some}
 use Rattle.image_form.proofs.versions.rule_versions.Goals as goal

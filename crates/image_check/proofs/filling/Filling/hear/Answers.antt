@@ -1,7 +1,4 @@
-use Rattle.std.proofs.Common.{◌≡◌, ◌==◌, ℕ, true, false, sym, ap, ◌∙◌}
-use Rattle.std.specs.List.{list_any}
-use Rattle.log_records.specs.Log.{Entry, txn_of}
-use Rattle.log_records.specs.Unfinished.{losers}
+use Rattle.image_check.proofs.Names.{◌≡◌, ◌==◌, ℕ, true, false, sym, ap, ◌∙◌, list_any, Entry, txn_of, losers}
 use Rattle.image_check.proofs.Looks.{looked_failed}
 use Rattle.image_check.proofs.StrayOnes.{chains_same}
 use Rattle.image_check.proofs.filling.Filling.hear.Goals as goal

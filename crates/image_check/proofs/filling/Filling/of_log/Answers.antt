@@ -1,18 +1,6 @@
-use Rattle.std.proofs.Common.{arith, rules, ◌≡◌, ◌+◌, ◌≤◌, ◌++◌, ◌∷◌, [], Ok, Err, true≢false, refl, sym, ◌∙◌, subst}
+use Rattle.image_check.proofs.Names.{arith, rules, ◌≡◌, ◌+◌, ◌≤◌, ◌++◌, ◌∷◌, [], Err, true≢false, refl, sym, ◌∙◌, subst, err_from_is_err_and, FitsAt, HearsLog, filled, reading_of, records_of, without, few_more, few_then, AreVersions, logical_image_of, unread, versions_on, Entry, number_of, looks_then, looks_answered, looks_failed, State, Image, OnlyReads}
+use Rattle.std.proofs.Common.{Ok}
 use Rattle.std.specs.Prelude.{◌↔◌, IsTrue}
-use Rattle.std.proofs.lemmas.Result.{err_from_is_err_and}
-use Rattle.site.specs.State.{State, Image}
-use Rattle.site.specs.Work.{OnlyReads}
-use Rattle.site.proofs.Working.{looks_then, looks_answered, looks_failed}
-use Rattle.log_records.specs.Log.{Entry, number_of}
-use Rattle.image_meaning.specs.Meaning.{versions_on}
-use Rattle.image_form.specs.Octets.{AreVersions}
-use Rattle.image_form.specs.Verdict.{logical_image_of}
-use Rattle.image_form.specs.Walking.{unread}
-use Rattle.image_check.specs.Filling.{FitsAt, HearsLog, filled}
-use Rattle.image_check.specs.Judging.{reading_of, records_of}
-use Rattle.image_form.proofs.Counts.{few_more, few_then}
-use Rattle.image_check.specs.Looking.{without}
 use Rattle.image_check.proofs.Looks.{without_most}
 use Rattle.image_check.proofs.FilledOnes.{below_it, first_room, fits_there, rooms_more, rule_redone}
 use Rattle.image_check.proofs.ShownOnes.{versions_later}

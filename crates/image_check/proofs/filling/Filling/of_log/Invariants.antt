@@ -1,11 +1,4 @@
-use Rattle.image_form.specs.Walking.{to_go}
-use Rattle.image_form.specs.Octets.{AreVersions}
-use Rattle.image_meaning.specs.Meaning.{versions_on}
-use Rattle.log_records.specs.Sound.{HaveBegunBefore}
-use Rattle.image_check.specs.Judging.{records_of}
-use Rattle.image_check.specs.Looking.{without}
-use Rattle.image_check.specs.Showing.{FindsVersions}
-use Rattle.log_judge.specs.Unended.{AreLeft}
+use Rattle.image_check.proofs.Names.{records_of, without, FindsVersions, AreVersions, to_go, versions_on, AreLeft, HaveBegunBefore}
 use Rattle.image_check.proofs.FilledOnes.{FilledSoFar}
 use Rattle.image_check.proofs.Walking.{WalksOver}
 use Rattle.image_check.proofs.filling.Filling.of_log.Given as goal

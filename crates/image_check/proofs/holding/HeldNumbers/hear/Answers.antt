@@ -1,11 +1,5 @@
-use Rattle.std.proofs.Common.{◌≡◌, ◌++◌, ◌∷◌, [], ◌+◌, ◌*◌, ℕ, true, false, not, sym, ap, subst, refl, ◌∙◌}
-use Rattle.std.proofs.lemmas.Bool.{and_left}
-use Rattle.log_records.specs.declared.log_record.LogRecord.{LogRecord}
-use Rattle.log_records.specs.declared.log_record.LogRecord.TheVariants.{Update}
-use Rattle.log_records.specs.Log.{Entry, is_update, is_closed, txn_by}
-use Rattle.image_check.specs.Holding.{AreHeld, IsListed}
+use Rattle.image_check.proofs.Names.{◌≡◌, ◌++◌, ◌∷◌, [], ◌+◌, ◌*◌, ℕ, true, false, not, sym, ap, subst, refl, ◌∙◌, and_left, AreHeld, IsListed, goes_well, Entry, is_update, is_closed, txn_by, LogRecord, Update}
 use Rattle.image_check.proofs.HeldOnes.{held_more, held_same, not_update}
-use Rattle.log_judge.proofs.Outcomes.{goes_well}
 use Rattle.image_check.proofs.holding.HeldNumbers.hear.Goals as goal
 
 pub returns-in_default : goal.returns-in_default

@@ -1,12 +1,6 @@
-use Rattle.std.proofs.Common.{rules, ◌≡◌, ◌%◌, ◌/◌, ◌++◌, ◌∷◌, [], ℕ, Some, None, cond, length, refl, sym, ap, ◌∙◌, subst, slice_set, ◌<◌, nat_eq, is_some, Option, true, arith}
-use Rattle.std.specs.Prelude.{nat_lt, IfSome, IfNone}
-use Rattle.log_records.specs.Log.{Entry, number_of}
-use Rattle.image_meaning.specs.Meaning.{versions_on}
-use Rattle.indexmap.specs.IndexMap.{get}
-use Rattle.image_form.specs.Counted.{ReadsAtMost}
-use Rattle.image_form.proofs.FirstRule.{answers_as}
-use Rattle.image_check.specs.declared.lengths.PageLengths.{PageLengths}
-use Rattle.image_check.specs.Filling.{AreOn, KnownOn, filled}
+use Rattle.image_check.proofs.Names.{rules, ◌≡◌, ◌%◌, ◌/◌, ◌++◌, ◌∷◌, [], ℕ, Some, None, cond, length, refl, sym, ap, ◌∙◌, subst, slice_set, ◌<◌, nat_eq, Option, true, arith, IfSome, IfNone, AreOn, KnownOn, filled, PageLengths, answers_as, ReadsAtMost, versions_on, get, Entry, number_of}
+use Rattle.std.proofs.Common.{is_some}
+use Rattle.std.specs.Prelude.{nat_lt}
 use Rattle.image_check.proofs.Looks.{looked_none, looked_failed, looked_put}
 use Rattle.image_check.proofs.FilledOnes.{after_on, filled_off, fills_on, fills_none, fills_past, off_number}
 use Rattle.image_check.proofs.lengths.Lengths.hear.Goals as goal

@@ -1,16 +1,6 @@
-use Rattle.std.proofs.Common.{◌≡◌, ◌<◌, ℕ, nat_eq, Some, None, option_copied, length, true≢false, sym, ap, ◌∙◌, subst, arith, cond, Option, is_some}
+use Rattle.image_check.proofs.Names.{◌≡◌, ◌<◌, ℕ, nat_eq, Some, None, option_copied, length, true≢false, sym, ap, ◌∙◌, subst, arith, cond, Option, AreKeptOn, without, PageLengths, few_more, ReadsAtMost, length-versions, version_is, versions_on, get, content_at, length_of, Geometry, IsSound, lsn_of, slots_of}
+use Rattle.std.proofs.Common.{is_some}
 use Rattle.std.specs.Prelude.{List, slice_index_or}
-use Rattle.record_model.specs.State.{content_at, length_of}
-use Rattle.site.specs.declared.geometry.Geometry.{Geometry}
-use Rattle.indexmap.specs.IndexMap.{get}
-use Rattle.slotted_page.specs.Layout.{IsSound, lsn_of, slots_of}
-use Rattle.image_meaning.specs.Meaning.{versions_on}
-use Rattle.image_meaning.proofs.Versions.{length-versions, version_is}
-use Rattle.image_form.specs.Counted.{ReadsAtMost}
-use Rattle.image_form.proofs.Counts.{few_more}
-use Rattle.image_check.specs.declared.lengths.PageLengths.{PageLengths}
-use Rattle.image_check.specs.Filling.{AreKeptOn}
-use Rattle.image_check.specs.Looking.{without}
 use Rattle.image_check.proofs.Looks.{lacks_few}
 use Rattle.image_check.proofs.FilledOnes.{of_version}
 use Rattle.image_check.proofs.lengths.Lengths.of_page.Goals as goal

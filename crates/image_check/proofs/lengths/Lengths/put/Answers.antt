@@ -1,5 +1,5 @@
+use Rattle.image_check.proofs.Names.{goes_well}
 use Rattle.image_check.proofs.FilledOnes.{fit_of, put_kept}
-use Rattle.log_judge.proofs.Outcomes.{goes_well}
 use Rattle.image_check.proofs.lengths.Lengths.put.Goals as goal
 
 pub returns-clause-keeps : goal.returns-clause-keeps

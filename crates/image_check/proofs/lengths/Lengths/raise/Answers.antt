@@ -1,12 +1,5 @@
-use Rattle.std.proofs.Common.{rules, ◌≡◌, ◌%◌, ◌/◌, ◌++◌, ◌∷◌, [], ℕ, Some, None, length, refl, sym, ap, ◌∙◌, subst, slice_index_or, slice_set, ◌<◌, cond, nat_eq, is_some, Option, true, arith}
-use Rattle.std.specs.Prelude.{max, IfSome, IfNone}
-use Rattle.log_records.specs.Log.{number_of}
-use Rattle.image_meaning.specs.Meaning.{versions_on}
-use Rattle.indexmap.specs.IndexMap.{get}
-use Rattle.image_form.specs.Counted.{ReadsAtMost}
-use Rattle.image_form.proofs.FirstRule.{answers_as}
-use Rattle.image_check.specs.declared.lengths.PageLengths.{PageLengths}
-use Rattle.image_check.specs.Filling.{AreOn, KnownOn, opened}
+use Rattle.image_check.proofs.Names.{rules, ◌≡◌, ◌%◌, ◌/◌, ◌++◌, ◌∷◌, [], ℕ, Some, None, length, refl, sym, ap, ◌∙◌, subst, slice_index_or, slice_set, ◌<◌, cond, nat_eq, Option, true, arith, max, IfSome, IfNone, AreOn, KnownOn, opened, PageLengths, answers_as, ReadsAtMost, versions_on, get, number_of}
+use Rattle.std.proofs.Common.{is_some}
 use Rattle.image_check.proofs.Looks.{looked_none, looked_failed, looked_put}
 use Rattle.image_check.proofs.FilledOnes.{raised_on, opened_off, fills_on, fills_none, fills_past, off_number}
 use Rattle.image_check.proofs.lengths.Lengths.raise.Goals as goal

@@ -1,9 +1,5 @@
-use Rattle.std.proofs.Common.{◌≡◌, ◌==◌, ℕ, true, false, sym, ap, ◌∙◌}
-use Rattle.std.specs.List.{list_any}
-use Rattle.log_records.specs.Log.{Entry, txn_of}
-use Rattle.log_records.specs.Unfinished.{losers}
+use Rattle.image_check.proofs.Names.{◌≡◌, ◌==◌, ℕ, true, false, sym, ap, ◌∙◌, list_any, memory_as, Entry, txn_of, losers}
 use Rattle.image_check.proofs.StrayOnes.{chains_same, strays_same}
-use Rattle.log_judge.proofs.Outcomes.{memory_as}
 use Rattle.image_check.proofs.undoable.Undoing.hear.Goals as goal
 
 pub returns-then-is_left : goal.returns-then-is_left

@@ -1,7 +1,4 @@
-use Rattle.std.proofs.Common.{rules}
-use Rattle.std.proofs.lemmas.Result.{err_from_is_err_and}
-use Rattle.site.proofs.Working.{looks_then, looks_failed}
-use Rattle.image_check.specs.Judging.{records_of}
+use Rattle.image_check.proofs.Names.{rules, err_from_is_err_and, records_of, looks_then, looks_failed}
 use Rattle.image_check.proofs.Walking.{in_order, walk_begins, walk_goes_on, judged_end, reads_lacked, walk_few}
 use Rattle.image_check.proofs.undoable.Undoing.of_log.Goals as goal
 

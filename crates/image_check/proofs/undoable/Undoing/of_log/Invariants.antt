@@ -1,8 +1,4 @@
-use Rattle.image_form.specs.Walking.{to_go}
-use Rattle.log_records.specs.Sound.{HaveBegunBefore}
-use Rattle.image_check.specs.Chaining.{IsUndoing}
-use Rattle.image_check.specs.Judging.{records_of}
-use Rattle.log_judge.specs.Unended.{AreLeft}
+use Rattle.image_check.proofs.Names.{IsUndoing, records_of, to_go, AreLeft, HaveBegunBefore}
 use Rattle.image_check.proofs.Walking.{WalksOver}
 use Rattle.image_check.proofs.undoable.Undoing.of_log.Given as goal
 

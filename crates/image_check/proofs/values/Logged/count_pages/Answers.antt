@@ -1,15 +1,5 @@
-use Rattle.std.proofs.Common.{◌≡◌, ◌*◌, ◌≤◌, inl, inr, ℕ, Option, Some, true≢false, is_some, refl, sym, ap, ◌∙◌, subst, arith, ◌+◌, Ok}
-use Rattle.std.specs.Prelude.{IfSome}
-use Rattle.std.proofs.lemmas.Bool.{cases_eq}
-use Rattle.site.specs.declared.geometry.Geometry.{Geometry}
-use Rattle.site.specs.State.{State, Image}
-use Rattle.site.proofs.Working.{looks_then, looks_answered}
-use Rattle.log_records.specs.Log.{value_of}
-use Rattle.flash_cache.specs.Representation.{version_on}
-use Rattle.image_meaning.specs.Meaning.{versions_on}
-use Rattle.image_form.specs.Octets.{AreVersions}
-use Rattle.image_check.specs.Showing.{HasContents}
-use Rattle.image_form.proofs.Counts.{few_then}
+use Rattle.image_check.proofs.Names.{◌≡◌, ◌*◌, ◌≤◌, inl, inr, ℕ, Option, Some, true≢false, refl, sym, ap, ◌∙◌, subst, arith, ◌+◌, cases_eq, IfSome, version_on, HasContents, few_then, AreVersions, versions_on, value_of, looks_then, looks_answered, State, Image, Geometry}
+use Rattle.std.proofs.Common.{is_some, Ok}
 use Rattle.image_check.proofs.ShownOnes.{versions_later}
 use Rattle.image_check.proofs.ValuesCounted.{values_among, page_more, all_pages}
 use Rattle.image_check.proofs.Walking.{may_later}

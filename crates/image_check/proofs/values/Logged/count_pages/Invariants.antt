@@ -1,14 +1,4 @@
-use Rattle.std.proofs.Common.{◌≡◌, ◌*◌, ◌≤◌, ◌<◌, ℕ, List}
-use Rattle.std.specs.Prelude.{Ok}
-use Rattle.site.specs.Work.{OnlyReads}
-use Rattle.log_records.specs.Log.{Entry, value_of}
-use Rattle.flash_cache.specs.Representation.{version_on}
-use Rattle.image_meaning.specs.Meaning.{versions_on}
-use Rattle.image_form.specs.Counted.{ReadsAtMost}
-use Rattle.image_form.specs.Octets.{AreVersions}
-use Rattle.image_check.specs.Judging.{MayBeJudged}
-use Rattle.image_check.specs.Showing.{FindsVersions, HasContents}
-use Rattle.image_check.specs.Writing.{AreWritten}
+use Rattle.image_check.proofs.Names.{◌≡◌, ◌*◌, ◌≤◌, ◌<◌, ℕ, List, Ok, version_on, MayBeJudged, FindsVersions, HasContents, AreWritten, ReadsAtMost, AreVersions, versions_on, Entry, value_of, OnlyReads}
 use Rattle.image_check.proofs.ValuesCounted.{values_among}
 use Rattle.image_check.proofs.values.Logged.count_pages.Given as goal
 

@@ -1,11 +1,5 @@
-use Rattle.std.proofs.Common.{rules, true≢false, Ok, Err, refl, sym, ◌∙◌, subst}
-use Rattle.std.specs.List.{AllByRecursion}
-use Rattle.std.proofs.lemmas.Result.{err_from_is_err_and}
-use Rattle.std_lemmas.proofs.AllOf.{all_push, all_right}
-use Rattle.site.proofs.Working.{looks_then, looks_failed}
-use Rattle.log_records.specs.Sound.{Pairwise, HoldsOff}
-use Rattle.image_check.specs.Judging.{records_of}
-use Rattle.image_check.specs.Showing.{IsKnownEarly}
+use Rattle.image_check.proofs.Names.{rules, true≢false, Err, refl, sym, ◌∙◌, subst, err_from_is_err_and, AllByRecursion, records_of, IsKnownEarly, Pairwise, HoldsOff, looks_then, looks_failed, all_push, all_right}
+use Rattle.std.proofs.Common.{Ok}
 use Rattle.image_check.proofs.ValuesCounted.{pairs_front}
 use Rattle.image_check.proofs.Walking.{reads_lacked, walk_begins, walk_goes_on, judged_at, judged_end, walk_few}
 use Rattle.image_check.proofs.values.Logged.of_log.Goals as goal

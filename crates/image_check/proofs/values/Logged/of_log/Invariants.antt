@@ -1,6 +1,4 @@
-use Rattle.image_form.specs.Walking.{to_go}
-use Rattle.image_check.specs.Judging.{records_of}
-use Rattle.image_check.specs.Values.{Hears}
+use Rattle.image_check.proofs.Names.{records_of, Hears, to_go}
 use Rattle.image_check.proofs.Walking.{WalksOver}
 use Rattle.image_check.proofs.values.Logged.of_log.Given as goal
 

@@ -1,7 +1,4 @@
-use Rattle.std.proofs.Common.{refl, ap, arith}
-use Rattle.std.specs.Prelude.{Err}
-use Rattle.site.specs.declared.outside.Dev.TheVariants.{Log}
-use Rattle.image_form.specs.Walking.{unread}
+use Rattle.image_form.proofs.Names.{refl, ap, arith, Err, unread, Log}
 use Rattle.image_form.proofs.Counts.{log_few}
 use Rattle.image_form.proofs.Walks.{nothing_left, filled, block_there}
 use Rattle.image_form.proofs.walk.Walk.fill.Goals as goal
