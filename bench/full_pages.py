@@ -4,9 +4,9 @@
     bench/full_pages.py [FOLDER]
 
 Durable sets of 8 octets, and of 200 in a page that is full, in turns, each timed until its reply, in FOLDER (the current one); the
-instructions of a set of each, of the same lines where the record isn't there, and of a write in sessions of 20 and of 2,000 (valgrind);
-and the restart over 16,000 blocks of sessions that went back to a mark and of such as didn't (in memory). FACE names another program
-than the one that bin/face runs."""
+instructions of a set of each, also where each value is an octet longer or shorter than the one before, of the same lines where the
+record isn't there, of a get, and of a write in sessions of 20 and of 2,000 (valgrind); and the restart over 16,000 blocks of sessions
+that went back to a mark and of such as didn't (in memory). FACE names another program than the one that bin/face runs."""
 import os
 import re
 import shutil
@@ -99,10 +99,11 @@ def restart(marks):
 def main():
     short, full = seconds_of(sys.argv[1] if len(sys.argv) > 1 else ".")
     print(f"a set of 8 octets {1e6 * short:.0f} us, of 200 in a full page {1e6 * full:.0f} us: {full / short:.2f}")
-    for name, value, fill in (("8 octets", SHORT, SPARSE), ("200 in a full page", LONG, FILLED)):
-        sets = instructions(fill, [f"set {place % 19} {value}" for place in range(COUNT)], COUNT)
-        refused = instructions(fill, [f"set 99999 {value}" for place in range(COUNT)], COUNT)
-        print(f"a set of {name}: {sets} instructions, of a record that isn't there {refused}")
+    for name, values, fill in (("8 octets", [SHORT], SPARSE), ("200 in a full page", [LONG], FILLED), ("199 or 200 there", [LONG[2:], LONG], FILLED)):
+        sets = instructions(fill, [f"set {place % 19} {values[place // 19 % len(values)]}" for place in range(COUNT)], COUNT)
+        refused = instructions(fill, [f"set 99999 {values[0]}" for place in range(COUNT)], COUNT)
+        gets = instructions(fill, [f"get {place % 19}" for place in range(COUNT)], COUNT)
+        print(f"a set of {name}: {sets} instructions, of a record that isn't there {refused}, a get {gets}")
     fill = [f"set {record} {SHORT}" for record in range(2048)]
     for writes in (20, 2000):
         print(f"a write in sessions of {writes}: {instructions(fill, session(writes), 4000)} instructions")

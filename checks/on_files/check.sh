@@ -82,6 +82,19 @@ else
     skip 'locks of others: need flock'
 fi
 
+# --- a disk that was cut at a page's end: where the log names a page behind it that is found, else it is a smaller one's
+mkdir "$folder/cut"
+cd "$folder/cut" || exit 1
+told 'a database of four pages' 0 'ready 4 8 16' '' new 4 8 16
+told 'a record on the first' 0 'open 0/committed 1' 'set 5 aa/' run 1
+truncate -s 12288 face.disk
+checks 'a disk without its last page' 0 'sound records 1 commits 1' ''
+truncate -s 16384 face.disk
+told 'a record on the last' 0 'open 1/committed 2' 'set 96 bb/' run 1
+truncate -s 12288 face.disk
+checks 'a disk without a page that the log names' 11 'unsound S1' 'face: rule 1 fails at block .*'
+cd "$folder/db" || exit 1
+
 # --- beside a run: the first line on standard error is promised not to change
 mkfifo input
 "$face" run 1 <input >replies 2>/dev/null &

@@ -1,3 +1,4 @@
+mod Names
 mod Tables
 mod Maps
 mod Records

@@ -1,32 +1,13 @@
 -- The table's entries, and what the list says of them.
+use Rattle.analysis.proofs.Names.{Less, ◌≡◌, ℕ, ◌+◌, ◌≤◌, ◌==◌, Bool, true, false, true≢false, cond, List, [], ◌∷◌, ◌++◌, length, map, Option, option_map, Some, None, Result, Ok, Err, OnOk, OnErr, IfErr, IsErrOf, IsSome, is_ok, vec_len, ◌&&◌, ◌||◌, reverse, refl, sym, ap, subst, ◌∙◌, arith, eqb-true, ne_eqb, map-append, length-reverse, sum_by-cons, sorted_head, sorted_tail, none-some, BTreeMap, is_at, Updates, WritesThrough, IsOrdered, unsigned_tied, AllByRecursion, list_any, lookup, keys_of, values_of, nat_cmp, Open, found_in, AscendFrom, Changes, begun, none_remains, owed_one, owed_for, updates_of, Descend, has_at, IsOrder, loser_of, IsTable, open_of, Becomes, Order, Transaction, Entry, Active, IsInOrder, eq_turned, any_reverse}
 use Rattle.std.proofs.lemmas.Bool.Decides.{nat_tests}
-use Rattle.std.proofs.Common.{Less, ◌≡◌, ℕ, ◌+◌, ◌≤◌, ◌==◌, Bool, true, false, true≢false, cond, List, [], ◌∷◌, ◌++◌, length, map, Option, option_map, Some, None, Result, Ok, Err, OnOk, OnErr, IfErr, IsErrOf, IsSome, is_ok, filter, vec_len, ◌&&◌, ◌||◌, reverse, refl, sym, ap, subst, ◌∙◌, arith}
+use Rattle.std.proofs.Common.{filter}
 use Rattle.std.proofs.lemmas.Grind.{common_steps}
-use Rattle.std.specs.Map.{lookup, keys_of, values_of}
-use Rattle.std.proofs.lemmas.List.{map-append, append_assoc, append-nil, length-reverse}
-use Rattle.std.proofs.lemmas.List.Sums.{sum_by-cons}
-use Rattle.std.proofs.lemmas.Option.{none-some}
-use Rattle.std_lemmas.proofs.Lists.{any_reverse}
-use Rattle.std.specs.BTreeMap.{BTreeMap, is_at, Updates, WritesThrough, IsOrdered}
-use Rattle.std.specs.Cmp.{unsigned_tied}
-use Rattle.std.specs.Ordering.{nat_cmp}
-use Rattle.std.specs.List.{AllByRecursion, list_any}
+use Rattle.std.proofs.lemmas.List.{append_assoc, append-nil}
 use Rattle.std.specs.List.Sorted.{IsStrictlySortedBy}
-use Rattle.std.proofs.lemmas.Bool.{eqb-true, ne_eqb}
-use Rattle.std.proofs.lemmas.Map.Keys.{sorted_head, sorted_tail}
-use Rattle.std_lemmas.proofs.Bools.{eq_turned}
 use Rattle.site.specs.declared.outside.Stop.{Stop}
 use Rattle.site.specs.declared.outside.Stop.TheVariants.{Memory, Foreign}
-use Rattle.analysis.specs.declared.table.Transaction.{Transaction}
-use Rattle.analysis.specs.Open.{Open, found_in, AscendFrom, Changes, begun}
-use Rattle.analysis.specs.Table.{open_of, Becomes}
-use Rattle.analysis.specs.declared.order.Order.{Order}
-use Rattle.analysis.specs.Order.{Descend, has_at, IsOrder}
 use Rattle.analysis.specs.declared.analysis.Loser.{Loser}
-use Rattle.analysis.specs.Open.{none_remains, owed_one, owed_for, updates_of}
-use Rattle.analysis.specs.Read.{loser_of, IsTable}
-use Rattle.log_records.specs.Log.{Entry}
-use Rattle.log_records.specs.Sound.{Active, IsInOrder}
 use Rattle.analysis.proofs.Orders.{order_more, none_before}
 use Rattle.analysis.proofs.Pending.{updates_descend, updates_apart}
 use Rattle.analysis.proofs.Tables.{found_here, found_front, found_past, becomes, says_same}

@@ -1,6 +1,5 @@
 -- Which Update is undone next.
-use Rattle.std.proofs.Common.{◌≡◌, inl, inr, ℕ, ◌+◌, ◌<◌, ◌≤◌, List, [], ◌∷◌, length, Some, arith}
-use Rattle.analysis.specs.Open.{Open, found_in, AscendFrom, IsTop, Remains, OneHas}
+use Rattle.analysis.proofs.Names.{◌≡◌, inl, inr, ℕ, ◌+◌, ◌<◌, ◌≤◌, List, [], ◌∷◌, length, Some, arith, Open, found_in, AscendFrom, IsTop, Remains, OneHas}
 use Rattle.analysis.proofs.Tables.{found_here, found_later}
 
 -- The next one is found.

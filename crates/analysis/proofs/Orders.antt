@@ -1,20 +1,7 @@
 -- Orders of Updates.
-use Rattle.std.proofs.Common.{◌≡◌, ◌≢◌, ◌⊎◌, inl, inr, ℕ, ◌+◌, ◌<◌, ◌≤◌, ◌==◌, ◌&&◌, ◌||◌, Bool, true, false, true≢false, cond, if◌then◌else◌, List, [], ◌∷◌, ◌++◌, length, take, drop, get_or, slice_get, reverse, Option, Some, None, IfSome, IsSome, is_some, ◌↔◌, refl, sym, ap, subst, ◌∙◌, arith}
-use Rattle.std.specs.BTreeMap.{get, is_at, Updates, IsUpperBound}
-use Rattle.std.specs.Cmp.{unsigned_tied}
-use Rattle.std.specs.List.{AllByRecursion, list_any}
-use Rattle.std.specs.Map.{lookup}
-use Rattle.std.specs.Ordering.{nat_cmp}
-use Rattle.std.proofs.lemmas.Bool.{cases_eq, eq-eqb, eqb-true, ne_eqb}
-use Rattle.std.proofs.lemmas.Map.Keys.{ge_from_not_lt}
-use Rattle.std.proofs.lemmas.Option.{none-some, same_Some}
-use Rattle.std.proofs.lemmas.List.{take_more, take-append-drop, reverse-append}
+use Rattle.analysis.proofs.Names.{◌≡◌, ◌≢◌, ◌⊎◌, inl, inr, ℕ, ◌+◌, ◌<◌, ◌≤◌, ◌==◌, ◌&&◌, ◌||◌, Bool, true, false, true≢false, cond, if◌then◌else◌, List, [], ◌∷◌, ◌++◌, length, take, drop, get_or, slice_get, reverse, Option, Some, None, IfSome, IsSome, is_some, ◌↔◌, refl, sym, ap, subst, ◌∙◌, arith, cases_eq, eq-eqb, eqb-true, ne_eqb, take_more, take-append-drop, reverse-append, ge_from_not_lt, none-some, same_Some, get, is_at, Updates, IsUpperBound, unsigned_tied, AllByRecursion, list_any, lookup, nat_cmp, Open, found_in, updates_of, left_in, AscendFrom, DropsOne, IsTop, IsAtMost, Remains, HasLeft, OneHas, IsNext, BeginBelow, Descend, has_at, IsOrder, Order, and_false, or_false, or_true, any_reverse}
 use Rattle.std.proofs.lemmas.List.Folds.{list_any-append}
-use Rattle.std_lemmas.proofs.Bools.{and_false, or_false, or_true}
-use Rattle.std_lemmas.proofs.Lists.{any_reverse}
-use Rattle.analysis.specs.declared.order.Order.{Order}
-use Rattle.analysis.specs.Open.{Open, found_in, updates_of, left_in, AscendFrom, DropsOne, IsTop, IsAtMost, Remains, HasLeft, OneHas, IsNext}
-use Rattle.analysis.specs.Order.{BeginBelow, Descend, is_of, has_at, IsOrder}
+use Rattle.analysis.specs.Order.{is_of}
 use Rattle.analysis.proofs.Nexts.{some_left}
 use Rattle.analysis.proofs.Tables.{found_here, found_later}
 

@@ -1,24 +1,8 @@
 -- The Updates that remain, among the records.
-use Rattle.std.proofs.Common.{◌≡◌, ℕ, ◌+◌, ◌<◌, ◌≤◌, ◌==◌, ◌&&◌, ◌||◌, not, Bool, true, false, true≢false, List, [], ◌∷◌, ◌++◌, length, map, Option, Some, None, option_map, refl, sym, ap, subst, ◌∙◌, arith, append_assoc}
-use Rattle.std.specs.Prelude.{filter}
-use Rattle.std.specs.Option.{option_or}
-use Rattle.std.specs.List.{AllByRecursion, list_any}
-use Rattle.std.proofs.lemmas.Bool.{cond-true, cond-false, eq-eqb, eqb-true, ne_eqb, and_parts}
-use Rattle.std.proofs.lemmas.Option.{none-some, same_Some}
-use Rattle.std_lemmas.proofs.AllOf.{all_both, all_filter_passed, all_weaker}
-use Rattle.std.proofs.lemmas.List.Elements.{filter-append}
-use Rattle.log_records.specs.declared.log_record.LogRecord.{LogRecord}
-use Rattle.log_records.specs.declared.log_record.LogRecord.TheVariants.{Update, Clr}
-use Rattle.log_records.specs.Log.{Entry, txn_of, is_of, is_update, is_closed, entries_of, last_where}
-use Rattle.log_records.specs.Unfinished.{left_open, open_by, open_updates, pending}
-use Rattle.log_records.specs.Sound.{Active, IsInOrder, is_known}
-use Rattle.analysis.specs.Open.{Open, found_in, IsTop, IsAtMost, IsNext}
-use Rattle.analysis.specs.Order.{BeginBelow}
-use Rattle.analysis.specs.Order as numbers
-use Rattle.analysis.specs.Read.{is_active, open_at, IsTable}
+use Rattle.analysis.proofs.Names.{◌≡◌, ℕ, ◌+◌, ◌<◌, ◌≤◌, ◌==◌, ◌&&◌, ◌||◌, not, Bool, true, false, true≢false, List, [], ◌∷◌, ◌++◌, length, map, Option, Some, None, option_map, refl, sym, ap, subst, ◌∙◌, arith, append_assoc, cond-true, cond-false, eq-eqb, eqb-true, ne_eqb, and_parts, filter-append, none-some, same_Some, AllByRecursion, list_any, option_or, filter, Open, found_in, IsTop, IsAtMost, IsNext, BeginBelow, is_active, open_at, IsTable, in_order_from, Entry, txn_of, is_of, is_update, is_closed, entries_of, last_where, Active, IsInOrder, is_known, left_open, open_by, open_updates, pending, LogRecord, Update, Clr, all_both, all_filter_passed, all_weaker}
 use Rattle.analysis.proofs.Steps.{active_some}
 use Rattle.analysis.proofs.Nexts.{remains_is}
-use Rattle.log_records.proofs.Entries.{in_order_from}
+use Rattle.analysis.specs.Order as numbers
 
 -- Lists.
 

@@ -1,12 +1,6 @@
 -- Analysis with one more record.
-use Rattle.std.proofs.Common.{rules, ◌≡◌, ℕ, ◌+◌, ◌-◌, ◌^◌, min, true, false, List, [], ◌∷◌, length, Option, Some, None, refl, sym, ◌∙◌, arith, length-append}
-use Rattle.log_records.specs.declared.log_record.LogRecord.TheVariants.{Begin}
-use Rattle.log_records.specs.Log.{Entry, txn_of, is_closing}
-use Rattle.log_records.specs.Sound.{Master, commit_numbers}
+use Rattle.analysis.proofs.Names.{rules, ◌≡◌, ℕ, ◌+◌, ◌-◌, ◌^◌, min, true, false, List, [], ◌∷◌, length, Option, Some, None, refl, sym, ◌∙◌, arith, length-append, Open, found_in, Changes, begun, open_in, IsAnalysis, MayCome, listed, Becomes, Entry, txn_of, is_closing, Master, commit_numbers, Begin}
 use Rattle.analysis.specs.declared.analysis.Analysis.{Analysis}
-use Rattle.analysis.specs.Open.{Open, found_in, Changes, begun}
-use Rattle.analysis.specs.Table.{listed, Becomes}
-use Rattle.analysis.specs.Read.{open_in, IsAnalysis, MayCome}
 use Rattle.analysis.proofs.Records.{with, after_record, numbers_more}
 use Rattle.analysis.proofs.Steps.{next_table, goes_on, is_gone, is_new, known_more, known_active, known_begin}
 

@@ -1,18 +1,6 @@
 -- What one more record says.
 use Rattle.std.proofs.lemmas.Grind.{common_steps}
-use Rattle.std.proofs.Common.{arith, ◌≡◌, ℕ, ◌==◌, ◌&&◌, ◌||◌, Bool, true, cond, List, [], ◌∷◌, ◌++◌, map, drop, Option, refl, sym, ap, ◌∙◌}
-use Rattle.std.specs.Prelude.{filter}
-use Rattle.std.specs.List.{list_any}
-use Rattle.std.proofs.lemmas.List.{map-append}
-use Rattle.std.proofs.lemmas.Bool.{eq-eqb}
-use Rattle.std_lemmas.proofs.Bools.{or_false, or_assoc}
-use Rattle.log_records.specs.declared.log_record.LogRecord.{LogRecord}
-use Rattle.log_records.specs.declared.log_record.LogRecord.TheVariants.{Begin, Update, Clr}
-use Rattle.log_records.specs.Log.{Entry, txn_of, is_of, is_closing, is_closed, entries_of}
-use Rattle.log_records.specs.Unfinished.{is_begin, open_by, open_updates}
-use Rattle.log_records.specs.Sound.{Active, is_known, last_number, commit_number, commit_numbers}
-use Rattle.analysis.specs.Open.{Open}
-use Rattle.analysis.specs.Read.{open_at}
+use Rattle.analysis.proofs.Names.{arith, ◌≡◌, ℕ, ◌==◌, ◌&&◌, ◌||◌, Bool, true, cond, List, [], ◌∷◌, ◌++◌, map, drop, Option, refl, sym, ap, ◌∙◌, eq-eqb, map-append, list_any, filter, Open, open_at, Entry, txn_of, is_of, is_closing, is_closed, entries_of, Active, is_known, last_number, commit_number, commit_numbers, is_begin, open_by, open_updates, LogRecord, Begin, Update, Clr, or_false, or_assoc}
 
 abbrev pub with : List Entry → Entry → List Entry
 with records e = records ++ e ∷ []

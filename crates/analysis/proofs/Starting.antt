@@ -1,21 +1,8 @@
 -- The table of the transactions that a master names.
-use Rattle.std.proofs.Common.{zero, ◌++◌, take, drop, get_or, slice_get, reverse, sym, ◌∙◌, ◌≡◌, ℕ, suc, ◌+◌, ◌<◌, ◌≤◌, ◌==◌, cond, List, [], ◌∷◌, length, map, Some, None, refl, ap, subst, arith}
-use Rattle.std.specs.Prelude.{slice_index_or}
-use Rattle.std.specs.List.{list_any, AllByRecursion}
-use Rattle.std.specs.BTreeMap.{BTreeMap, insert_entry}
-use Rattle.std.specs.Ordering.{nat_cmp}
-use Rattle.std.proofs.lemmas.List.{take_more, map-append}
-use Rattle.std.proofs.lemmas.Option.{same_Some, get_or_from_slice_get}
+use Rattle.analysis.proofs.Names.{zero, ◌++◌, take, drop, get_or, slice_get, reverse, sym, ◌∙◌, ◌≡◌, ℕ, suc, ◌+◌, ◌<◌, ◌≤◌, ◌==◌, cond, List, [], ◌∷◌, length, map, Some, None, refl, ap, subst, arith, eqb-true, take_more, map-append, sum_by-cons, same_Some, get_or_from_slice_get, BTreeMap, insert_entry, list_any, AllByRecursion, nat_cmp, slice_index_or, Open, found_in, AscendFrom, owed_one, owed_for, last_named, IsTable, open_of, Transaction, Active}
 use Rattle.std_lemmas.proofs.Entries.{AreBelow, insert_last}
-use Rattle.std.proofs.lemmas.Bool.{eqb-true}
-use Rattle.std.proofs.lemmas.List.Sums.{sum_by-cons}
-use Rattle.log_records.specs.Sound.{Active}
 use Rattle.checkpoint.specs.declared.pairs.Pair.{Pair}
 use Rattle.checkpoint.specs.Actives.{no_pair, Ascend}
-use Rattle.analysis.specs.declared.table.Transaction.{Transaction}
-use Rattle.analysis.specs.Table.{open_of}
-use Rattle.analysis.specs.Open.{Open, found_in, AscendFrom, owed_one, owed_for}
-use Rattle.analysis.specs.Read.{last_named, IsTable}
 
 abbrev pub active_of : Pair → Active
 active_of pair = record { begin = pair.begin; last = pair.last }

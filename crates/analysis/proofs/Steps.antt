@@ -1,13 +1,6 @@
 -- The table after one more record.
 use Rattle.std.proofs.lemmas.Grind.{common_steps}
-use Rattle.std.proofs.Common.{arith, ◌≡◌, ℕ, true, false, List, [], Option, Some, None}
-use Rattle.std.proofs.lemmas.Bool.{cond-true, and_parts}
-use Rattle.std.proofs.lemmas.Option.{none-some}
-use Rattle.log_records.specs.declared.log_record.LogRecord.TheVariants.{Begin}
-use Rattle.log_records.specs.Log.{Entry, txn_of, is_closing, is_closed, entries_of}
-use Rattle.log_records.specs.Sound.{Active, is_known}
-use Rattle.analysis.specs.Open.{Open, found_in, Changes}
-use Rattle.analysis.specs.Read.{is_active, open_at, open_in, IsTable, loser_of, IsLoser}
+use Rattle.analysis.proofs.Names.{arith, ◌≡◌, ℕ, true, false, List, [], Option, Some, None, cond-true, and_parts, none-some, Open, found_in, Changes, is_active, open_at, open_in, IsTable, loser_of, IsLoser, Entry, txn_of, is_closing, is_closed, entries_of, Active, is_known, Begin}
 use Rattle.analysis.proofs.Records.{with, after_record, closed_own, known_own, open_own}
 
 -- whether a transaction is active, by what is said of it

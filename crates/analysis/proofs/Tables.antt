@@ -1,11 +1,6 @@
 -- One transaction of a list is changed, taken out or put in.
 use Rattle.std.proofs.lemmas.Grind.{common_steps}
-use Rattle.std.proofs.Common.{◌≡◌, ◌≢◌, ◌⊎◌, inl, inr, ℕ, length, drop, ◌+◌, ◌-◌, ◌<◌, ◌≤◌, ◌==◌, Bool, true, false, cond, List, [], ◌∷◌, ◌++◌, Option, Some, None, refl, sym, ap, subst, ◌∙◌, arith}
-use Rattle.std.specs.List.{AllByRecursion}
-use Rattle.std.proofs.lemmas.Bool.{cond-true, cond-false, eq-eqb, ne_eqb, cases_eq, cases_lt}
-use Rattle.std.proofs.lemmas.Option.{none-some, same_Some}
-use Rattle.analysis.specs.Open.{Open, found_in, AscendFrom, Changes, Replaces, TakesOut, owed_one, owed_for}
-use Rattle.analysis.specs.Table.{Becomes, Closes}
+use Rattle.analysis.proofs.Names.{◌≡◌, ◌≢◌, ◌⊎◌, inl, inr, ℕ, length, drop, ◌+◌, ◌-◌, ◌<◌, ◌≤◌, ◌==◌, Bool, true, false, cond, List, [], ◌∷◌, ◌++◌, Option, Some, None, refl, sym, ap, subst, ◌∙◌, arith, cond-true, cond-false, eq-eqb, ne_eqb, cases_eq, cases_lt, none-some, same_Some, AllByRecursion, Open, found_in, AscendFrom, Changes, Replaces, TakesOut, owed_one, owed_for, Becomes, Closes}
 
 -- What is said of a transaction.
 

@@ -1,19 +1,5 @@
 -- The table by the log alone, and what remains to be undone.
-use Rattle.std.proofs.Common.{◌≡◌, ◌⊎◌, inl, inr, ℕ, ◌*◌, ◌==◌, ◌&&◌, not, Bool, true, false, nat_le, List, [], ◌∷◌, ◌++◌, Some, None, refl, sym, ap, subst, ◌∙◌, arith, true≢false}
-use Rattle.std.specs.Prelude.{filter}
-use Rattle.std.specs.List.{list_any, AllByRecursion}
-use Rattle.std.proofs.lemmas.Bool.{cond-true, cond-false, eq-eqb, and_parts, le-leb, leb-true, or_left, or_right, or_cases, false_from_ne_true, and_from}
-use Rattle.std_lemmas.proofs.Bools.{and_false}
-use Rattle.std_lemmas.proofs.Lists.{any_between}
-use Rattle.std.proofs.lemmas.List.Elements.{filter-append}
-use Rattle.log_records.specs.declared.log_record.LogRecord.{LogRecord}
-use Rattle.log_records.specs.declared.log_record.LogRecord.TheVariants.{Begin}
-use Rattle.log_records.specs.Log.{Entry, txn_of, is_of, is_update, is_closing, is_closed, is_loser}
-use Rattle.log_records.specs.Unfinished.{is_begin, left_open}
-use Rattle.log_records.specs.Sound.{LogicalImage, IsSound, is_known}
-use Rattle.analysis.specs.Read.{is_active, open_at, open_in}
-use Rattle.analysis.specs.Laws.{has_begun}
-use Rattle.analysis.specs.Taken.{is_named, is_taken, taken, TakenTable, TakenPending, AllAreTaken}
+use Rattle.analysis.proofs.Names.{◌≡◌, ◌⊎◌, inl, inr, ℕ, ◌*◌, ◌==◌, ◌&&◌, not, Bool, true, false, nat_le, List, [], ◌∷◌, ◌++◌, Some, None, refl, sym, ap, subst, ◌∙◌, arith, true≢false, cond-true, cond-false, eq-eqb, and_parts, le-leb, leb-true, or_left, or_right, or_cases, false_from_ne_true, and_from, filter-append, list_any, AllByRecursion, filter, has_begun, is_active, open_at, open_in, is_named, is_taken, taken, TakenTable, TakenPending, AllAreTaken, Entry, txn_of, is_of, is_update, is_closing, is_closed, is_loser, LogicalImage, IsSound, is_known, is_begin, left_open, LogRecord, Begin, and_false, any_between}
 use Rattle.analysis.proofs.Unfinished.{begins_as, table_of_unfinished}
 use Rattle.analysis.proofs.Pending.{IsIn, all_in}
 use Rattle.analysis.proofs.Taking.{any_chosen, any_left, active_new}

@@ -1,19 +1,6 @@
 -- The unfinished transactions of a sound log, and its commits, by what a restart takes of it.
 use Rattle.std.proofs.lemmas.Grind.{common_steps}
-use Rattle.std.proofs.Common.{◌≡◌, ◌⊎◌, inl, inr, ℕ, ◌+◌, ◌*◌, ◌<◌, ◌≤◌, ◌==◌, ◌&&◌, ◌||◌, not, Bool, true, false, nat_lt, nat_le, List, [], ◌∷◌, length, drop, Some, refl, sym, ap, subst, ◌∙◌, arith, true≢false}
-use Rattle.std.specs.Prelude.{filter}
-use Rattle.std.specs.List.{list_any, AllByRecursion}
-use Rattle.std.proofs.lemmas.Bool.{eqb-true, eq-eqb, and_parts, lt-ltb, leb-true, leb-false, le-leb, cases_lt, or_left, or_right, or_cases, false_from_ne_true, and_from}
-use Rattle.std.proofs.lemmas.Option.{none-some}
-use Rattle.std_lemmas.proofs.AllOf.{all_filter_passed}
-use Rattle.log_records.specs.declared.log_record.LogRecord.{LogRecord}
-use Rattle.log_records.specs.declared.log_record.LogRecord.TheVariants.{Begin, Commit}
-use Rattle.log_records.specs.Log.{Entry, txn_of, is_of, is_closing, is_closed, entries_of, is_loser}
-use Rattle.log_records.specs.Unfinished.{is_begin}
-use Rattle.log_records.specs.Sound.{Master, LogicalImage, IsSound, IsInOrder, IsLoserChain, is_known, before_block, commit_number, commit_number_by, commit_numbers}
-use Rattle.analysis.specs.Read.{is_active}
-use Rattle.analysis.specs.Laws.{has_begun}
-use Rattle.analysis.specs.Taken.{is_named, is_taken, taken, TakenEntries, TakenIsLoser, TakenCommits}
+use Rattle.analysis.proofs.Names.{◌≡◌, ◌⊎◌, inl, inr, ℕ, ◌+◌, ◌*◌, ◌<◌, ◌≤◌, ◌==◌, ◌&&◌, ◌||◌, not, Bool, true, false, nat_lt, nat_le, List, [], ◌∷◌, length, drop, Some, refl, sym, ap, subst, ◌∙◌, arith, true≢false, eqb-true, eq-eqb, and_parts, lt-ltb, leb-true, leb-false, le-leb, cases_lt, or_left, or_right, or_cases, false_from_ne_true, and_from, none-some, list_any, AllByRecursion, filter, has_begun, is_active, is_named, is_taken, taken, TakenEntries, TakenIsLoser, TakenCommits, Entry, txn_of, is_of, is_closing, is_closed, entries_of, is_loser, Master, LogicalImage, IsSound, IsInOrder, IsLoserChain, is_known, before_block, commit_number, commit_number_by, commit_numbers, is_begin, LogRecord, Begin, Commit, all_filter_passed}
 use Rattle.analysis.proofs.Unfinished.{begins_as}
 use Rattle.analysis.proofs.Pending.{order_filter, order_above}
 use Rattle.analysis.proofs.Taking.{any_chosen, HasOne, one_of, begin_of, named_is, named_parts}

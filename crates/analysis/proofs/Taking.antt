@@ -1,22 +1,8 @@
 -- The records that a restart takes of a sound log.
 use Rattle.std.proofs.lemmas.Grind.{common_steps}
-use Rattle.std.proofs.Common.{◌≡◌, ◌⊎◌, inl, inr, ℕ, ◌+◌, ◌*◌, ◌<◌, ◌≤◌, ◌==◌, ◌&&◌, ◌||◌, not, Bool, true, false, cond, nat_lt, nat_le, List, [], ◌∷◌, ◌++◌, length, map, refl, sym, ap, subst, ◌∙◌, arith, append_assoc, append-nil, true≢false}
-use Rattle.std.specs.Prelude.{filter}
-use Rattle.std.specs.List.{list_any, AllByRecursion}
-use Rattle.std.proofs.lemmas.Bool.{cond-true, cond-false, eqb-true, eq-eqb, and_parts, lt-ltb, leb-true, cases_lt, or_left, or_right, or_cases, false_from_ne_true, and_from}
-use Rattle.std_lemmas.proofs.AllOf.{all_push, all_filter_passed}
-use Rattle.std.proofs.lemmas.List.Elements.{filter-append}
-use Rattle.log_records.specs.declared.log_record.LogRecord.{LogRecord}
-use Rattle.log_records.specs.declared.log_record.LogRecord.TheVariants.{Begin}
-use Rattle.log_records.specs.Log.{Entry, txn_of, txn_by, is_of, is_closing, is_closed, entries_of}
-use Rattle.log_records.specs.Unfinished.{is_begin, losers}
-use Rattle.log_records.specs.Sound.{Active, Master, LogicalImage, IsSound, IsInOrder, IsOfOpenTransaction, InTurn, is_known, before_block, from_block, last_lsn}
-use Rattle.analysis.specs.Read.{is_active}
-use Rattle.analysis.specs.Laws.{has_begun, HaveBegun}
-use Rattle.analysis.specs.Taken.{is_named, is_taken, taken, Steps, StepsOn, TakenInOrder, TakenBegin}
+use Rattle.analysis.proofs.Names.{◌≡◌, ◌⊎◌, inl, inr, ℕ, ◌+◌, ◌*◌, ◌<◌, ◌≤◌, ◌==◌, ◌&&◌, ◌||◌, not, Bool, true, false, cond, nat_lt, nat_le, List, [], ◌∷◌, ◌++◌, length, map, refl, sym, ap, subst, ◌∙◌, arith, append_assoc, append-nil, true≢false, cond-true, cond-false, eqb-true, eq-eqb, and_parts, lt-ltb, leb-true, cases_lt, or_left, or_right, or_cases, false_from_ne_true, and_from, filter-append, list_any, AllByRecursion, filter, has_begun, HaveBegun, is_active, is_named, is_taken, taken, Steps, StepsOn, TakenInOrder, TakenBegin, closing_is_no_begin, in_order_least, Entry, txn_of, txn_by, is_of, is_closing, is_closed, entries_of, Active, Master, LogicalImage, IsSound, IsInOrder, IsOfOpenTransaction, InTurn, is_known, before_block, from_block, last_lsn, is_begin, losers, LogRecord, Begin, all_push, all_filter_passed}
 use Rattle.analysis.proofs.Unfinished.{begins_as, listed_is}
 use Rattle.analysis.proofs.Pending.{order_filter}
-use Rattle.log_records.proofs.Entries.{closing_is_no_begin, in_order_least}
 
 -- Tests over lists.
 

@@ -1,16 +1,6 @@
 -- One list of the active transactions, and that it is the list of the unfinished ones.
 use Rattle.std.proofs.lemmas.Grind.{common_steps}
-use Rattle.std.proofs.Common.{◌≡◌, ℕ, ◌+◌, ◌==◌, ◌&&◌, not, Bool, true, cond, List, [], ◌∷◌, map, Some, None, refl, sym, ap, ◌∙◌, arith}
-use Rattle.std.specs.Prelude.{filter, fold}
-use Rattle.std.proofs.lemmas.List.{length-map}
-use Rattle.std.specs.List.{list_any}
-use Rattle.std.proofs.lemmas.Bool.{eqb-true}
-use Rattle.log_records.specs.Log.{Entry, is_closed}
-use Rattle.log_records.specs.Unfinished.{is_begin, losers, owed_by}
-use Rattle.log_records.specs.Sound.{Active, IsInOrder, is_known}
-use Rattle.analysis.specs.Open.{found_in, AscendFrom, owed_one}
-use Rattle.analysis.specs.Read.{open_at}
-use Rattle.analysis.specs.Laws.{has_begun, HaveBegun, OneTable, ActiveIsUnfinished, TableOfUnfinished, OwedOfUnfinished}
+use Rattle.analysis.proofs.Names.{◌≡◌, ℕ, ◌+◌, ◌==◌, ◌&&◌, not, Bool, true, cond, List, [], ◌∷◌, map, Some, None, refl, sym, ap, ◌∙◌, arith, eqb-true, length-map, list_any, filter, fold, has_begun, HaveBegun, OneTable, ActiveIsUnfinished, TableOfUnfinished, OwedOfUnfinished, found_in, AscendFrom, owed_one, open_at, Entry, is_closed, Active, IsInOrder, is_known, is_begin, losers, owed_by}
 use Rattle.analysis.proofs.Tables.{ascend_lower, same_tables}
 use Rattle.analysis.proofs.Pending.{order_filter}
 

@@ -1,26 +1,12 @@
 -- How an archive ends: the answer was told whole, or the line of a fault is told last.
-use Rattle.std.proofs.Common.{◌≡◌, ◌⊎◌, inl, inr, ⊎_elim, ℕ, ◌≤◌, le_refl, List, [], ◌++◌, length, take, refl, sym, ◌∙◌, ap, subst, arith, append_assoc, IsTrue}
-use Rattle.std.specs.Prelude.{Result, Ok, Err, OnOk, OnErr, IsErrOf}
-use Rattle.std.specs.List.{concat}
-use Rattle.std.proofs.lemmas.List.{append-nil, take_all}
+use Rattle.archive_report.proofs.Names.{◌≡◌, ◌⊎◌, inl, inr, ⊎_elim, ℕ, ◌≤◌, le_refl, List, [], ◌++◌, length, take, refl, sym, ◌∙◌, ap, subst, arith, append_assoc, IsTrue, append-nil, take_all, concat, Result, Ok, Err, OnOk, OnErr, IsErrOf, HasLog, ArchiveContract, Archives, FirstFails, IsFault, Tells, TellsSynced, synced, Halt, each_weaker, in_sequence, rose_then, rose_since, fault_then, tell_faults_cases, FaultRose, Preserves, Rose, Faults, faults_in, one_more, TellFaults, EachMoment, State, Moment, now_of, TellsPart}
 use Rattle.site.specs.declared.outside.Dev.TheVariants.{Log}
 use Rattle.site.specs.declared.outside.Failed.{Failed}
 use Rattle.site.specs.declared.geometry.Geometry.{Geometry}
 use Rattle.site.specs.Geometry.{HasLimits, HasLengths}
-use Rattle.site.specs.State.{State, Moment, now_of}
-use Rattle.site.specs.Calls.{FaultRose, Preserves, Rose}
-use Rattle.site.specs.Faults.{Faults, faults_in, one_more, TellFaults}
-use Rattle.site.specs.Moments.{EachMoment}
-use Rattle.site.specs.Telling.{TellsPart}
-use Rattle.site.proofs.Laws.{each_weaker, in_sequence, rose_then, rose_since, fault_then}
-use Rattle.site.proofs.Working.{tell_faults_cases}
-use Rattle.archive_report.specs.declared.halt.Halt.{Halt}
-use Rattle.archive_report.specs.declared.halt.Halt.TheVariants as halt
-use Rattle.archive_report.specs.Archives.{HasLog}
 use Rattle.archive_report.specs.Halts.{Goes, after_halt, halt_line, halt_status}
-use Rattle.archive_report.specs.Telling.{Tells, TellsSynced, synced}
-use Rattle.archive_report.specs.Contract.{ArchiveContract, Archives, FirstFails, IsFault}
 use Rattle.archive_report.proofs.Told.{front_behind, part_behind, part_more}
+use Rattle.archive_report.specs.declared.halt.Halt.TheVariants as halt
 
 -- an answer of the calls before
 abbrev pub answered : ℕ → Result ℕ Halt

@@ -1,3 +1,4 @@
+mod Names
 mod LiveBlocks
 mod Told
 mod UpTo

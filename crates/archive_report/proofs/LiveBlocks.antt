@@ -1,20 +1,8 @@
 -- The lines of the live blocks, one after the other.
-use Rattle.std.proofs.Common.{◌≡◌, ℕ, ◌+◌, ◌-◌, ◌≤◌, ◌<◌, min, List, [], ◌∷◌, ◌++◌, length, take, drop, sym, ◌∙◌, ap, subst, arith}
-use Rattle.std.specs.Prelude.{codes}
-use Rattle.std.proofs.lemmas.List.{drop_more, drop_all, take-take}
-use Rattle.site.specs.State.{State, Image, content_of}
-use Rattle.site.specs.Calls.{Preserves}
-use Rattle.site.proofs.Working.{lengths_later}
-use Rattle.sealed_ring.specs.declared.slots.Shape.{Shape}
-use Rattle.sealed_ring.specs.declared.ring.Ring.{Ring}
-use Rattle.sealed_ring.specs.Ring.{IsLive, IsRing, units_of, unit_at, hi_of}
-use Rattle.sealed_ring.specs.Ready.{Finds, units_in}
+use Rattle.archive_report.proofs.Names.{◌≡◌, ℕ, ◌+◌, ◌-◌, ◌≤◌, ◌<◌, min, List, [], ◌∷◌, ◌++◌, length, take, drop, sym, ◌∙◌, ap, subst, arith, drop_more, drop_all, take-take, codes, block_lines, blocks_from, oldest_in, IsLogRing, block_text, Finds, units_in, IsLive, IsRing, units_of, unit_at, hi_of, Ring, Shape, lengths_later, Preserves, State, Image, content_of}
 use Rattle.sealed_ring.proofs.Heads.{unit_is}
 use Rattle.sealed_ring.proofs.Stays.{usable_later}
 use Rattle.sealed_ring.proofs.Units.{live_count}
-use Rattle.log_archive.specs.Lines.{block_text}
-use Rattle.archive_report.specs.Archives.{block_lines, blocks_from, oldest_in}
-use Rattle.archive_report.specs.Telling.{IsLogRing}
 
 -- a live unit has no more octets than a slot has room for
 pub unit_whole : (s : Shape) (hi n : ℕ) (c : List ℕ) → 3 ≤ s.slots → hi ≡ hi_of s c → IsLive s hi n → take s.room (unit_at s (units_of s c) n) ≡ unit_at s (units_of s c) n

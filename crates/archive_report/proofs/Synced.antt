@@ -1,19 +1,5 @@
 -- The log is synced, and then lines are told.
-use Rattle.std.proofs.Common.{◌≡◌, inl, inr, ⊎_elim, ℕ, List, [], ◌++◌, take, refl, sym, ◌∙◌, ap, subst}
-use Rattle.std.specs.Prelude.{Result, Ok, Err, IfOk, OnOk}
-use Rattle.std.specs.List.{concat}
-use Rattle.std.proofs.lemmas.List.{append-nil}
-use Rattle.site.specs.State.{State, Image, Moment, content_of}
-use Rattle.site.specs.Moments.{EachMoment}
-use Rattle.site.specs.Telling.{TellsPart}
-use Rattle.site.proofs.Laws.{in_sequence, each_weaker}
-use Rattle.sealed_ring.specs.declared.slots.Shape.{Shape}
-use Rattle.sealed_ring.specs.declared.ring.Ring.{Ring}
-use Rattle.sealed_ring.specs.Ring.{IsRing, units_of}
-use Rattle.sealed_ring.specs.Ready.{Finds, units_in}
-use Rattle.archive_report.specs.declared.halt.Halt.{Halt}
-use Rattle.archive_report.specs.Archives.{Answers, IsAnswer}
-use Rattle.archive_report.specs.Telling.{IsLogRing, OnlySyncs, Tells, TellsAnswer, TellsSynced, synced}
+use Rattle.archive_report.proofs.Names.{◌≡◌, inl, inr, ⊎_elim, ℕ, List, [], ◌++◌, take, refl, sym, ◌∙◌, ap, subst, append-nil, concat, Result, Ok, Err, IfOk, OnOk, Answers, IsAnswer, IsLogRing, OnlySyncs, Tells, TellsAnswer, TellsSynced, synced, Halt, Finds, units_in, IsRing, units_of, Ring, Shape, in_sequence, each_weaker, EachMoment, State, Image, Moment, content_of, TellsPart}
 use Rattle.archive_report.proofs.Told.{part_more}
 
 -- what is told behind the sync

@@ -1,17 +1,7 @@
 -- Lines that are told one after the other.
-use Rattle.std.proofs.Common.{◌≡◌, ℕ, List, [], ◌∷◌, ◌++◌, length, take, drop, refl, sym, ◌∙◌, ap, subst, arith, append_assoc, take-append-drop}
-use Rattle.std.specs.Prelude.{Result, Ok, Err, IsErrOf}
-use Rattle.std.specs.List.{concat}
-use Rattle.std.proofs.lemmas.List.{append-nil, take_at, take_all}
+use Rattle.archive_report.proofs.Names.{◌≡◌, ℕ, List, [], ◌∷◌, ◌++◌, length, take, drop, refl, sym, ◌∙◌, ap, subst, arith, append_assoc, take-append-drop, append-nil, take_at, take_all, concat, Result, Ok, Err, IsErrOf, HasTold, TellsLines, Halt, in_sequence, each_weaker, no_call, unchanged_calm, unchanged_devices, devices_in_sequence, IsUnchanged, EachMoment, State, Moment, now_of, TellsPart, SameDevices}
 use Rattle.std.proofs.lemmas.List.Folds.{concat-append}
-use Rattle.site.specs.State.{State, Moment, now_of}
-use Rattle.site.specs.Calls.{IsUnchanged}
-use Rattle.site.specs.Moments.{EachMoment}
-use Rattle.site.specs.Telling.{TellsPart, SameDevices}
-use Rattle.site.proofs.Laws.{in_sequence, each_weaker, no_call, unchanged_calm, unchanged_devices, devices_in_sequence}
-use Rattle.archive_report.specs.declared.halt.Halt.{Halt}
 use Rattle.archive_report.specs.declared.halt.Halt.TheVariants as halt
-use Rattle.archive_report.specs.Telling.{HasTold, TellsLines}
 
 -- before the first octet
 pub nothing_now : (text : List ℕ) (s : State) → TellsPart text s (now_of s)

@@ -1,16 +1,5 @@
 -- The lines of the live blocks are told one after the other.
-use Rattle.std.proofs.Common.{◌≡◌, ℕ, ◌+◌, ◌≤◌, ◌<◌, List, [], ◌∷◌, ◌++◌, refl, sym, ◌∙◌, ap, subst, append_assoc}
-use Rattle.std.specs.Prelude.{Ok, Err, codes}
-use Rattle.std.specs.List.{concat}
-use Rattle.std.proofs.lemmas.List.{append-nil}
-use Rattle.site.specs.State.{State}
-use Rattle.sealed_ring.specs.declared.ring.Ring.{Ring}
-use Rattle.sealed_ring.specs.Ring.{Units, unit_at}
-use Rattle.sealed_ring.specs.Ready.{region, units_in}
-use Rattle.log_archive.specs.Lines.{block_text}
-use Rattle.archive_report.specs.declared.halt.Halt.{Halt}
-use Rattle.archive_report.specs.Archives.{blocks_from, oldest_in}
-use Rattle.archive_report.specs.Telling.{HasTold, TellsLines}
+use Rattle.archive_report.proofs.Names.{◌≡◌, ℕ, ◌+◌, ◌≤◌, ◌<◌, List, [], ◌∷◌, ◌++◌, refl, sym, ◌∙◌, ap, subst, append_assoc, append-nil, concat, Ok, Err, codes, blocks_from, oldest_in, HasTold, TellsLines, Halt, block_text, region, units_in, Units, unit_at, Ring, State}
 use Rattle.archive_report.proofs.LiveBlocks.{block_first, no_blocks, units_later}
 use Rattle.archive_report.proofs.Told.{all_told, nothing_told, tells_first, tells_then, told_all}
 

@@ -1,13 +1,5 @@
 -- The answer of the ring.
-use Rattle.std.proofs.Common.{◌≡◌, ◌≤◌, ◌<◌, ℕ, List, [], ◌∷◌, ◌++◌, refl, inl, inr, ap, subst}
-use Rattle.std.specs.Prelude.{Result, Ok, Err, IfOk, codes}
-use Rattle.site.specs.State.{State}
-use Rattle.sealed_ring.specs.declared.ring.Ring.{Ring}
-use Rattle.sealed_ring.specs.Ready.{units_in}
-use Rattle.log_archive.specs.Lines.{end_text}
-use Rattle.archive_report.specs.declared.halt.Halt.{Halt}
-use Rattle.archive_report.specs.Archives.{ahead_line, archive_of, blocks_from, gone_line, oldest_in}
-use Rattle.archive_report.specs.Telling.{TellsAnswer, TellsLines}
+use Rattle.archive_report.proofs.Names.{◌≡◌, ◌≤◌, ◌<◌, ℕ, List, [], ◌∷◌, ◌++◌, refl, inl, inr, ap, subst, Result, Ok, Err, IfOk, codes, ahead_line, archive_of, blocks_from, gone_line, oldest_in, TellsAnswer, TellsLines, Halt, end_text, units_in, Ring, State}
 use Rattle.archive_report.proofs.Told.{all_told, tells_answered, tells_failed, tells_first, tells_then}
 
 module _ (ring : Ring) (from : ℕ) (old : State) (lives : oldest_in ring.shape (units_in ring.shape old) ≤ from) (below : from ≤ (units_in ring.shape old).hi) where

@@ -1,17 +1,6 @@
 -- What the words on a cache's entries say of the pool's frames.
-use Rattle.std.proofs.Common.{◌≡◌, ℕ, ◌-◌, ◌<◌, ◌==◌, not, nat_eq, Bool, true, false, cond, List, [], ◌∷◌, ◌++◌, length, take, drop, slice_get, slice_set, is_some, option_map, Option, None, Some, arith, refl, sym, ap, subst, ◌∙◌, take_all, length-append}
-use Rattle.std.specs.Map.{lookup, lookup_entry, remove_entry, set_value}
-use Rattle.std.proofs.lemmas.Bool.{eqb-true, eq-eqb, cond-true}
-use Rattle.std.proofs.lemmas.Option.{none-some}
-use Rattle.std.proofs.lemmas.List.{length-map, map-append}
-use Rattle.std.proofs.lemmas.Map.{length-set_value}
-use Rattle.std_lemmas.proofs.Bools.{eq_turned}
-use Rattle.lru.specs.LruCache.{LruCache, put_entries, last_entry}
-use Rattle.slotted_page.specs.Layout.{IsSound, slots_of, lsn_of}
-use Rattle.buffer_pool.specs.declared.frame.Frame.{Frame}
-use Rattle.buffer_pool.specs.declared.pool_entry.PoolEntry.{PoolEntry}
-use Rattle.buffer_pool.specs.Entries.{frame_in, frames_in, state_in}
-use Rattle.buffer_pool.specs.Frames.{State, IsPool, AreDistinct, frame_of, without, touched, cleared, clear, front_of, ChangesFront}
+use Rattle.buffer_pool.proofs.Names.{◌≡◌, ℕ, ◌-◌, ◌<◌, ◌==◌, not, nat_eq, Bool, true, false, cond, List, [], ◌∷◌, ◌++◌, length, take, drop, slice_get, slice_set, is_some, option_map, Option, None, Some, arith, refl, sym, ap, subst, ◌∙◌, length-append, eqb-true, eq-eqb, cond-true, length-map, map-append, length-set_value, none-some, lookup, lookup_entry, remove_entry, set_value, frame_in, frames_in, state_in, State, IsPool, AreDistinct, frame_of, without, touched, cleared, clear, front_of, ChangesFront, Frame, PoolEntry, LruCache, put_entries, last_entry, IsSound, slots_of, lsn_of, eq_turned}
+use Rattle.std.proofs.Common.{take_all}
 use Rattle.buffer_pool.proofs.Order.{Others, absent, others_stay, others_marked, distinct-without, length-without, distinct-front}
 use Rattle.std.proofs.lemmas.Grind.{common_steps}
 

@@ -1,10 +1,5 @@
 -- Where each page's frame is after a change of the list.
-use Rattle.std.proofs.Common.{◌≡◌, ◌≢◌, ℕ, ◌<◌, ◌==◌, cond, List, [], ◌∷◌, ◌++◌, length, drop, option_map, Option, None, Some, arith, refl, sym, ap, ◌∙◌}
-use Rattle.std.specs.List.{AllByRecursion}
-use Rattle.std.proofs.lemmas.Bool.{eqb-true, eqb-false, eq-eqb, ne_eqb, cond-true, cond-false}
-use Rattle.std.proofs.lemmas.Option.{none-some}
-use Rattle.buffer_pool.specs.declared.frame.Frame.{Frame}
-use Rattle.buffer_pool.specs.Frames.{AreDistinct, frame_of, without, touched, cleared_at, cleared, front_of, ChangesFront}
+use Rattle.buffer_pool.proofs.Names.{◌≡◌, ◌≢◌, ℕ, ◌<◌, ◌==◌, cond, List, [], ◌∷◌, ◌++◌, length, drop, option_map, Option, None, Some, arith, refl, sym, ap, ◌∙◌, eqb-true, eqb-false, eq-eqb, ne_eqb, cond-true, cond-false, none-some, AllByRecursion, AreDistinct, frame_of, without, touched, cleared_at, cleared, front_of, ChangesFront, Frame}
 use Rattle.buffer_pool.specs.Laws.{IsLast, ChangesOne}
 use Rattle.buffer_pool.proofs.Order.{frame_page, page-cleared_at}
 use Rattle.std.proofs.lemmas.Grind.{common_steps}

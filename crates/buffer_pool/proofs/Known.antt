@@ -1,18 +1,10 @@
 -- Which pages have a frame in the queue, as the entries say.
-use Rattle.std.proofs.Common.{◌≡◌, ◌≢◌, ℕ, ◌-◌, ◌<◌, ◌==◌, ◌||◌, nat_eq, Bool, true, false, cond, List, [], ◌∷◌, ◌++◌, length, take, map, filter, Option, None, Some, arith, refl, sym, ap, subst, ◌∙◌}
+use Rattle.buffer_pool.proofs.Names.{◌≡◌, ◌≢◌, ℕ, ◌-◌, ◌<◌, ◌==◌, ◌||◌, nat_eq, Bool, true, false, cond, List, [], ◌∷◌, ◌++◌, length, take, map, filter, Option, None, Some, arith, refl, sym, ap, subst, ◌∙◌, eqb-true, eq-eqb, ne_eqb, lookup-set_value, lookup-remove_entry, AllByRecursion, list_any, keys_of, lookup, lookup_entry, remove_entry, set_value, frames_in, framed_pages, state_in, IsPool, AreDistinct, touched, is_framed, KnowsSame, Knows, PoolEntry, promoted, last_entry, eq_turned}
 use Rattle.std.specs.Prelude.{IsSome}
-use Rattle.std.specs.List.{AllByRecursion, IsDistinct, list_any}
-use Rattle.std.specs.Map.{keys_of, lookup, lookup_entry, remove_entry, set_value}
+use Rattle.std.specs.List.{IsDistinct}
 use Rattle.std.specs.Option.{option_map_or}
 use Rattle.std.specs.Cmp.{nat_eq_equiv}
-use Rattle.std.proofs.lemmas.Bool.{eqb-true, eq-eqb, ne_eqb}
-use Rattle.std.proofs.lemmas.Map.{lookup-set_value, lookup-remove_entry}
-use Rattle.lru.specs.LruCache.{promoted, last_entry}
-use Rattle.buffer_pool.specs.declared.pool_entry.PoolEntry.{PoolEntry}
-use Rattle.buffer_pool.specs.Entries.{frames_in, framed_pages, state_in}
-use Rattle.buffer_pool.specs.Frames.{IsPool, AreDistinct, touched, is_framed, KnowsSame, Knows}
 use Rattle.buffer_pool.proofs.Order.{Others, distinct-touched}
-use Rattle.std_lemmas.proofs.Bools.{eq_turned}
 use Rattle.buffer_pool.proofs.Cached.{Entry, found, frames-remove_entry, length_frames, split_last}
 use Rattle.std.proofs.lemmas.Grind.{common_steps}
 

@@ -1,3 +1,4 @@
+mod Names
 pub mod Cached
 pub mod Found
 pub mod Known

@@ -1,16 +1,8 @@
 -- The index of the pages that a push may take, as pages come and go.
-use Rattle.std.proofs.Common.{◌≡◌, ℕ, ◌+◌, ◌<◌, ◌≤◌, nat_eq, Bool, true, cond, List, [], ◌∷◌, ◌++◌, length, take, map, filter, reverse, Some, arith, refl, sym, ap, subst, ◌∙◌, append-nil, append_assoc, length-append}
-use Rattle.std.specs.List.{AllByRecursion}
-use Rattle.std.specs.Map.{lookup, remove_entry, set_value}
-use Rattle.std.proofs.lemmas.Bool.{eqb-true}
-use Rattle.std.proofs.lemmas.List.{map-append, reverse-append, take_all, take_at, take-map}
-use Rattle.std.proofs.lemmas.List.Elements.{filter-append}
+use Rattle.buffer_pool.proofs.Names.{◌≡◌, ℕ, ◌+◌, ◌<◌, ◌≤◌, nat_eq, Bool, true, cond, List, [], ◌∷◌, ◌++◌, length, take, map, filter, reverse, Some, arith, refl, sym, ap, subst, ◌∙◌, append-nil, length-append, eqb-true, map-append, reverse-append, take_all, take_at, take-map, filter-append, AllByRecursion, lookup, remove_entry, set_value, frame_in, frames_in, state_in, State, AreDistinct, is_framed, is_movable, coldest_movable, mark_of, is_listed, if_listed, listed_of, AreStamped, IsIndex, struck, enlisted, PoolEntry}
+use Rattle.std.proofs.Common.{append_assoc}
 use Rattle.std_lemmas.proofs.Entries.{at_same, AreBelow, below_append, below_weaker, insert_before, insert_last, kept_behind, skipped}
-use Rattle.buffer_pool.specs.declared.pool_entry.PoolEntry.{PoolEntry}
 use Rattle.buffer_pool.specs.declared.index.Index.{Index}
-use Rattle.buffer_pool.specs.Entries.{frame_in, frames_in, state_in}
-use Rattle.buffer_pool.specs.Frames.{State, AreDistinct, is_framed, is_movable, coldest_movable, mark_of}
-use Rattle.buffer_pool.specs.Listing.{is_listed, if_listed, listed_of, AreStamped, IsIndex, struck, enlisted}
 use Rattle.buffer_pool.proofs.Cached.{Entry}
 use Rattle.buffer_pool.proofs.Known.{framed_in, known, each_known}
 use Rattle.std.proofs.lemmas.Grind.{common_steps}

@@ -1,11 +1,6 @@
 -- Lists of frames, each of which has a page of its own.
-use Rattle.std.proofs.Common.{◌≡◌, ◌≢◌, ℕ, ◌≤◌, List, [], ◌∷◌, ◌++◌, length, Option, None, Some, arith, refl, sym, ap, subst, ◌∙◌}
-use Rattle.std.specs.List.{AllByRecursion}
-use Rattle.std.proofs.lemmas.Bool.{eqb-true, eqb-false, ne_eqb, cond-false}
-use Rattle.std.proofs.lemmas.Option.{none-some}
-use Rattle.buffer_pool.specs.declared.frame.Frame.{Frame}
-use Rattle.buffer_pool.specs.Frames.{AreDistinct, frame_of, without, in_front, touched, cleared_at, cleared}
 use Rattle.std.proofs.lemmas.Grind.{common_steps}
+use Rattle.buffer_pool.proofs.Names.{◌≡◌, ◌≢◌, ℕ, ◌≤◌, List, [], ◌∷◌, ◌++◌, length, Option, None, Some, arith, refl, sym, ap, subst, ◌∙◌, eqb-true, eqb-false, ne_eqb, cond-false, none-some, AllByRecursion, AreDistinct, frame_of, without, in_front, touched, cleared_at, cleared, Frame}
 
 -- pages that differ from one
 abbrev pub Others : ℕ → List Frame → Type 0

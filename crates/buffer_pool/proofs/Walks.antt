@@ -1,12 +1,6 @@
 -- What a walk over the cache's entries says of the frames.
-use Rattle.std.proofs.Common.{◌≡◌, ℕ, ◌<◌, ◌≤◌, Bool, cond, List, [], ◌∷◌, ◌++◌, length, map, filter, reverse, arith, refl, sym, ap, ◌∙◌, length-append, append-nil}
-use Rattle.std.proofs.lemmas.List.{reverse-append, take-append-le, take_all, length-take, length-map, map-append, append_assoc}
-use Rattle.std.proofs.lemmas.List.Elements.{filter-append}
-use Rattle.buffer_pool.specs.declared.frame.Frame.{Frame}
-use Rattle.buffer_pool.specs.declared.pool_entry.PoolEntry.{PoolEntry}
-use Rattle.buffer_pool.specs.Entries.{frames_in}
-use Rattle.buffer_pool.specs.Frames.{mark_of, coldest_changed}
 use Rattle.std.proofs.lemmas.Grind.{common_steps}
+use Rattle.buffer_pool.proofs.Names.{◌≡◌, ℕ, ◌<◌, ◌≤◌, Bool, cond, List, [], ◌∷◌, ◌++◌, length, map, filter, reverse, arith, refl, sym, ap, ◌∙◌, length-append, append-nil, reverse-append, take-append-le, take_all, length-take, length-map, map-append, append_assoc, filter-append, frames_in, mark_of, coldest_changed, Frame, PoolEntry}
 
 abbrev if_changed : Frame → List Frame
 if_changed frame = cond frame.changed (frame ∷ []) []

@@ -1,18 +1,9 @@
 -- Pairs that stand one after the other.
-use Rattle.std.proofs.Common.{◌≡◌, ℕ, ◌+◌, ◌*◌, ◌<◌, ◌≤◌, List, [], ◌∷◌, ◌++◌, length, get_or, take, drop, refl, ap, sym, subst, ◌∙◌, arith, length-append}
-use Rattle.std.specs.List.{AllByRecursion}
-use Rattle.std.specs.Int.{w64, from_be_bytes, to_be_bytes}
-use Rattle.std.proofs.lemmas.List.{take_at, drop_at, drop-drop, drop-take, take-take, take_more, length-take-le, length-take, length-drop, append-nil}
 use Rattle.std.proofs.lemmas.Grind.{flat_map-append}
-use Rattle.std.proofs.lemmas.Nat.{be_bytes_8, from_be_bytes-to_be_bytes_8}
-use Rattle.std.proofs.Math.Seq.{take-add}
+use Rattle.checkpoint.proofs.Names.{◌≡◌, ℕ, ◌+◌, ◌*◌, ◌<◌, ◌≤◌, List, [], ◌∷◌, ◌++◌, length, get_or, take, drop, refl, ap, sym, subst, ◌∙◌, arith, length-append, take-add, take_at, drop_at, drop-drop, drop-take, take-take, take_more, length-take-le, length-take, length-drop, append-nil, be_bytes_8, from_be_bytes-to_be_bytes_8, w64, from_be_bytes, to_be_bytes, AllByRecursion, writes_then, Writes, pair_spelling, spelling_of_all, FitsFields, ArePairs, Pair}
 use Rattle.std_lemmas.proofs.AllOf.{all_push}
-use Rattle.byte_fields.specs.Writes.{Writes}
-use Rattle.checkpoint.specs.declared.pairs.Pair.{Pair}
 use Rattle.checkpoint.specs.Units.{number_at, pairs_in}
-use Rattle.checkpoint.specs.Actives.{pair_spelling, spelling_of_all, FitsFields, ArePairs}
 use Rattle.checkpoint.proofs.Texts.{IsBytes, IsBytes-drop, IsBytes-take, length-written}
-use Rattle.byte_fields.proofs.Texts.{writes_then}
 
 pub length_all : (pairs : List Pair) → length (spelling_of_all pairs) ≡ 16 * length pairs
 length_all [] = refl

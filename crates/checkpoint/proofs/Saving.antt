@@ -1,26 +1,14 @@
 -- What an append of a master's unit leaves, and what it has done.
-use Rattle.std.proofs.Common.{◌≡◌, ◌⊎◌, inl, inr, ⊎_elim, ℕ, List, [], ◌∷◌, Result, Ok, Err, refl, ap, ◌∙◌, subst}
+use Rattle.checkpoint.proofs.Names.{◌≡◌, ◌⊎◌, inl, inr, ⊎_elim, ℕ, List, [], ◌∷◌, Result, Ok, Err, refl, ap, ◌∙◌, subst, HasMaster, LeavesMaster, Master, Masters, master_shape, units_on, region, IsReady, LeavesOldOrNew, IsRing, SameOutside, units_of, appended, Ring, Shape, leaves_weaker, leaves_others_too, Preserves, State, Snapshot, IsQuiet, Log}
 use Rattle.std.specs.Prelude.{OnOk}
-use Rattle.site.specs.declared.outside.Dev.TheVariants.{Log}
 use Rattle.site.specs.declared.geometry.Geometry.{Geometry}
 use Rattle.site.specs.Geometry.{HasLimits, HasLengths}
-use Rattle.site.specs.State.{State, Snapshot, IsQuiet}
-use Rattle.site.specs.Calls.{Preserves}
 use Rattle.site.specs.Moments.{LeavesOnly, OnlyDevice}
-use Rattle.site.proofs.Laws.{leaves_weaker, leaves_others_too}
-use Rattle.sealed_ring.specs.declared.slots.Shape.{Shape}
-use Rattle.sealed_ring.specs.declared.ring.Ring.{Ring}
-use Rattle.sealed_ring.specs.Ring.{IsRing, SameOutside, units_of, appended}
-use Rattle.sealed_ring.specs.Ready.{region, IsReady, LeavesOldOrNew}
-use Rattle.image_changes.specs.Rings.{Masters, master_shape, units_on}
 use Rattle.image_changes.specs.Changes.{AppendsMaster, ReadsAs, Appends, Reaches}
 use Rattle.image_changes.specs.Reached.{IsReached, IsFrontOf, LeavesFront}
 use Rattle.image_changes.specs.Laws.{KeepsOrAppends}
 use Rattle.image_changes.proofs.AppendLaws.{append_makes, append_done}
-use Rattle.checkpoint.specs.declared.master.Master.{Master}
 use Rattle.checkpoint.specs.Units.{unit, IsUnit}
-use Rattle.checkpoint.specs.Newest.{HasMaster}
-use Rattle.checkpoint.specs.Saved.{LeavesMaster}
 use Rattle.checkpoint.proofs.UnitParts.{length-unit}
 use Rattle.checkpoint.proofs.Standing.{appended_is, same_units}
 use Rattle.image_changes.proofs.Sequence.{reads_itself}

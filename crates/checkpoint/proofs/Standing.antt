@@ -1,20 +1,8 @@
 -- The newest unit of the master ring.
-use Rattle.std.proofs.Common.{◌≡◌, ℕ, zero, suc, ◌+◌, ◌-◌, ◌*◌, ◌%◌, ◌<◌, ◌≤◌, List, [], ◌∷◌, ◌++◌, length, get_or, take, drop, Option, Some, None, refl, ap, sym, subst, ◌∙◌, arith, length-append}
+use Rattle.checkpoint.proofs.Names.{◌≡◌, ℕ, zero, suc, ◌+◌, ◌-◌, ◌*◌, ◌%◌, ◌<◌, ◌≤◌, List, [], ◌∷◌, ◌++◌, length, get_or, take, drop, Option, Some, None, refl, ap, sym, subst, ◌∙◌, arith, length-append, take_all, take-take, length-take, newest_of, IsOf, HasMaster, KeepsMaster, Master, master_shape, units_on, region, units_in, Matches, Finds, IsReady, IsRing, Units, units_from, units_of, unit_at, last_of, appended, hi_of, Ring, Shape, IsUnchanged, State, Image, IsSettled, Log}
 use Rattle.std.specs.Option.{option_or}
-use Rattle.std.proofs.lemmas.List.{take_all, take-take, length-take}
-use Rattle.site.specs.declared.outside.Dev.TheVariants.{Log}
-use Rattle.site.specs.State.{State, Image, IsSettled}
-use Rattle.site.specs.Calls.{IsUnchanged}
-use Rattle.sealed_ring.specs.declared.slots.Shape.{Shape}
-use Rattle.sealed_ring.specs.declared.ring.Ring.{Ring}
-use Rattle.sealed_ring.specs.Ring.{IsRing, Units, units_from, units_of, unit_at, last_of, appended, hi_of}
-use Rattle.sealed_ring.specs.Ready.{region, units_in, Matches, Finds, IsReady}
 use Rattle.sealed_ring.proofs.Units.{live_count}
-use Rattle.image_changes.specs.Rings.{master_shape, units_on}
-use Rattle.checkpoint.specs.declared.master.Master.{Master}
 use Rattle.checkpoint.specs.Units.{IsUnit}
-use Rattle.checkpoint.specs.Newest.{newest_of, IsOf, HasMaster}
-use Rattle.checkpoint.specs.Saved.{KeepsMaster}
 use Rattle.checkpoint.proofs.UnitParts.{one_unit}
 
 one_is : (o : Option (List ℕ)) (a b : Master) → IsOf o a → IsOf o b → a ≡ b

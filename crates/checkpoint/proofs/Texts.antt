@@ -1,9 +1,7 @@
 -- Texts that are written over octets, one after the other, and parts of octets.
-use Rattle.std.proofs.Common.{◌≡◌, ℕ, ◌+◌, ◌<◌, ◌≤◌, List, [], ◌++◌, length, get_or, take, drop, ap, sym, ◌∙◌, arith, length-append}
+use Rattle.checkpoint.proofs.Names.{◌≡◌, ℕ, ◌+◌, ◌<◌, ◌≤◌, List, [], ◌++◌, length, get_or, take, drop, ap, sym, ◌∙◌, arith, length-append, take-append-drop, length-take, length-drop, get_or-take, get_or-drop, get_or_past, Writes}
 use Rattle.std.proofs.lemmas.Bool.{cases_lt}
-use Rattle.std.proofs.lemmas.List.{take-append-drop, length-take, length-drop, get_or-take, get_or-drop, get_or_past}
 use Rattle.std_lemmas.proofs.Lists.{length_front}
-use Rattle.byte_fields.specs.Writes.{Writes}
 
 abbrev pub IsBytes : List ℕ → Type 0
 IsBytes octets = (i : ℕ) → get_or octets i 0 < 256

@@ -1,13 +1,5 @@
 -- The parts of a master unit, and that they are the unit.
-use Rattle.std.proofs.Common.{◌≡◌, ℕ, zero, suc, ◌+◌, ◌-◌, ◌*◌, ◌<◌, ◌≤◌, List, [], ◌∷◌, ◌++◌, length, get_or, take, drop, replicate, set, refl, ap, sym, subst, ◌∙◌, arith, length-append, zero-add}
-use Rattle.std.specs.List.{AllByRecursion}
-use Rattle.std.specs.Int.{w64, to_be_bytes}
-use Rattle.std.proofs.lemmas.List.{get_or-drop, take_at, drop_at, drop-drop, take-append-drop, length-drop, take-set, drop-set, length-replicate, drop-replicate}
-use Rattle.std.proofs.lemmas.Nat.{from_be_bytes-to_be_bytes_8}
-use Rattle.std.proofs.Math.Seq.{take-add}
-use Rattle.byte_fields.specs.Writes.{Writes}
-use Rattle.checkpoint.specs.declared.master.Master.{Master}
-use Rattle.checkpoint.specs.Actives.{ArePairs, spelling_of_all}
+use Rattle.checkpoint.proofs.Names.{◌≡◌, ℕ, zero, suc, ◌+◌, ◌-◌, ◌*◌, ◌<◌, ◌≤◌, List, [], ◌∷◌, ◌++◌, length, get_or, take, drop, replicate, set, refl, ap, sym, subst, ◌∙◌, arith, length-append, zero-add, take-add, get_or-drop, take_at, drop_at, drop-drop, take-append-drop, length-drop, take-set, drop-set, length-replicate, drop-replicate, from_be_bytes-to_be_bytes_8, w64, to_be_bytes, AllByRecursion, Writes, ArePairs, spelling_of_all, Master}
 use Rattle.checkpoint.specs.Units.{spelling, unit, IsUnit, number_at, pairs_in, master_in}
 use Rattle.checkpoint.proofs.Texts.{IsBytes}
 use Rattle.checkpoint.proofs.PairLists.{length_all, number_spelled, one_list, pairs_read}

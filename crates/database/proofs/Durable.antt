@@ -1,34 +1,11 @@
 -- What comes of calls: first by lines, then by commits.
-use Rattle.std.proofs.Common.{◌≡◌, ⊎_elim, ℕ, suc, ◌+◌, ◌≤◌, Bool, true, false, List, [], ◌∷◌, ◌++◌, length, map, Some, refl, sym, ap, subst, ◌∙◌, arith}
-use Rattle.std.specs.Prelude.{if◌then◌else◌, Result, Ok, Err, OnOk, IfOk}
+use Rattle.std.proofs.lemmas.Grind.{common_steps}
+use Rattle.database.proofs.Names.{◌≡◌, ⊎_elim, ℕ, suc, ◌+◌, ◌≤◌, Bool, true, false, List, [], ◌∷◌, ◌++◌, length, map, Some, refl, sym, ap, subst, ◌∙◌, arith, if◌then◌else◌, Result, Ok, Err, OnOk, IfOk, Call, Follow, IsServed, begun, is_answer, is_commit, commits_in, commits_asked, lines_of, listings_of, run_of, may_commit, may_commit_in, AreAnswers, LeavesCommits, IsDurable, CallsAreDurable, Held, StandsFor, answered, has_stopped, IsAnswered, Unanswered, Invariant, LeavesEither, listing_of, Matches, commits_make_the_table, turns_are_run, IsCountedAt, Turn, replies, state_at, turns, is_cache, is_committed, commit_marks, commits_among, after_commits, Content, State, CacheLine, Reply, stands_there, holds_now, in_sequence, image_is, leaves_weaker, no_call, told_is, ok_as, Leaves, LeavesOnly, Image, Snapshot, MayLeave, IsQuiet, now_of, Geometry, Stop, on_ok}
 use Rattle.std.specs.List.{AllByRecursion}
-use Rattle.site.specs.declared.geometry.Geometry.{Geometry}
-use Rattle.site.specs.declared.outside.Stop.{Stop}
-use Rattle.site.specs.State.{Image, Snapshot, MayLeave, IsQuiet, now_of}
-use Rattle.site.specs.Moments.{Leaves, LeavesOnly}
-use Rattle.site.proofs.Working.{ok_as}
-use Rattle.std_lemmas.proofs.Results.{on_ok}
-use Rattle.site.proofs.Laws.{holds_now, in_sequence, image_is, leaves_weaker, no_call, told_is}
-use Rattle.record_model.specs.declared.words.CacheLine.{CacheLine}
-use Rattle.record_model.specs.declared.words.Reply.{Reply}
-use Rattle.record_model.specs.State.{Content, State}
-use Rattle.record_model.specs.Run.{Turn, replies, state_at, turns, is_cache, is_committed, commit_marks, commits_among, after_commits}
-use Rattle.record_model.specs.Laws.{IsCountedAt}
-use Rattle.record_model.proofs.RunLaws.{commits_make_the_table, turns_are_run}
 use Rattle.record_model.proofs.StepLaws.{commits_once}
 use Rattle.record_model.proofs.SerialOrder.{serial_order}
-use Rattle.redo_laws.proofs.CallsInSequence.{stands_there}
 use Rattle.engine.specs.Image.{Stands}
-use Rattle.engine.specs.Invariant.{Invariant}
-use Rattle.engine.specs.Representation.{Matches}
-use Rattle.engine.specs.Leaves.{LeavesEither}
-use Rattle.engine.specs.Listings.{listing_of}
-use Rattle.database.specs.declared.unanswered.Unanswered.{Unanswered}
 use Rattle.database.specs.declared.unanswered.Unanswered.TheVariants.{Closed}
-use Rattle.database.specs.Held.{Held, StandsFor}
-use Rattle.database.specs.Serving.{answered, has_stopped, IsAnswered}
-use Rattle.database.specs.Course.{Call, Follow, IsServed, begun, is_answer, is_commit, commits_in, commits_asked, lines_of, listings_of, run_of}
-use Rattle.database.specs.Course.{may_commit, may_commit_in, AreAnswers, LeavesCommits, IsDurable, CallsAreDurable}
 use Rattle.database.proofs.Lines.{counts_few, turn_of, run_cons, rises, rises_by_one}
 
 -- the devices have the table and the count of a state
@@ -54,20 +31,12 @@ add_one n = omega arith
 -- A database that is closed stays as it is.
 
 closed_at : (earlier later : List Call) (call : Call) (db now : Held) → db.closed ≡ true → Follow db (earlier ++ call ∷ later) now → (call.before ≡ db) × (call.after ≡ db) × (call.answer ≡ Err Closed) × (commits_in earlier ≡ 0)
-closed_at [] later call db now closed follow =
-    let does = follow.1.closed (ap (λ (d : Held). d.closed) follow.0 ∙ closed) in
-    (follow.0, does.1 ∙ follow.0, does.0, refl)
-closed_at (first ∷ earlier) later call db now closed follow =
-    let does = follow.1.closed (ap (λ (d : Held). d.closed) follow.0 ∙ closed) in
-    let same : first.after ≡ db = does.1 ∙ follow.0 in
-    let rest = closed_at earlier later call first.after now (ap (λ (d : Held). d.closed) same ∙ closed) follow.2 in
-    (rest.0 ∙ same, rest.1 ∙ same, rest.2, (λ i. (if is_commit (does.0 i) then 1 else 0) + rest.3 i))
+closed_at [] later call db now closed follow = grind (arith, common_steps)
+closed_at (first ∷ earlier) later call db now closed follow = grind (arith, common_steps, (closed_at earlier later call first.after now))
 
 closed_all : (calls : List Call) (db now : Held) → db.closed ≡ true → Follow db calls now → AllByRecursion (λ answer. answer ≡ Err Closed) (map (λ call. call.answer) calls)
 closed_all [] db now closed follow = tt
-closed_all (call ∷ calls) db now closed follow =
-    let does = follow.1.closed (ap (λ (d : Held). d.closed) follow.0 ∙ closed) in
-    (does.0, closed_all calls call.after now (ap (λ (d : Held). d.closed) (does.1 ∙ follow.0) ∙ closed) follow.2)
+closed_all (call ∷ calls) db now closed follow = grind (arith, common_steps, (closed_all calls call.after now))
 
 -- By lines.
 
@@ -91,11 +60,7 @@ begun_in (call ∷ calls) = suc (if is_answer call.answer then begun_in calls el
 begun_are : (calls : List Call) → begun_in calls ≡ length (begun calls)
 unfolding begun_in
 begun_are [] = refl
-begun_are (call ∷ calls) = ap suc (by (is_answer call.answer) (begun_are calls))
-  where
-    by : (b : Bool) → begun_in calls ≡ length (begun calls) → (if b then begun_in calls else 0) ≡ length (if b then begun calls else [])
-    by true rest = rest
-    by false rest = refl
+begun_are (call ∷ calls) = grind (arith, common_steps, begun_in, (begun_are calls))
 
 record IsByLines (g : Geometry) (s : State) (run : List Turn) (so_far : List ℕ) (earlier : List Call) (call : Call) : Type 0 where
   any_moment : LeavesOnly call.before.site call.after.site (LeavesLines g s run (answered_in earlier) (begun_in (earlier ++ call ∷ [])) so_far)
@@ -250,9 +215,7 @@ by_lines g s (first ∷ earlier) later call before now stands follow =
 
 closed_now : (calls : List Call) (db now : Held) → db.closed ≡ true → Follow db calls now → now ≡ db
 closed_now [] db now closed follow = follow
-closed_now (call ∷ calls) db now closed follow =
-    let same : call.after ≡ db = (follow.1.closed (ap (λ (d : Held). d.closed) follow.0 ∙ closed)).1 ∙ follow.0 in
-    closed_now calls call.after now (ap (λ (d : Held). d.closed) same ∙ closed) follow.2 ∙ same
+closed_now (call ∷ calls) db now closed follow = grind (arith, common_steps, (closed_now calls call.after now))
 
 -- what a database that stands for a state has, and what a crash leaves of it
 has_state : (g : Geometry) (s : State) (db : Held) → StandsFor g s db → Has g s db.site.image
@@ -380,13 +343,7 @@ module _ (g : Geometry) (s : State) (calls : List Call) where
   has_commits i image has = subst (λ (t : List Content). Stands g image t (s.commits + number i)) (counts_at i).table (subst (λ (n : ℕ). Stands g image (state_at run s i).table n) (counts_at i).commits has)
 
   by_commits : (least most few : ℕ) (so_far : List ℕ) (snapshot : Snapshot) → s.commits + few ≡ (state_at run s least).commits → LeavesLines g s run least most so_far snapshot → LeavesCommits g s run few (number most) so_far snapshot
-  by_commits least most few so_far snapshot counts left = record {
-    count = number left.lines;
-    at_least = (let low = up least left.lines left.at_least in let c = (counts_at left.lines).commits in omega (arith, low, c, counts));
-    at_most = (let high = up left.lines most left.at_most in let c = (counts_at left.lines).commits in let d = (counts_at most).commits in omega (arith, high, c, d));
-    stands = has_commits left.lines snapshot.image left.stands;
-    told = left.told;
-  }
+  by_commits least most few so_far snapshot counts left = grind (arith, common_steps, up, counts_at, has_commits, (up least left.lines left.at_least), (up left.lines most left.at_most))
 
   at_rest : (i few : ℕ) (so_far : List ℕ) (db : Held) → s.commits + few ≡ (state_at run s i).commits → db.site.told ≡ so_far → StandsFor g (state_at run s i) db → Leaves (LeavesCommits g s run few few so_far) (now_of db.site)
   at_rest i few so_far db counts same stands snapshot left =

@@ -1,12 +1,5 @@
 -- Calls one after the other.
-use Rattle.std.proofs.Common.{List, [], ◌∷◌, ◌++◌, refl, subst}
-use Rattle.std.specs.Prelude.{Result}
-use Rattle.record_model.specs.declared.words.Command.{Command}
-use Rattle.record_model.specs.declared.words.Reply.{Reply}
-use Rattle.database.specs.declared.unanswered.Unanswered.{Unanswered}
-use Rattle.database.specs.Held.{Held}
-use Rattle.database.specs.Serving.{Serves}
-use Rattle.database.specs.Course.{Call, Follow}
+use Rattle.database.proofs.Names.{List, [], ◌∷◌, ◌++◌, refl, subst, Result, Call, Follow, Held, Serves, Unanswered, Command, Reply}
 
 -- one
 pub one_call : (command : Command) (answer : Result Reply Unanswered) (before now : Held) → Serves command answer before now →

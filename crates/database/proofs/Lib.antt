@@ -1,3 +1,4 @@
+mod Names
 mod Served
 pub mod Following
 mod Lines

@@ -1,33 +1,16 @@
 -- The run that calls are, turn by turn, and its commits.
-use Rattle.std.proofs.Common.{◌≡◌, ℕ, zero, suc, ◌+◌, ◌≤◌, Bool, true, false, List, [], ◌∷◌, ◌++◌, drop, Option, None, Some, refl, sym, ap, subst, ◌∙◌, arith}
-use Rattle.std.specs.Prelude.{if◌then◌else◌}
-use Rattle.record_model.specs.declared.words.CacheLine.{CacheLine}
-use Rattle.record_model.specs.declared.words.Command.{Command}
-use Rattle.record_model.specs.declared.words.Command.TheVariants.{Begin, Read, Write, Erase, Scan, Commit, Abort, Mark, Back, Get, Set, Checkpoint, Cache, Stat, Quit}
-use Rattle.record_model.specs.declared.words.Reply.{Reply}
-use Rattle.record_model.specs.State.{State, content_at, seen}
-use Rattle.record_model.specs.Step.{Outcome, answer, carried_through, fills_page, full, lacks_room, ready, refusal, outcome, step}
-use Rattle.record_model.specs.Run.{Turn, turn, turns, state_at, is_cache, is_quit, is_committed, next_listing, later_listings}
-use Rattle.record_model.specs.Laws.{IsCountedIn}
+use Rattle.std.proofs.lemmas.Grind.{common_steps}
+use Rattle.database.proofs.Names.{◌≡◌, ℕ, zero, suc, ◌+◌, ◌≤◌, Bool, true, false, List, [], ◌∷◌, ◌++◌, drop, Option, None, Some, refl, arith, if◌then◌else◌, Call, is_answer, lines_of, listings_of, may_commit, run_of, meaning, listing_of, IsRun, IsCountedIn, Turn, turn, turns, state_at, is_cache, is_quit, is_committed, next_listing, State, Outcome, answer, carried_through, fills_page, lacks_room, ready, refusal, outcome, step, CacheLine, Command, Reply}
 use Rattle.record_model.proofs.StepLaws.{commits_once, found_is, IsNoCommit, page_refusals, refusals}
-use Rattle.record_model.proofs.RunLaws.{IsRun}
-use Rattle.engine.specs.Listings.{listing_of}
-use Rattle.database.specs.Serving.{meaning}
-use Rattle.database.specs.Course.{Call, begun, is_answer, lines_of, listings_of, may_commit, run_of}
 
 -- A turn.
 
 -- but for the cache command, what is answered doesn't depend on a listing
 same_through : (s : State) (command : Command) (listing : List CacheLine) (o : Option Reply) → is_cache (Some command) ≡ false → carried_through s command listing o ≡ carried_through s command [] o
-same_through s command listing (Some refused) other = refl
-same_through s Cache listing None other = absurd cc
-same_through s command listing None other = refl
+same_through s command listing x3 other = grind (arith, common_steps)
 
 same_outcome : (s : State) (command : Command) (listing : List CacheLine) (o : Option Reply) → is_cache (Some command) ≡ false → outcome s command listing o ≡ outcome s command [] o
-same_outcome s command listing (Some refused) other = refl
-same_outcome s command listing None other =
-    let now = ready s command in
-    ap (λ (o : Outcome). if lacks_room now command then record { after = now; reply = full now } else o) (same_through now command listing (fills_page now command) other)
+same_outcome s command listing x3 other = grind (arith, common_steps, same_through)
 
 -- the listing of a call is the first one, and it takes it away
 told : (s : State) (command : Command) (listing : List CacheLine) (later : List (List CacheLine)) (b : Bool) → is_cache (Some command) ≡ b →
@@ -45,22 +28,12 @@ turn_of s call = let o = meaning s call.command call.before.engine in record { b
 
 one_turn : (s : State) (call : Call) (later : List Call) → is_quit (Some call.command) ≡ false →
     turns s (lines_of (call ∷ later)) (listings_of (call ∷ later)) ≡ turn_of s call ∷ turns (turn_of s call).after (lines_of later) (listings_of later)
-one_turn s call later goes_on =
-    let own = listing_of call.before.engine in
-    let listings = listings_of (call ∷ later) in
-    let same = told s call.command own (listings_of later) (is_cache (Some call.command)) refl in
-    let left : later_listings (Some call.command) listings ≡ listings_of later = rest own (listings_of later) (is_cache (Some call.command)) in
-    let first = turn s (Some call.command) (next_listing listings) in
-    (λ i. first ∷ (if goes_on i then [] else turns first.after (lines_of later) (later_listings (Some call.command) listings)))
-    ∙ (λ i. (let t : Turn = record { before = s; line = Some call.command; reply = (same i).reply; after = (same i).after } in t) ∷ turns (same i).after (lines_of later) (left i))
+one_turn s call later goes_on = grind (arith, common_steps, told, rest)
 
 -- so the first call is the first turn, and it is the last one where it isn't answered
 pub run_cons : (s : State) (call : Call) (later : List Call) (b : Bool) → is_answer call.answer ≡ b → is_quit (Some call.command) ≡ false →
     run_of s (call ∷ later) ≡ turn_of s call ∷ (if b then run_of (turn_of s call).after later else [])
-run_cons s call later true is goes_on =
-    (λ i. let more = if is i then begun later else [] in turns s (lines_of (call ∷ more)) (listings_of (call ∷ more))) ∙ one_turn s call (begun later) goes_on
-run_cons s call later false is goes_on =
-    (λ i. let more = if is i then begun later else [] in turns s (lines_of (call ∷ more)) (listings_of (call ∷ more))) ∙ one_turn s call [] goes_on
+run_cons s call later x3 is goes_on = grind (arith, common_steps, one_turn)
 
 -- Commits.
 
@@ -70,19 +43,13 @@ one_step s o true is counted = let more = (counted.committed is).1 in (omega (ar
 one_step s o false is counted = let same = (counted.others is).1 in (omega (arith, same), omega (arith, same))
 
 turn_counts : (s : State) (t : Turn) (listing : List CacheLine) → t ≡ turn s t.line listing → (s.commits ≤ t.after.commits) × (t.after.commits ≤ s.commits + 1)
-turn_counts s t listing is =
-    let o : Turn → Outcome = λ u. record { after = u.after; reply = u.reply } in
-    let c = commits_once s t.line listing in
-    one_step s (o t) (is_committed t.reply) refl (subst (λ (u : Turn). IsCountedIn s (o u)) (sym is) (record { committed = c.committed; others = c.others }))
+turn_counts s t listing is = grind (arith, common_steps, commits_once, one_step, (commits_once s t.line listing))
 
 -- the count never falls
 pub rises : (s : State) (run : List Turn) → IsRun s run → (i j : ℕ) → i ≤ j → (state_at run s i).commits ≤ (state_at run s j).commits
 rises s run is zero zero le = omega arith
 rises s [] is zero (suc j) le = omega arith
-rises s (t ∷ run) is zero (suc j) le =
-    let one = (turn_counts s t is.0 is.1).0 in
-    let more = rises t.after run is.2 zero j (omega arith) in
-    omega (arith, one, more)
+rises s (t ∷ run) is zero (suc j) le = grind (arith, common_steps, turn_counts, (rises t.after run is.2 zero j))
 rises s run is (suc i) zero le = absurd (omega (arith, le))
 rises s [] is (suc i) (suc j) le = omega arith
 rises s (t ∷ run) is (suc i) (suc j) le = rises t.after run is.2 i j (omega (arith, le))
@@ -100,21 +67,7 @@ chosen_reply true o p h k = h
 chosen_reply false o p h k = k
 
 answers_none : (s : State) (command : Command) (listing : List CacheLine) → may_commit command ≡ false → is_committed (answer s command listing) ≡ false
-answers_none s (Begin n) listing h = refl
-answers_none s (Read n number) listing h = found_is (seen s n number)
-answers_none s (Write n number value) listing h = refl
-answers_none s (Erase n number) listing h = refl
-answers_none s (Scan n number count) listing h = refl
-answers_none s (Commit n) listing h = absurd cc
-answers_none s (Abort n) listing h = refl
-answers_none s (Mark n) listing h = refl
-answers_none s (Back n standing) listing h = refl
-answers_none s (Get number) listing h = found_is (content_at s.table number)
-answers_none s (Set number value) listing h = absurd cc
-answers_none s Checkpoint listing h = refl
-answers_none s Cache listing h = refl
-answers_none s Stat listing h = refl
-answers_none s Quit listing h = refl
+answers_none s x1 listing h = grind (arith, common_steps, found_is)
 
 commits_none : (s : State) (command : Command) (listing : List CacheLine) (o : Option Reply) → IsNoCommit o → may_commit command ≡ false → is_committed (outcome s command listing o).reply ≡ false
 unfolding IsNoCommit

@@ -1,50 +1,26 @@
 -- One call, by what its engine says of it.
-use Rattle.std.proofs.Common.{◌≡◌, ◌≢◌, inl, ⊎_elim, ◌+◌, ◌≤◌, Bool, true, false, true≢false, List, [], ℕ, le_refl, refl, sym, ap, subst, ◌∙◌, arith}
-use Rattle.std.specs.Prelude.{◌||◌, if◌then◌else◌, Result, Ok, Err, IfOk, IfErr, Some}
-use Rattle.std_lemmas.proofs.Results.{on_ok}
-use Rattle.site.specs.declared.geometry.Geometry.{Geometry}
+use Rattle.std.proofs.lemmas.Grind.{common_steps}
+use Rattle.database.proofs.Names.{◌≡◌, ◌≢◌, inl, ⊎_elim, ◌+◌, ◌≤◌, Bool, false, true≢false, List, [], ℕ, le_refl, refl, sym, subst, ◌∙◌, arith, Some, ◌||◌, if◌then◌else◌, Result, Ok, Err, IfOk, IfErr, Held, answered, has_stopped, meaning, Serves, Unanswered, Invariant, sizes_of, LeavesTable, LeavesEither, Matches, is_quit, State, Outcome, is_accepted, is_page_full, step, Command, Mark, Reply, Done, nothing_happens, ends_leaving, ends_no_memory, ends_ok, leaves_weaker, calls_nothing, calls_refused, err_as, of_error, LeavesOnly, Site, Snapshot, IsQuiet, Geometry, Stop, on_ok}
 use Rattle.site.specs.declared.outside.Dev.{Dev}
-use Rattle.site.specs.declared.outside.Stop.{Stop}
 use Rattle.site.specs.declared.outside.Stop.TheVariants.{Device, Memory, Worn}
-use Rattle.site.specs.State.{State as Site, Snapshot, IsQuiet}
-use Rattle.site.specs.Moments.{LeavesOnly}
-use Rattle.site.proofs.Laws.{leaves_weaker}
 use Rattle.site.specs.Work.{Calls}
-use Rattle.site.proofs.Working.{calls_nothing, calls_refused, err_as, of_error}
-use Rattle.record_model.specs.State.{State}
-use Rattle.record_model.specs.Step.{Outcome, is_accepted, is_page_full, step}
-use Rattle.record_model.specs.Run.{is_quit}
 use Rattle.record_model.specs.Touches.{CacheOp, command_touches}
-use Rattle.record_model.specs.declared.words.Command.{Command}
-use Rattle.record_model.specs.declared.words.Command.TheVariants.{Mark}
-use Rattle.record_model.specs.declared.words.Reply.{Reply}
-use Rattle.record_model.specs.declared.words.Reply.TheVariants.{Done}
 use Rattle.image_meaning.specs.Moments.{LeavesTableUnder}
 use Rattle.page_store.proofs.StagingLaws.{stages_none}
-use Rattle.page_store.specs.Stopping.{MayStop}
-use Rattle.ring_machine.specs.Machine.{RingOp}
 use Rattle.ring_machine.specs.Commands.{command_work}
 use Rattle.redo_laws.specs.MachineSteps.{StepsMachine}
 use Rattle.redo_laws.specs.Numbers.{SkipsNone}
 use Rattle.redo_undo.specs.declared.store.TransactionStore.{TransactionStore}
 use Rattle.ring_machine.proofs.Performing.{performs_nothing}
 use Rattle.redo_laws.proofs.Asking.{asks_nothing}
-use Rattle.redo_laws.proofs.CallsInSequence.{nothing_happens}
-use Rattle.redo_laws.proofs.Endings.{ends_leaving, ends_no_memory, ends_ok}
 use Rattle.redo_undo.proofs.NextUnits.{next_nothing, next_refused}
 use Rattle.redo_undo.specs.Mirroring.{PerformsStore}
 use Rattle.redo_undo.specs.StoreCalls.{KeepsNext}
 use Rattle.engine.specs.declared.engine.Engine.{Engine}
 use Rattle.engine.proofs.RingCounts.{count_nothing, count_refused, run_makes}
-use Rattle.engine.specs.Invariant.{Invariant, sizes_of}
-use Rattle.engine.specs.Representation.{Matches}
-use Rattle.engine.specs.Leaves.{LeavesTable, LeavesEither}
 use Rattle.engine.specs.Calls.{Ends, KeepsEngine, KeepsUnread, CommandContract}
 use Rattle.engine.specs.Numbers.{CountsOn, checkpoints_by}
 use Rattle.engine.specs.LogReads.{log_reads_by}
-use Rattle.database.specs.declared.unanswered.Unanswered.{Unanswered}
-use Rattle.database.specs.Held.{Held}
-use Rattle.database.specs.Serving.{answered, has_stopped, meaning, Serves}
 
 -- the table of before is one of the two
 early : (g : Geometry) (s after : State) (so_far : List ℕ) (snapshot : Snapshot) → LeavesTable g s.table s.commits so_far snapshot → LeavesEither g s after so_far snapshot
@@ -83,13 +59,7 @@ module _ (r : Result Reply Stop) (memory : IfErr r (λ stop. stop ≡ Memory)) (
   idle_next (Err stop) memory = next_refused {a = Done} (λ d. (no_device (Err stop) memory d).1) next_nothing
 
   pub idle_keeps : Invariant engine site → KeepsEngine r engine engine site site
-  idle_keeps going = record {
-    calls = idle_calls r memory;
-    going = on_ok r (Invariant engine site) going;
-    sizes = refl;
-    stops = err_as r (λ stop. stop ≡ Memory) MayStop (λ stop is. subst MayStop (sym is) tt) memory;
-    next = λ honest. idle_next r memory;
-  }
+  idle_keeps going = grind (arith, common_steps, idle_calls, on_ok, err_as, idle_next)
 
   pub idle_performs : PerformsStore r [] engine.store engine.store site site
   idle_performs = performs_nothing (λ m is. on_ok r _ is) (λ dev says. (of_error r (λ stop. stop ≢ Worn dev) (Worn dev) (err_as r _ (λ stop. stop ≢ Worn dev) (λ stop both. both.1) (no_device r memory dev)) says) refl)
@@ -126,24 +96,14 @@ abbrev none_where : {X : Type 0} → Bool → Bool → List X
 none_where accepted full = if accepted then [] else (if full then [] else [])
 
 none_asked : {X : Type 0} (accepted full : Bool) → none_where {X = X} accepted full ≡ []
-none_asked true full = refl
-none_asked false true = refl
-none_asked false false = refl
+none_asked x0 full = grind (arith, common_steps)
 
 module _ (reply : Reply) (old new : Engine) (site : Site) (n : ℕ) (same : new.store ≡ old.store) where
   pub mark_keeps : Invariant new site → KeepsEngine (Ok reply) old new site site
-  mark_keeps going = record {
-    calls = calls_nothing;
-    going = going;
-    sizes = ap sizes_of same;
-    stops = tt;
-    next = λ honest. subst (λ (j : TransactionStore). KeepsNext {T = Reply} (Ok reply) old.store j site site) (sym same) next_nothing;
-  }
+  mark_keeps going = grind (arith, common_steps, calls_nothing, next_nothing)
 
   pub mark_performs : (s : State) → PerformsStore (Ok reply) (command_work s (Mark n)) old.store new.store site site
-  mark_performs s =
-      subst (λ (w : List RingOp). PerformsStore {T = Reply} (Ok reply) w old.store new.store site site) (sym (none_asked (is_accepted s (Mark n)) (is_page_full s (Mark n))))
-      (subst (λ (j : TransactionStore). PerformsStore {T = Reply} (Ok reply) [] old.store j site site) (sym same) (idle_performs (Ok reply) tt old site))
+  mark_performs s = grind (arith, common_steps, none_asked, idle_performs)
 
   pub mark_contract : (s : State) → Invariant old site → Matches old site s → reply ≡ (step s (Mark n) []).reply → Matches new site (step s (Mark n) []).after →
       CommandContract (Ok reply) old new site site s (step s (Mark n) []) (command_touches s (Mark n)) (LeavesEither (sizes_of old.store) s (step s (Mark n) []).after site.told) 0
@@ -171,19 +131,7 @@ module _ (command : Command) (r : Result Reply Stop) (before after : Held) (goes
     (log_reads : (s : State) → Matches before.engine before.site s → after.site.log_reads ≤ before.site.log_reads + log_reads_by s command) where
   -- an open database
   pub served : Serves command (answered r) before after
-  served = record {
-    closed = λ closed. absurd (true≢false (sym closed ∙ is_open));
-    answers = λ same. record {
-      goes_on = goes_on;
-      result = r;
-      answer_is = refl;
-      closes = closes ∙ ap (λ (b : Bool). b || has_stopped r) is_open;
-      keeps = keeps;
-      answers = answers;
-      performs = performs;
-      log_reads = log_reads;
-    };
-  }
+  served = grind (arith, common_steps, true≢false)
 
 -- the same of an equal database and an equal answer
 pub as_answered : {command : Command} {a : Result Reply Unanswered} {held before after : Held} (r : Result Reply Stop) → held ≡ before → a ≡ answered r → Serves command (answered r) held after → Serves command a before after

@@ -1,29 +1,10 @@
 -- A session's abort.
-use Rattle.checkpoint.specs.declared.master.Master.{Master}
-use Rattle.std.proofs.Common.{◌≡◌, ◌≢◌, ℕ, ◌+◌, ◌<◌, false, List, length, Option, None, Some, ⊎_elim, refl, sym, ap, subst, ◌∙◌, arith, get_or-set_same, get_or-set_other, length-set, IsTrue, true≢false, []}
-use Rattle.std.specs.Prelude.{slice_set, slice_index_or}
-use Rattle.std.proofs.lemmas.Option.{none-some, same_Some}
-use Rattle.std.proofs.lemmas.Bool.{cases_eq}
-use Rattle.site.specs.State.{State as Site}
-use Rattle.record_model.specs.State.{Session, State, session_at, writes_of}
-use Rattle.record_model.specs.Step.{effect, with_session}
-use Rattle.record_model.specs.declared.words.Command.TheVariants as command
-use Rattle.log_records.specs.Log.{Entry, is_loser}
-use Rattle.log_records.specs.Unfinished.{owed}
-use Rattle.lock_table.specs.declared.lock.Lock.{Lock}
-use Rattle.lock_table.specs.Locks.{ReleasesAll}
-use Rattle.txn_table.specs.declared.active.Active.{Active}
-use Rattle.txn_table.specs.Entries.{IsTable, entry_of, ChangesOnly}
-use Rattle.txn_table.specs.Entries as entries
-use Rattle.redo_undo.specs.declared.store.TransactionStore.{TransactionStore}
-use Rattle.engine.specs.declared.engine.Engine.{Engine}
-use Rattle.redo_undo.specs.Stores.{Represents}
-use Rattle.redo_undo.specs.StoreRollback.{ConcernsOnly, RollsBack}
-use Rattle.engine.specs.Representation.{Matches, SessionIs, SessionsAre, updated}
-use Rattle.txn_table.proofs.Owing.{entry_is}
+use Rattle.engine.proofs.Names.{◌≡◌, ◌≢◌, ℕ, ◌+◌, ◌<◌, false, List, length, Option, None, Some, ⊎_elim, refl, sym, ap, subst, ◌∙◌, arith, get_or-set_same, get_or-set_other, length-set, IsTrue, true≢false, [], cases_eq, none-some, same_Some, slice_set, slice_index_or, Master, Matches, SessionIs, SessionsAre, updated, Engine, ReleasesAll, Lock, Entry, is_loser, owed, Session, State, session_at, writes_of, effect, with_session, ConcernsOnly, RollsBack, Represents, TransactionStore, Site, entry_is, IsTable, entry_of, ChangesOnly, Active}
 use Rattle.engine.proofs.Locks.{released}
 use Rattle.engine.proofs.Actives.{some_active}
 use Rattle.engine.proofs.FootprintChanges.{dropped as dropped_there}
+use Rattle.record_model.specs.declared.words.Command.TheVariants as command
+use Rattle.txn_table.specs.Entries as entries
 
 -- another session's transaction
 pub others_go_on : (newest : Option Master) (kept : ℕ) (txn : ℕ) (before now : List Entry) → ConcernsOnly newest txn before now → (a : Option Active) (o : Option Session) → ((entry : Active) → a ≡ Some entry → entry.begin ≢ txn) → SessionIs newest kept before a o → SessionIs newest kept now a o

@@ -1,22 +1,7 @@
 -- The sessions of the model and the unfinished transactions of the log, one record further.
-use Rattle.checkpoint.specs.declared.master.Master.{Master}
-use Rattle.std.proofs.Common.{◌≡◌, ◌≢◌, ℕ, suc, ◌+◌, ◌*◌, ◌≤◌, ◌<◌, false, List, [], ◌∷◌, ◌++◌, length, Option, None, Some, ⊎_elim, refl, sym, ap, subst, ◌∙◌, arith, get_or-set_same, get_or-set_other, length-set}
-use Rattle.std.specs.Prelude.{slice_set, slice_index_or, drop}
-use Rattle.std.proofs.lemmas.Option.{none-some, same_Some}
-use Rattle.std.proofs.lemmas.Bool.{ne_eqb, eq-eqb, cases_eq}
-use Rattle.record_model.specs.State.{Session, State, session_at}
-use Rattle.record_model.specs.Step.{making, with_session}
-use Rattle.log_records.specs.declared.log_record.LogRecord.TheVariants.{Begin}
-use Rattle.log_records.specs.Log.{Entry, is_of, entries_of}
-use Rattle.log_laws.specs.Follow.{IsActive, IsFresh}
-use Rattle.log_laws.proofs.Losers.{active_begun, active_stays, entries_other, entries_own, loser_stays}
-use Rattle.log_laws.proofs.Appends.{fresh_entries}
-use Rattle.log_laws.proofs.Owing.{owed_begin}
-use Rattle.txn_table.specs.declared.active.Active.{Active}
-use Rattle.txn_table.specs.Entries.{entry_of, ChangesOnly}
+use Rattle.engine.proofs.Names.{◌≡◌, ◌≢◌, ℕ, suc, ◌+◌, ◌*◌, ◌≤◌, ◌<◌, false, List, [], ◌∷◌, ◌++◌, length, Option, None, Some, ⊎_elim, refl, sym, ap, subst, ◌∙◌, arith, get_or-set_same, get_or-set_other, length-set, ne_eqb, eq-eqb, cases_eq, none-some, same_Some, slice_set, slice_index_or, Master, IsUnderWay, SessionIs, SessionsAre, updated, master_of, fresh_entries, active_begun, active_stays, entries_other, entries_own, loser_stays, owed_begin, IsActive, IsFresh, Entry, is_of, entries_of, Begin, Session, State, session_at, making, with_session, entry_of, ChangesOnly, Active}
+use Rattle.std.specs.Prelude.{drop}
 use Rattle.txn_table.specs.Entries as entries
-use Rattle.image_meaning.specs.Meaning.{master_of}
-use Rattle.engine.specs.Representation.{IsUnderWay, SessionIs, SessionsAre, updated}
 
 -- what is active in one is in the other
 pub none_active : (newest : Option Master) (records : List Entry) (active : List Active) (s : State) → SessionsAre newest records active s → (n : ℕ) → entry_of active n ≡ None → session_at s n ≡ None

@@ -1,35 +1,9 @@
 -- Calls that ask the cache for work, one after the other.
-use Rattle.redo_laws.proofs.Costs.{numbers_rise}
-use Rattle.std.proofs.Common.{map, append_assoc, ◌-◌, ◌/◌, ◌≡◌, ◌+◌, ◌≤◌, ◌<◌, List, [], ◌∷◌, ◌++◌, arith, sym, ap, subst, ◌∙◌, ℕ}
-use Rattle.std.specs.Prelude.{Result, Ok, Err}
-use Rattle.site.specs.declared.outside.Dev.TheVariants.{Flash, Disk}
-use Rattle.site.specs.declared.outside.Stop.{Stop}
-use Rattle.site.specs.State.{State as Site, Image, Snapshot, IsQuiet}
-use Rattle.site.specs.declared.geometry.Geometry.{Geometry}
-use Rattle.site.specs.Moments.{Leaves, LeavesOnly}
-use Rattle.site.proofs.Laws.{in_sequence}
-use Rattle.sealed_ring.specs.Ring.{hi_of}
-use Rattle.image_changes.specs.Rings.{group_shape, units_on}
-use Rattle.frame_group.specs.Groups.{Frame, frames_in}
-use Rattle.second_chance.specs.Queue.{frame_of as known_of}
-use Rattle.page_store.proofs.StagingLaws.{last_after_reads, still_leaves}
-use Rattle.std.proofs.lemmas.List.{length-map, map-append}
-use Rattle.site.specs.Calls.{SameReads, IsUnchanged}
-use Rattle.std.specs.List.{range_with_len}
-use Rattle.record_model.specs.Touches.{CacheOp, read_touch}
+use Rattle.engine.proofs.Names.{map, append_assoc, ◌-◌, ◌/◌, ◌≡◌, ◌+◌, ◌≤◌, ◌<◌, List, [], ◌∷◌, ◌++◌, arith, sym, ap, subst, ◌∙◌, ℕ, length-map, map-append, range_with_len, Result, Ok, Err, OnOk, Invariant, AsksFrom, HasStagedFrom, WritesFrom, cache_on, Engine, Frame, frames_in, group_shape, units_on, last_after_reads, still_leaves, PageStore, CacheOp, read_touch, asks_then, asks_stopped, asks_same, change_made, numbers_rise, one_touch, StepsMachine, one_change, NumbersRise, MayWork, TransactionStore, hi_of, Rules, Cache, after_works, staged_by_works, known_of, in_sequence, SameReads, IsUnchanged, Leaves, LeavesOnly, Site, Image, Snapshot, IsQuiet, Geometry, Flash, Disk, Stop}
 use Rattle.engine.proofs.Scans.{range_more, range_at}
-use Rattle.second_chance.specs.Machine.{Rules, Cache, after_works, staged_by_works}
-use Rattle.page_store.specs.declared.store.PageStore.{PageStore}
 use Rattle.page_store.specs.Caching.{cache_of, rules, with_change, next_group}
-use Rattle.redo_laws.specs.MachineSteps.{one_touch, StepsMachine, one_change, NumbersRise}
-use Rattle.redo_undo.specs.declared.store.TransactionStore.{TransactionStore}
-use Rattle.engine.specs.declared.engine.Engine.{Engine}
-use Rattle.engine.specs.Invariant.{Invariant}
-use Rattle.engine.specs.Paging.{AsksFrom, HasLastFrom, WritesFrom, cache_on}
+use Rattle.page_store.specs.Costs.{CallsForStaged, unsynced_in}
 use Rattle.page_store.specs.Staging.{HasQueueOn, Stages, WritesOnly}
-use Rattle.redo_undo.specs.Stores.{MayWork}
-use Rattle.redo_laws.proofs.Asking.{asks_then, asks_stopped, asks_same}
-use Rattle.redo_laws.proofs.AskingUndo.{change_made}
 
 -- A page that is touched, and then changed.
 pub change_ok : {A B : Type 0} (a : A) (b : B) (page : ℕ) (old mid new : PageStore) (before between now : Site) → 1 ≤ (rules old).groups → StepsMachine {T = A} (Ok a) (one_touch page) old mid before between →
@@ -157,9 +131,20 @@ writes_found g r works h r' works' start old mid new some quiet same sizes same_
 
 -- what the disk has behind it
 pub last_found : (g : Geometry) (r : Rules) (works : List CacheOp) (h : Geometry) (r' : Rules) (works' : List CacheOp) (start : Cache) (old mid new : Site) → IsUnchanged old mid → h ≡ g → r' ≡ r → works' ≡ works → start ≡ cache_on g old.image →
-    HasLastFrom h r' works' start mid new → HasLastFrom g r works (cache_on g old.image) old new
+    HasStagedFrom h r' works' start mid new → HasStagedFrom g r works (cache_on g old.image) old new
 last_found g r works h r' works' start old mid new same sizes same_rules same_works same_start last =
-    let there : HasLastFrom g r works (cache_on g old.image) mid new =
-    subst (λ (k : Cache). HasLastFrom g r works k mid new) same_start
-    (subst (λ (w : List CacheOp). HasLastFrom g r w start mid new) same_works (subst (λ (x : Rules). HasLastFrom g x works' start mid new) same_rules (subst (λ (x : Geometry). HasLastFrom x r' works' start mid new) sizes last))) in
-    last_after_reads g (staged_by_works r works (cache_on g old.image)) old mid new same.past there
+    let there : HasStagedFrom g r works (cache_on g old.image) mid new =
+    subst (λ (k : Cache). HasStagedFrom g r works k mid new) same_start
+    (subst (λ (w : List CacheOp). HasStagedFrom g r w start mid new) same_works (subst (λ (x : Rules). HasStagedFrom g x works' start mid new) same_rules (subst (λ (x : Geometry). HasStagedFrom x r' works' start mid new) sizes last))) in
+    record {
+      last = last_after_reads g (staged_by_works r works (cache_on g old.image)) old mid new same.past there.last;
+      counted = (let calls = there.counted.calls in let before = ap unsynced_in same.past in record { calls = omega (arith, calls, before); rises = there.counted.rises; within = there.counted.within });
+    }
+
+pub staged_from : {T : Type 0} (result : Result T Stop) (works : List CacheOp) (old new : PageStore) (before now : Site) → StepsMachine result works old new before now → HasQueueOn old before → IsQuiet before →
+    OnOk result (HasStagedFrom old.flash.geometry (rules old) works (cache_of old) before now)
+staged_from (Ok x) works old new before now asks has quiet = record {
+  last = asks.stages.last has quiet;
+  counted = subst (λ (c : Cache). CallsForStaged (staged_by_works (rules old) works (cache_of old)) old.flash.directory.first c.queue.first before now) asks.machine (asks.stages.counted has quiet);
+}
+staged_from (Err stop) works old new before now asks has quiet = tt

@@ -1,39 +1,12 @@
 -- A session's mark, and its way back.
-use Rattle.checkpoint.specs.declared.master.Master.{Master}
-use Rattle.std.proofs.Common.{◌≡◌, ◌≢◌, ℕ, ◌+◌, ◌-◌, ◌<◌, ◌≤◌, List, length, drop, take, Option, None, Some, ⊎_elim, refl, sym, ap, subst, ◌∙◌, arith, get_or-set_same, get_or-set_other, length-set, IsTrue}
-use Rattle.std.specs.Prelude.{filter_map, min, option_map, slice_index_or, slice_set, unwrap_or}
-use Rattle.std.proofs.lemmas.List.{length-drop, length-take-le}
-use Rattle.std.proofs.lemmas.Option.{same_Some}
-use Rattle.std.proofs.lemmas.Bool.{cases_eq}
-use Rattle.site.specs.State.{State as Site}
-use Rattle.site.specs.declared.geometry.Geometry.{Geometry}
-use Rattle.record_model.specs.State.{Session, State, session_at, writes_of, wrote_of, reads_of}
-use Rattle.record_model.specs.Step.{dropped, effect, going_back, having_marked, making, with_session}
-use Rattle.record_model.specs.declared.words.Command.TheVariants as command
-use Rattle.record_model.specs.Touches.{record_touches, takes_back_touches}
-use Rattle.ring_machine.specs.Commands.{goes_back, record_work}
-use Rattle.log_records.specs.Log.{Entry, number_of}
-use Rattle.log_records.specs.Unfinished.{owed}
-use Rattle.log_laws.specs.Follow.{IsActive}
-use Rattle.log_store.specs.Representation.{end_of}
-use Rattle.image_meaning.specs.Meaning.{master_of}
-use Rattle.lock_table.specs.declared.lock.Lock.{Lock}
-use Rattle.txn_table.specs.declared.active.Active.{Active}
-use Rattle.txn_table.specs.Entries.{IsTable, entry_of, ChangesOnly, after_mark, after_undone}
-use Rattle.txn_table.specs.Entries as entries
-use Rattle.redo_laws.specs.Holding.{blocks_to}
-use Rattle.redo_undo.specs.Stores.{MayWork}
-use Rattle.redo_undo.specs.StoreRollback.{ConcernsOnly, GoesBack}
-use Rattle.engine.specs.declared.engine.Engine.{Engine}
-use Rattle.engine.specs.Invariant.{Invariant, sizes_of}
-use Rattle.engine.specs.LogReads.{back_reads}
-use Rattle.engine.specs.Representation.{IsUnderWay, LocksAre, Matches, SessionIs, SessionsAre, with_mark}
-use Rattle.txn_table.proofs.Owing.{entry_is}
+use Rattle.engine.proofs.Names.{◌≡◌, ◌≢◌, ℕ, ◌+◌, ◌-◌, ◌<◌, ◌≤◌, List, length, drop, take, Option, None, Some, ⊎_elim, refl, sym, ap, subst, ◌∙◌, arith, get_or-set_same, get_or-set_other, length-set, IsTrue, cases_eq, length-drop, length-take-le, same_Some, filter_map, option_map, slice_index_or, slice_set, unwrap_or, Master, Invariant, sizes_of, back_reads, AreLocked, AreTakenBack, IsUnderWay, LocksAre, Matches, SessionIs, SessionsAre, with_mark, Engine, master_of, Lock, IsActive, Entry, number_of, owed, end_of, Session, State, session_at, writes_of, wrote_of, reads_of, dropped, effect, going_back, having_marked, making, with_session, record_touches, takes_back_touches, blocks_to, ConcernsOnly, GoesBack, MayWork, goes_back, record_work, Site, Geometry, entry_is, IsTable, entry_of, ChangesOnly, after_mark, after_undone, Active}
+use Rattle.std.specs.Prelude.{min}
 use Rattle.engine.proofs.Aborts.{others_go_on}
 use Rattle.engine.proofs.Actives.{some_active}
 use Rattle.engine.proofs.FootprintChanges.{footprints_stay, went_back}
-use Rattle.engine.specs.PageTests.{AreLocked, AreTakenBack}
 use Rattle.engine.proofs.Locks.{at_set, locks_stay}
+use Rattle.record_model.specs.declared.words.Command.TheVariants as command
+use Rattle.txn_table.specs.Entries as entries
 
 -- One session goes on with another entry, and no other transaction is concerned.
 pub changed_one : (newest : Option Master) (records log : List Entry) (old new : List Active) (s : State) (n : ℕ) (now : Option Session) (session : Session) (entry entry' : Active) → SessionsAre newest records old s → n < 8 → entry_of old n ≡ Some entry → ChangesOnly old new n (Some entry') → entry'.begin ≡ entry.begin →

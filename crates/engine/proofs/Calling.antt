@@ -1,49 +1,13 @@
 -- Calls one after the other, each known by its record.
-use Rattle.redo_laws.proofs.CallsInSequence.{nothing_happens}
-use Rattle.std.proofs.Common.{◌≡◌, inl, inr, ◌+◌, ◌≤◌, List, [], ◌∷◌, ◌++◌, Bool, true, None, refl, sym, subst, ap, ◌∙◌, arith, ⊎_elim, ℕ}
-use Rattle.std.specs.Prelude.{Option, Result, Ok, Err, OnOk, IfOk, IsErrOf, IsTrue, if◌then◌else◌}
-use Rattle.site.specs.declared.outside.Dev.{Dev}
-use Rattle.site.specs.declared.outside.Stop.{Stop}
-use Rattle.site.specs.declared.outside.Stop.TheVariants.{Device, Worn, Memory}
-use Rattle.site.specs.declared.geometry.Geometry.{Geometry}
-use Rattle.site.specs.State.{State as Site, Snapshot, IsQuiet}
-use Rattle.site.specs.Moments.{LeavesOnly}
-use Rattle.site.specs.Calls.{Preserves, FaultRose, IsUnchanged}
+use Rattle.engine.proofs.Names.{◌≡◌, inl, inr, ◌+◌, ◌≤◌, List, [], ◌∷◌, ◌++◌, Bool, true, None, refl, sym, subst, ap, ◌∙◌, arith, ⊎_elim, ℕ, Result, Ok, Err, OnOk, IfOk, IsErrOf, if◌then◌else◌, Ends, KeepsEngine, KeepsUnread, CommandEffect, CommandContract, Stands, Invariant, sizes_of, LeavesTable, LeavesEither, checkpoints_by, CountsOn, AreLocked, full_for, tested, touches_by, write_by, Matches, IsRefusedWith, run, checkpointed_if, Engine, under_leaves_for, end_of, stages_none, MayStop, PageStore, Content, State, Write, table_with, Outcome, refusal, asks_for_checkpoint, fills_page, lacks_room, making, committed, CacheOp, flush, command_touches, Command, Reply, asks_nothing, asks_same, asks_then, asks_stopped, nothing_happens, ends_behind, ends_failed, ends_leaving, ends_no_memory, ends_ok, leaves_late, StepsMachine, checkpoint_works, next_then, next_failed, next_answered, next_nothing, next_refused, KeepsInvariant, Keeps, holds_now, leaves_weaker, stays_honest, fault_since, goes_in_sequence, calls_nothing, calls_then, calls_failed, calls_answered, calls_refused, Preserves, FaultRose, IsUnchanged, LeavesOnly, Site, Snapshot, IsQuiet, Calls, Geometry, Dev, Stop, Device, Worn, Memory, AreApart, IsTable, entry_of, Active}
+use Rattle.std.specs.Prelude.{Option, IsTrue}
 use Rattle.site.specs.Faults.{Faults, faults_in, after_work, WorkFaults}
-use Rattle.site.proofs.Laws.{holds_now, leaves_weaker, stays_honest, fault_since, goes_in_sequence}
-use Rattle.record_model.specs.State.{Content, State, Write, table_with}
-use Rattle.record_model.specs.Step.{Outcome, refusal, asks_for_checkpoint, fills_page, lacks_room, making, committed}
-use Rattle.record_model.specs.Touches.{CacheOp, flush, command_touches}
-use Rattle.record_model.specs.declared.words.Command.{Command}
-use Rattle.record_model.specs.declared.words.Reply.{Reply}
-use Rattle.image_meaning.specs.Moments as moments
-use Rattle.page_store.specs.declared.store.PageStore.{PageStore}
-use Rattle.page_store.specs.Stopping.{MayStop}
-use Rattle.image_meaning.proofs.Leaving.{under_leaves_for}
-use Rattle.redo_laws.specs.MachineSteps.{StepsMachine, checkpoint_works}
-use Rattle.log_store.specs.Representation.{end_of}
-use Rattle.txn_table.specs.declared.active.Active.{Active}
-use Rattle.txn_table.specs.Entries.{IsTable, entry_of, owed}
-use Rattle.engine.specs.PageTests.{AreLocked, full_for, tested, touches_by, write_by}
-use Rattle.engine.specs.declared.engine.Engine.{Engine}
-use Rattle.txn_table.proofs.DistinctBegins.{AreApart}
-use Rattle.engine.specs.Invariant.{Invariant, sizes_of}
-use Rattle.engine.specs.Representation.{Matches, IsRefusedWith, run, checkpointed_if}
-use Rattle.engine.specs.Image.{Stands}
-use Rattle.engine.specs.Leaves.{LeavesTable, LeavesEither}
-use Rattle.engine.specs.Numbers.{checkpoints_by, CountsOn}
-use Rattle.engine.specs.Calls.{Ends, KeepsEngine, KeepsUnread, CommandEffect, CommandContract}
+use Rattle.txn_table.specs.Entries.{owed}
 use Rattle.engine.proofs.Moments.{and_then}
 use Rattle.engine.proofs.Asking.{has_group}
 use Rattle.engine.proofs.RingCounts.{counts, count_failed, count_answered, count_refused, count_then, run_makes, count_nothing}
 use Rattle.engine.proofs.Replies.{none_made, made_as_asked, step_behind, touches_behind, touched, way}
-use Rattle.site.proofs.Working.{calls_nothing, calls_then, calls_failed, calls_answered, calls_refused}
-use Rattle.site.specs.Work.{Calls}
-use Rattle.redo_undo.specs.StoreCalls.{KeepsInvariant, Keeps}
-use Rattle.redo_laws.proofs.Endings.{ends_behind, ends_failed, ends_leaving, ends_no_memory, ends_ok, leaves_late}
-use Rattle.redo_undo.proofs.NextUnits.{next_then, next_failed, next_answered, next_nothing, next_refused}
-use Rattle.page_store.proofs.StagingLaws.{stages_none}
-use Rattle.redo_laws.proofs.Asking.{asks_nothing, asks_same, asks_then, asks_stopped}
+use Rattle.image_meaning.specs.Moments as moments
 
 -- On every site.
 

@@ -1,24 +1,8 @@
 -- The sessions after an Update of one of them, and after the record that ends one.
-use Rattle.checkpoint.specs.declared.master.Master.{Master}
-use Rattle.std.proofs.Common.{◌≡◌, ◌≢◌, ℕ, ◌+◌, ◌*◌, ◌<◌, true, List, [], ◌∷◌, ◌++◌, Option, None, Some, ⊎_elim, true≢false, refl, sym, ap, subst, ◌∙◌, arith, get_or-set_same, get_or-set_other, length-set}
-use Rattle.std.specs.Prelude.{slice_set, slice_index_or, option_map}
-use Rattle.std.proofs.lemmas.List.{length-append}
-use Rattle.std.proofs.lemmas.Option.{none-some, same_Some}
-use Rattle.std.proofs.lemmas.Bool.{ne_eqb, eq-eqb, cases_eq}
-use Rattle.record_model.specs.State.{Content, Session, State, Write, session_at}
-use Rattle.record_model.specs.Step.{making, with_session, having_written}
-use Rattle.log_records.specs.declared.log_record.LogRecord.TheVariants.{Update}
-use Rattle.log_records.specs.Log.{Entry, entries_of, txn_of, is_loser, is_closing}
-use Rattle.log_laws.specs.Follow.{IsActive, CanBeUndone}
-use Rattle.log_laws.proofs.Losers.{active_writes, active_owes, entries_own, loser_stays, loser_is_closed}
-use Rattle.log_laws.proofs.Owing.{owed_update, owed_closing}
-use Rattle.txn_table.specs.declared.active.Active.{Active}
-use Rattle.txn_table.specs.Entries.{entry_of, ChangesOnly, after_write}
-use Rattle.txn_table.specs.Entries as entries
-use Rattle.image_meaning.specs.Meaning.{master_of}
-use Rattle.engine.specs.Representation.{SessionIs, SessionsAre, updated}
+use Rattle.engine.proofs.Names.{◌≡◌, ◌≢◌, ℕ, ◌+◌, ◌*◌, ◌<◌, true, List, [], ◌∷◌, ◌++◌, Option, None, Some, ⊎_elim, true≢false, refl, sym, ap, subst, ◌∙◌, arith, get_or-set_same, get_or-set_other, length-set, ne_eqb, eq-eqb, cases_eq, length-append, none-some, same_Some, slice_set, slice_index_or, option_map, Master, SessionIs, SessionsAre, updated, master_of, active_writes, active_owes, entries_own, loser_stays, loser_is_closed, owed_update, owed_closing, IsActive, CanBeUndone, Entry, entries_of, txn_of, is_loser, is_closing, Update, Content, Session, State, Write, session_at, making, with_session, having_written, entry_of, ChangesOnly, after_write, Active}
 use Rattle.engine.proofs.Actives.{some_active, others_stay}
 use Rattle.engine.proofs.Updated.{updated_more}
+use Rattle.txn_table.specs.Entries as entries
 
 -- another session's transaction is another one
 other_txn : (newest : Option Master) (records : List Entry) (active : List Active) (s : State) → SessionsAre newest records active s → (n m : ℕ) (own other : Active) → entry_of active n ≡ Some own → entry_of active m ≡ Some other → m ≢ n → own.begin ≢ other.begin

@@ -1,35 +1,13 @@
 -- A checkpoint of the active sessions' transactions.
+use Rattle.engine.proofs.Names.{◌≡◌, ℕ, zero, suc, ◌+◌, ◌/◌, ◌<◌, ◌≤◌, ◌==◌, ◌||◌, not, Bool, true, false, List, [], ◌∷◌, length, drop, get_or, inl, Option, Some, None, IsTrue, refl, sym, ap, subst, ◌∙◌, arith, and_from, eq-eqb, not_from_false, or_left, none-some, same_Some, AllByRecursion, list_any, Master as Saved, Pair, Invariant, sizes_of, AreLocked, FootprintsAre, Matches, LocksAre, SessionIs, SessionsAre, checkpointed_if, updated, Engine, master_of, any_of_those, IsActive, Entry, is_of, is_closed, is_loser, entries_of, last_lsn, from_block, end_of, Session, State, Write, session_at, kept_by_checkpoint, AreUnfinished, MayBeMade, KeepUnfinished, blocks_to, MayWork, HasCheckpoint, Site, Geometry, entry_of-Contains, entry_of-at, IsTable, entry_of, counted_from, Active}
 use Rattle.redo_laws.proofs.Outliving.{active_outlives}
-use Rattle.std.proofs.Common.{◌≡◌, ℕ, zero, suc, ◌+◌, ◌/◌, ◌<◌, ◌≤◌, ◌==◌, ◌||◌, not, Bool, true, false, List, [], ◌∷◌, length, drop, get_or, inl, Option, Some, None, option_map, IsTrue, refl, sym, ap, subst, ◌∙◌, arith}
-use Rattle.std.specs.List.{AllByRecursion, list_any}
-use Rattle.std.proofs.lemmas.Bool.{and_from, eq-eqb, not_from_false, or_left}
-use Rattle.std.proofs.lemmas.Option.{none-some, same_Some}
-use Rattle.site.specs.State.{State as Site}
-use Rattle.site.specs.declared.geometry.Geometry.{Geometry}
-use Rattle.record_model.specs.State.{Session, State, Write, session_at, kept_by_checkpoint}
-use Rattle.log_records.specs.Log.{Entry, is_of, is_closed, is_loser, entries_of}
-use Rattle.log_records.specs.Sound.{Master, last_lsn, from_block}
-use Rattle.log_laws.specs.Follow.{IsActive}
-use Rattle.log_laws.proofs.Losers.{any_of_those}
-use Rattle.checkpoint.specs.declared.master.Master.{Master as Saved}
-use Rattle.checkpoint.specs.declared.pairs.Pair.{Pair}
-use Rattle.image_meaning.specs.Meaning.{master_of}
-use Rattle.redo_laws.specs.Checkpointing.{AreUnfinished, MayBeMade, KeepUnfinished}
-use Rattle.log_store.specs.Representation.{end_of}
-use Rattle.txn_table.specs.declared.active.Active.{Active}
-use Rattle.txn_table.specs.Entries.{IsTable, entry_of, counted_from}
-use Rattle.txn_table.specs.Entries as entries
-use Rattle.txn_table.proofs.BySession.{entry_of-Contains, entry_of-at}
-use Rattle.redo_laws.specs.Holding.{blocks_to}
+use Rattle.std.proofs.Common.{option_map}
+use Rattle.log_records.specs.Sound.{Master}
 use Rattle.engine.proofs.FootprintChanges.{footprints_stay}
-use Rattle.engine.specs.PageTests.{AreLocked, FootprintsAre}
-use Rattle.engine.specs.declared.engine.Engine.{Engine}
-use Rattle.engine.specs.Invariant.{Invariant, sizes_of}
-use Rattle.redo_undo.specs.Stores.{MayWork, HasCheckpoint}
-use Rattle.engine.specs.Representation.{Matches, LocksAre, SessionIs, SessionsAre, checkpointed_if, updated}
 use Rattle.engine.proofs.Actives.{some_active}
 use Rattle.engine.proofs.Namings.{no_active, pair_of, pairs_of}
 use Rattle.engine.proofs.Keeping.{LetsGo, kept_is}
+use Rattle.txn_table.specs.Entries as entries
 
 -- The named transactions are the unfinished ones.
 

@@ -1,37 +1,14 @@
 -- A session's commit.
-use Rattle.std.proofs.Common.{◌≡◌, ℕ, ◌+◌, ◌++◌, ◌∷◌, [], List, None, Some, inl, inr, ⊎_elim, refl, sym, ap, subst, ◌∙◌, arith, IsTrue}
-use Rattle.site.specs.State.{State as Site, Snapshot}
-use Rattle.record_model.specs.State.{Content, State, session_at, writes_of, table_with}
-use Rattle.record_model.specs.Step.{effect, with_session}
-use Rattle.record_model.specs.declared.words.Command.TheVariants as command
-use Rattle.log_records.specs.Log.{Entry}
-use Rattle.log_records.specs.declared.log_record.LogRecord.TheVariants.{Commit}
-use Rattle.log_laws.specs.Follow.{standing_in, writes_in}
-use Rattle.log_laws.proofs.StandingTables.{table_stands}
-use Rattle.image_meaning.specs.Meaning.{versions_on}
-use Rattle.lock_table.specs.declared.lock.Lock.{Lock}
-use Rattle.lock_table.specs.Locks.{ReleasesAll}
-use Rattle.txn_table.specs.declared.active.Active.{Active}
-use Rattle.txn_table.specs.Entries.{IsTable, entry_of, ChangesOnly}
-use Rattle.txn_table.specs.Entries as entries
-use Rattle.image_meaning.specs.Moments as moments
-use Rattle.redo_laws.specs.Committing.{MayCommit}
-use Rattle.redo_undo.specs.declared.store.TransactionStore.{TransactionStore}
-use Rattle.engine.specs.Invariant.{sizes_of}
-use Rattle.engine.specs.declared.engine.Engine.{Engine}
-use Rattle.engine.specs.Image.{Stands}
-use Rattle.redo_undo.specs.Stores.{Represents}
-use Rattle.engine.specs.Representation.{Matches, SessionsAre}
-use Rattle.engine.specs.Leaves.{LeavesEither}
-use Rattle.txn_table.proofs.Owing.{entry_is}
+use Rattle.engine.proofs.Names.{◌≡◌, ℕ, ◌+◌, ◌++◌, ◌∷◌, [], List, None, Some, inl, inr, ⊎_elim, refl, sym, ap, subst, ◌∙◌, arith, IsTrue, slice_set, Stands, sizes_of, LeavesEither, Matches, SessionsAre, Engine, IsOnlyOf, Footprint, versions_on, ReleasesAll, Lock, table_stands, standing_in, writes_in, Entry, Commit, Content, State, session_at, writes_of, table_with, effect, with_session, MayCommit, Represents, TransactionStore, Site, Snapshot, entry_is, IsTable, entry_of, ChangesOnly, Active}
 use Rattle.engine.proofs.Locks.{released}
 use Rattle.engine.proofs.Changes.{closed}
 use Rattle.engine.proofs.Actives.{some_active}
 use Rattle.engine.proofs.FootprintChanges.{committed as committed_there}
-use Rattle.footprints.specs.declared.footprint.Footprint.{Footprint}
-use Rattle.footprints.specs.Longest.{IsOnlyOf}
-use Rattle.std.specs.Prelude.{slice_set, length}
+use Rattle.std.specs.Prelude.{length}
 use Rattle.engine.proofs.Meanings.{stands_for, table_is, undoable}
+use Rattle.record_model.specs.declared.words.Command.TheVariants as command
+use Rattle.txn_table.specs.Entries as entries
+use Rattle.image_meaning.specs.Moments as moments
 
 -- a session's transaction may be committed
 pub may_commit : (engine : Engine) (site : Site) (s : State) (entry : Active) (fits : Matches engine site s) → entry_of engine.active entry.session ≡ Some entry → MayCommit fits.newest fits.records entry.begin (engine.commits + 1) s.commits

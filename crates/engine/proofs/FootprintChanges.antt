@@ -1,17 +1,6 @@
 -- Footprints, as sessions write, go back and end.
-use Rattle.std.proofs.Common.{◌≡◌, ◌≢◌, ◌⊎◌, ⊎_elim, inl, inr, ℕ, zero, suc, ◌+◌, ◌-◌, ◌<◌, ◌≤◌, ◌==◌, ◌&&◌, ◌||◌, Bool, true, false, not, cond, List, [], ◌∷◌, ◌++◌, length, take, find, Option, Some, None, refl, sym, ap, ◌∙◌, arith, get_or-set_same, get_or-set_other, true≢false}
-use Rattle.std.specs.Prelude.{slice_set, slice_index_or, option_map}
-use Rattle.std.specs.List.{AllByRecursion, range_with_len}
-use Rattle.std.proofs.lemmas.List.{length-set, length-take-le}
-use Rattle.std.proofs.lemmas.Bool.{cases_eq, cases_lt, eq-eqb, ne_eqb, or_parts}
-use Rattle.std.proofs.lemmas.Option.{none-some}
-use Rattle.record_model.specs.State.{Content, Session, State, content_at, session_at, table_with, writes_of}
-use Rattle.record_model.specs.Step.{having_written, going_back}
-use Rattle.lock_table.specs.declared.lock.Lock.{Lock}
-use Rattle.lock_table.specs.Locks.{AddsLock, ReleasesAll, has_read, has_written, busy_write}
-use Rattle.footprints.specs.declared.footprint.Footprint.{Footprint}
-use Rattle.footprints.specs.Longest.{Drops, IsOnlyOf, lengths_on, of_session}
-use Rattle.engine.specs.PageTests.{AreLocked, AreTakenBack, FootprintsAre, footprint_of, footprints_of}
+use Rattle.engine.proofs.Names.{◌≡◌, ◌≢◌, ◌⊎◌, ⊎_elim, inl, inr, ℕ, zero, suc, ◌+◌, ◌-◌, ◌<◌, ◌≤◌, ◌==◌, ◌&&◌, ◌||◌, Bool, true, false, not, cond, List, [], ◌∷◌, ◌++◌, length, take, find, Option, Some, None, refl, sym, ap, ◌∙◌, arith, get_or-set_same, get_or-set_other, true≢false, cases_eq, cases_lt, eq-eqb, ne_eqb, or_parts, length-take-le, none-some, AllByRecursion, range_with_len, slice_set, slice_index_or, option_map, AreLocked, AreTakenBack, FootprintsAre, footprint_of, footprints_of, Drops, IsOnlyOf, lengths_on, of_session, Footprint, AddsLock, ReleasesAll, has_read, has_written, busy_write, Lock, Content, Session, State, content_at, session_at, table_with, writes_of, having_written, going_back}
+use Rattle.std.proofs.lemmas.List.{length-set}
 use Rattle.engine.proofs.Footprints.{footprints_count, footprints_more, footprints_taken, never_written, none_more, none_taken, same_footprints, untouched}
 
 -- One session's change, where all others are as they were.

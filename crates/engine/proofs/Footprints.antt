@@ -1,16 +1,8 @@
 -- Footprints of writes, as lists.
-use Rattle.std.proofs.Common.{◌≡◌, ◌⊎◌, ⊎_elim, inl, inr, ℕ, zero, suc, ◌≤◌, ◌==◌, Bool, true, false, cond, max, fold, List, [], ◌∷◌, ◌++◌, length, map, take, filter, Option, Some, None, refl, sym, ap, subst, ◌∙◌, arith, append_assoc, append-nil, get_or-set_other}
-use Rattle.std.specs.Prelude.{unwrap_or, slice_set, slice_index_or, filter_map, flat_map}
-use Rattle.std.specs.Option.{option_or}
-use Rattle.std.specs.List.{reduce}
-use Rattle.std.proofs.lemmas.Bool.{eq-eqb, eqb-true}
-use Rattle.std.proofs.lemmas.Option.{none-some}
-use Rattle.record_model.specs.State.{Content, Session, State, Write, content_at, footprint, greatest, last_write, length_of, longest_write, session_at, standing_writes, table_with, writes_of}
-use Rattle.ring_machine.specs.Commands.{stands_at}
-use Rattle.footprints.specs.declared.footprint.Footprint.{Footprint}
-use Rattle.footprints.specs.Longest.{lengths_on, lengths, longest, of_session}
+use Rattle.engine.proofs.Names.{◌≡◌, ◌⊎◌, ⊎_elim, inl, inr, ℕ, zero, suc, ◌≤◌, ◌==◌, Bool, true, false, cond, max, fold, List, [], ◌∷◌, ◌++◌, length, map, take, filter, Option, Some, None, refl, sym, ap, subst, ◌∙◌, arith, append_assoc, append-nil, get_or-set_other, eq-eqb, eqb-true, none-some, reduce, option_or, unwrap_or, slice_set, slice_index_or, filter_map, FootprintsAre, footprint_of, footprints_of, lengths_on, lengths, of_session, Footprint, Content, Session, State, Write, content_at, footprint, greatest, last_write, length_of, longest_write, session_at, standing_writes, table_with, writes_of, stands_at}
+use Rattle.std.specs.Prelude.{flat_map}
+use Rattle.footprints.specs.Longest.{longest}
 use Rattle.footprints.specs.Longest as footprints
-use Rattle.engine.specs.PageTests.{FootprintsAre, footprint_of, footprints_of}
 
 -- Last writes.
 

@@ -1,24 +1,7 @@
 -- The records that a checkpoint keeps, in the model and in the table of active sessions.
-use Rattle.std.proofs.Common.{◌≡◌, ◌⊎◌, inl, inr, ℕ, zero, suc, ◌+◌, ◌/◌, ◌<◌, ◌≤◌, List, [], ◌∷◌, length, map, fold, min, Option, Some, None, unwrap_or, All, Contains, refl, sym, ap, subst, ◌∙◌, arith}
-use Rattle.std.specs.Prelude.{filter_map, slice_index_or}
-use Rattle.std.proofs.Math.Nat.{min-le_left, min-le_right}
-use Rattle.std.proofs.lemmas.Option.{none-some, same_Some}
-use Rattle.std.proofs.lemmas.Bool.{cases_lt, eq-eqb, cond-true}
-use Rattle.std.proofs.lemmas.List.{get_or-map, length-map}
-use Rattle.record_model.specs.State.{Session, State, session_at, kept_by_checkpoint}
-use Rattle.log_records.specs.Log.{Entry}
-use Rattle.checkpoint.specs.declared.master.Master.{Master}
-use Rattle.image_meaning.specs.Flushed.{first_block}
-use Rattle.redo_laws.specs.Checkpointing.{begins_of}
-use Rattle.redo_laws.specs.Holding.{blocks_to}
-use Rattle.txn_table.specs.declared.active.Active.{Active}
-use Rattle.txn_table.specs.Entries.{IsTable, IsLeast, entry_of}
+use Rattle.engine.proofs.Names.{◌≡◌, ◌⊎◌, inl, inr, ℕ, zero, suc, ◌+◌, ◌/◌, ◌<◌, ◌≤◌, List, [], ◌∷◌, length, map, fold, min, Option, Some, None, All, Contains, refl, sym, ap, subst, ◌∙◌, arith, min-le_left, min-le_right, cases_lt, eq-eqb, cond-true, get_or-map, length-map, none-some, same_Some, filter_map, slice_index_or, Master, Invariant, SessionIs, SessionsAre, Engine, first_block, Entry, Session, State, session_at, kept_by_checkpoint, begins_of, blocks_to, Site, entry_of-Contains, entry_of-at, IsTable, IsLeast, entry_of, Active}
+use Rattle.std.proofs.Common.{unwrap_or}
 use Rattle.txn_table.proofs.Counting.{all_from_least}
-use Rattle.txn_table.proofs.BySession.{entry_of-Contains, entry_of-at}
-use Rattle.site.specs.State.{State as Site}
-use Rattle.engine.specs.declared.engine.Engine.{Engine}
-use Rattle.engine.specs.Invariant.{Invariant}
-use Rattle.engine.specs.Representation.{SessionIs, SessionsAre}
 use Rattle.engine.proofs.Actives.{some_active}
 use Rattle.engine.proofs.Namings.{no_active, pairs_of}
 

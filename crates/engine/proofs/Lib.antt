@@ -1,3 +1,4 @@
+mod Names
 pub mod Aborts
 pub mod Backs
 pub mod Actives

@@ -1,13 +1,7 @@
 -- Locks and what sessions have read and written.
-use Rattle.std.proofs.Common.{◌≡◌, ◌≢◌, ℕ, ◌==◌, ◌<◌, ◌&&◌, Bool, not, List, Option, None, ⊎_elim, sym, ap, ◌∙◌, get_or-set_same, get_or-set_other}
-use Rattle.std.specs.Prelude.{slice_set, slice_index_or, length}
-use Rattle.std.specs.List.{list_any}
-use Rattle.std.proofs.lemmas.Bool.{cases_eq, eq-eqb, ne_eqb}
-use Rattle.record_model.specs.State.{Session, State, session_at, wrote_of, reads_of}
-use Rattle.lock_table.specs.declared.lock.Lock.{Lock}
-use Rattle.lock_table.specs.Locks.{ReleasesAll}
+use Rattle.engine.proofs.Names.{◌≡◌, ◌≢◌, ℕ, ◌==◌, ◌<◌, ◌&&◌, Bool, not, List, Option, None, ⊎_elim, sym, ap, ◌∙◌, get_or-set_same, get_or-set_other, cases_eq, eq-eqb, ne_eqb, list_any, slice_set, slice_index_or, LocksAre, ReleasesAll, Lock, Session, State, session_at, wrote_of, reads_of}
+use Rattle.std.specs.Prelude.{length}
 use Rattle.lock_table.specs.Locks as locks
-use Rattle.engine.specs.Representation.{LocksAre}
 
 pub locks_stay : (held : List Lock) (s s' : State) → ((n : ℕ) → wrote_of (session_at s' n) ≡ wrote_of (session_at s n)) → ((n : ℕ) → reads_of (session_at s' n) ≡ reads_of (session_at s n)) → LocksAre held s → LocksAre held s'
 locks_stay held s s' wrote reads are = record {

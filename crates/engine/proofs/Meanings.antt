@@ -1,40 +1,13 @@
 -- What the database has in memory, in the model's words.
-use Rattle.image_meaning.proofs.Versions.{length-versions}
-use Rattle.checkpoint.specs.declared.master.Master.{Master}
-use Rattle.std.proofs.Common.{◌≡◌, ℕ, zero, suc, ◌*◌, ◌<◌, ◌≤◌, ◌==◌, Bool, true, false, not, ◌&&◌, ◌||◌, cond, List, [], ◌∷◌, length, find, Option, None, Some, ⊎_elim, refl, sym, ap, subst, ◌∙◌, arith, true≢false}
-use Rattle.std.specs.Prelude.{unwrap_or}
-use Rattle.std.specs.List.{list_any, range_with_len, AllByRecursion}
+use Rattle.engine.proofs.Names.{◌≡◌, ℕ, zero, suc, ◌*◌, ◌<◌, ◌≤◌, ◌==◌, Bool, true, false, not, ◌&&◌, ◌||◌, cond, List, [], ◌∷◌, length, find, Option, None, Some, ⊎_elim, refl, sym, ap, subst, ◌∙◌, arith, true≢false, cases_eq, and_from, ne_eqb, none-some, same_Some, list_any, range_with_len, AllByRecursion, unwrap_or, Master, sizes_of, Matches, SessionsAre, LocksAre, Engine, next_block_is, length-versions, logical_image_under, master_of, versions_on, Lock, shown_is_value, writer_is_loser, shown_stands, content_of_table, tail_without_commit, whole_is_undoable, whole_in_order, IsFree, IsFreeFor, IsUndoable, IsFresh, Entry, is_closed, table_of, value_of, AreOrderly, end_of, Content, Session, State, Write, writes_of, wrote_of, content_at, seen, last_write, table_with, Represents, shown_in, TransactionStore, Site, entry_is, IsTable, entry_of, Active}
 use Rattle.std.proofs.lemmas.List.FromFn.{length-map-range_with_len}
-use Rattle.std.proofs.lemmas.Option.{none-some, same_Some}
-use Rattle.std.proofs.lemmas.Bool.{cases_eq, and_from, ne_eqb}
-use Rattle.site.specs.State.{State as Site}
-use Rattle.record_model.specs.State.{Content, Session, State, Write, writes_of, wrote_of, content_at, seen, last_write, table_with}
-use Rattle.record_model.specs.State as model
-use Rattle.log_records.specs.Log.{Entry, is_closed, table_of, value_of}
-use Rattle.log_laws.specs.Follow.{IsFree, IsFreeFor, IsUndoable, IsFresh}
-use Rattle.log_laws.specs.Follow as follow
-use Rattle.log_records.specs.Sound.{AreOrderly}
 use Rattle.log_laws.specs.Tail.{next_lsn, whole}
-use Rattle.log_laws.proofs.Orderly as orderly
-use Rattle.log_laws.proofs.Tails.{tail_without_commit, whole_is_undoable, whole_in_order}
-use Rattle.log_laws.proofs.Tables.{content_of_table}
-use Rattle.log_laws.proofs.Shown.{shown_is_value, writer_is_loser}
-use Rattle.log_laws.proofs.StandingTables.{shown_stands}
-use Rattle.log_store.specs.Representation.{end_of}
-use Rattle.lock_table.specs.declared.lock.Lock.{Lock}
-use Rattle.lock_table.specs.Locks as locks
-use Rattle.txn_table.specs.declared.active.Active.{Active}
-use Rattle.txn_table.specs.Entries.{IsTable, entry_of}
-use Rattle.image_meaning.specs.Meaning.{logical_image_under, master_of, versions_on}
-use Rattle.image_meaning.proofs.UnchangedImages.{next_block_is}
-use Rattle.redo_undo.specs.declared.store.TransactionStore.{TransactionStore}
-use Rattle.engine.specs.declared.engine.Engine.{Engine}
-use Rattle.engine.specs.Invariant.{sizes_of}
-use Rattle.redo_undo.specs.Stores.{Represents, shown_in}
-use Rattle.engine.specs.Representation.{Matches, SessionsAre, LocksAre}
 use Rattle.engine.proofs.Actives.{some_active}
 use Rattle.engine.proofs.Updated.{updated_is}
-use Rattle.txn_table.proofs.Owing.{entry_is}
+use Rattle.record_model.specs.State as model
+use Rattle.log_laws.specs.Follow as follow
+use Rattle.log_laws.proofs.Orderly as orderly
+use Rattle.lock_table.specs.Locks as locks
 
 -- Locks.
 

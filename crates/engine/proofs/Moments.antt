@@ -1,11 +1,5 @@
 -- Calls one after the other.
-use Rattle.std.proofs.Common.{◌≡◌, List, subst, ℕ}
-use Rattle.site.specs.declared.geometry.Geometry.{Geometry}
-use Rattle.site.specs.State.{State}
-use Rattle.site.specs.Moments.{Leaves, LeavesOnly}
-use Rattle.site.proofs.Laws.{in_sequence, holds_now}
-use Rattle.record_model.specs.State.{Content}
-use Rattle.engine.specs.Leaves.{LeavesTable}
+use Rattle.engine.proofs.Names.{◌≡◌, List, subst, ℕ, LeavesTable, Content, in_sequence, holds_now, Leaves, LeavesOnly, Site as State, Geometry}
 
 -- one call behind others
 pub and_then : (g g' : Geometry) (old mid new : State) (table : List Content) (commits : ℕ) → g' ≡ g → LeavesOnly old mid (LeavesTable g table commits old.told) → LeavesOnly mid new (LeavesTable g' table commits mid.told) →

@@ -1,13 +1,7 @@
 -- The transactions that a checkpoint names.
-use Rattle.std.proofs.Common.{◌≡◌, ◌≢◌, ℕ, zero, suc, ◌+◌, ◌==◌, ◌<◌, ◌≤◌, Bool, true, false, cond, List, [], ◌∷◌, ◌++◌, length, map, take, get_or, slice_get, Some, option_map, refl, sym, ap, ◌∙◌, arith}
-use Rattle.std.proofs.lemmas.List.{get_or-map, length-map, map-append}
-use Rattle.std.proofs.lemmas.List.Elements.{All-from_recursion}
+use Rattle.engine.proofs.Names.{◌≡◌, ◌≢◌, ℕ, zero, suc, ◌+◌, ◌==◌, ◌<◌, ◌≤◌, Bool, true, false, cond, List, [], ◌∷◌, ◌++◌, length, map, take, get_or, slice_get, Some, refl, sym, ap, ◌∙◌, arith, get_or-map, length-map, map-append, All-from_recursion, Ascend, no_pair, Pair, entry_of-at, IsTable, entry_of, counted_from, Active}
+use Rattle.std.proofs.Common.{option_map}
 use Rattle.std_lemmas.proofs.Lists.{take_next}
-use Rattle.checkpoint.specs.declared.pairs.Pair.{Pair}
-use Rattle.checkpoint.specs.Actives.{Ascend, no_pair}
-use Rattle.txn_table.specs.declared.active.Active.{Active}
-use Rattle.txn_table.specs.Entries.{IsTable, entry_of, counted_from}
-use Rattle.txn_table.proofs.BySession.{entry_of-at}
 
 abbrev pub pair_of : Active → Pair
 pair_of entry = record { begin = entry.begin; last = entry.last }

@@ -1,39 +1,17 @@
 -- Room in a page for what undo may put back, behind one more Update.
 use Rattle.std.proofs.lemmas.Grind.{common_steps}
-use Rattle.std.proofs.Common.{◌≡◌, ℕ, ◌+◌, ◌*◌, ◌<◌, ◌≤◌, ◌==◌, ◌&&◌, Bool, true, false, cond, find, max, List, [], ◌∷◌, ◌++◌, Option, Some, None, refl, sym, ap, subst, ◌∙◌, arith, IsTrue, true≢false}
-use Rattle.std.specs.List.{AllByRecursion, cons_option, range_with_len}
-use Rattle.std.proofs.lemmas.Bool.{eqb-true}
-use Rattle.std.proofs.lemmas.Option.{none-some, same_Some}
+use Rattle.engine.proofs.Names.{◌≡◌, ℕ, ◌+◌, ◌*◌, ◌<◌, ◌≤◌, ◌==◌, ◌&&◌, Bool, true, false, cond, find, max, List, [], ◌∷◌, ◌++◌, Option, Some, None, refl, sym, ap, subst, ◌∙◌, arith, IsTrue, true≢false, eqb-true, none-some, same_Some, AllByRecursion, cons_option, range_with_len, sizes_of, Matches, Engine, length-versions, logical_image_under, versions_on, undoable_behind, left_push, IsNoLonger, IsWithin, all_left_of, room_behind, room_is_within, total_within, within_is_room, shown_push, writes_more, with, open_before, Follows, IsUndoable, write_of, Entry, Version, is_closed, is_loser, is_number, is_of, is_on, number_of, shown, HasOpenRoom, open_length, InTurn, left_open, losers, Begin, Update, Content, Session, State, Write, content_at, footprint, length_of, longest_write, page_room, seen, session_at, writes_of, Site, entry_is, IsTable, entry_of}
 use Rattle.std_lemmas.proofs.AllOf.{all_weaker}
-use Rattle.site.specs.State.{State as Site}
-use Rattle.record_model.specs.State.{Content, Session, State, Write, content_at, footprint, length_of, longest_write, page_room, seen, session_at, writes_of}
-use Rattle.record_model.specs.State as model
-use Rattle.log_records.specs.declared.log_record.LogRecord.TheVariants.{Begin, Update}
-use Rattle.log_records.specs.Log.{Entry, Version, is_closed, is_loser, is_number, is_of, is_on, number_of, shown}
-use Rattle.log_records.specs.Room.{HasOpenRoom, open_length, total_on}
-use Rattle.log_records.specs.Sound.{Master as Fields, InTurn}
-use Rattle.log_records.specs.Unfinished.{left_open, losers}
-use Rattle.log_laws.specs.Follow.{Follows, IsUndoable, write_of}
-use Rattle.log_laws.proofs.Follow.{undoable_behind}
-use Rattle.log_laws.proofs.Owing.{left_push}
+use Rattle.log_records.specs.Room.{total_on}
+use Rattle.log_records.specs.Sound.{Master as Fields}
 use Rattle.log_laws.proofs.Parts.{are_losers}
-use Rattle.log_laws.proofs.Rooms.{IsNoLonger, IsWithin, all_left_of, room_behind, room_is_within, total_within, within_is_room}
-use Rattle.log_laws.proofs.Shown.{shown_push}
-use Rattle.log_laws.proofs.Standing.{writes_more}
-use Rattle.log_laws.proofs.Standing as standing
-use Rattle.log_laws.proofs.Values.{with, open_before}
-use Rattle.txn_table.specs.Entries.{IsTable, entry_of}
-use Rattle.txn_table.proofs.Owing.{entry_is}
-use Rattle.image_meaning.specs.Meaning.{logical_image_under, versions_on}
-use Rattle.image_meaning.proofs.Versions.{length-versions}
-use Rattle.engine.specs.declared.engine.Engine.{Engine}
-use Rattle.engine.specs.Invariant.{sizes_of}
-use Rattle.engine.specs.Representation.{Matches}
 use Rattle.engine.proofs.Actives.{some_active}
 use Rattle.engine.proofs.Footprints.{longest-append, longest_within, stands_within}
 use Rattle.engine.proofs.Meanings.{got_is, undoable}
 use Rattle.engine.proofs.SeenVersions.{seen_by}
 use Rattle.engine.proofs.Undoing.{StoodThere, stood}
+use Rattle.record_model.specs.State as model
+use Rattle.log_laws.proofs.Standing as standing
 
 -- One record more.
 

@@ -1,40 +1,12 @@
 -- What a restart finds on devices.
+use Rattle.engine.proofs.Names.{Option, ◌≡◌, suc, ◌-◌, min, List, [], ◌∷◌, length, map, None, Some, refl, sym, ap, subst, ◌∙◌, arith, ℕ, min-le_left, if◌then◌else◌, Master, IsSound, Stands, LeavesTable, IsReady, HasGroups, groups_on, frames_in, Masters, master_shape, group_shape, log_shape, units_on, IsUnused, AreGroups, HasNewest, saved_by, kept_by, logical_image_under, Means, LogRecord, has_tail, LogStore, PageStore, Content, only_read, none_now, log_still, Opening, IsReadable, Finds, IsRing, hi_of, live, Ring, no_call, unchanged_calm, stays_honest, quiet_leaves, Preserves, IsUnchanged, Leaves, LeavesOnly, Site as State, Image, IsQuiet, Geometry}
 use Rattle.page_store.proofs.Beside.{fits_beside, goes_on_beside}
 use Rattle.image_meaning.proofs.Reading.{spelled_again, each_has}
 use Rattle.sealed_ring.proofs.Alters.{length-units}
-use Rattle.std.proofs.Common.{Option, ◌≡◌, suc, ◌-◌, min, List, [], ◌∷◌, length, map, None, Some, refl, sym, ap, subst, ◌∙◌, arith, ℕ}
-use Rattle.std.specs.Prelude.{if◌then◌else◌}
-use Rattle.std.proofs.Math.Nat.{min-le_left}
-use Rattle.site.specs.declared.geometry.Geometry.{Geometry}
-use Rattle.site.specs.State.{State, Image, IsQuiet}
-use Rattle.site.specs.Calls.{Preserves, IsUnchanged}
-use Rattle.site.specs.Moments.{Leaves, LeavesOnly}
-use Rattle.site.proofs.Laws.{no_call, unchanged_calm, stays_honest, quiet_leaves}
-use Rattle.sealed_ring.specs.declared.ring.Ring.{Ring}
-use Rattle.sealed_ring.specs.Ready.{Finds}
-use Rattle.sealed_ring.specs.Ring.{IsRing, hi_of, live}
-use Rattle.image_changes.specs.Rings.{Masters, master_shape, group_shape, log_shape, units_on}
-use Rattle.record_model.specs.State.{Content}
-use Rattle.log_records.specs.declared.log_record.LogRecord.{LogRecord}
-use Rattle.log_records.specs.Sound.{Means}
-use Rattle.checkpoint.specs.declared.master.Master.{Master}
 use Rattle.checkpoint.specs.Newest.{blank, newest_of, IsOf, HasMaster}
-use Rattle.frame_group.specs.Groups.{frames_in}
-use Rattle.flash_cache.specs.Representation.{HasGroups, groups_on}
-use Rattle.log_store.specs.declared.store.LogStore.{LogStore}
 use Rattle.log_store.specs.Representation as log_store
-use Rattle.log_store.specs.Representation.{has_tail}
-use Rattle.page_store.specs.declared.store.PageStore.{PageStore}
 use Rattle.page_store.specs.Representation as page_store
-use Rattle.image_meaning.specs.Meaning.{IsUnused, AreGroups, HasNewest, saved_by, kept_by, logical_image_under}
 use Rattle.redo_laws.specs.Holding as both
-use Rattle.engine.specs.Image.{IsSound, Stands}
-use Rattle.engine.specs.Leaves.{LeavesTable}
-use Rattle.engine.specs.Restarting.{IsReady}
-use Rattle.redo_undo.specs.Redoing.{Opening, IsReadable}
-use Rattle.redo_laws.proofs.CallsInSequence.{only_read}
-use Rattle.redo_undo.proofs.Saved.{log_still}
-use Rattle.redo_laws.proofs.Forced.{none_now}
 
 -- The queue on flash.
 

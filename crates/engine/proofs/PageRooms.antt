@@ -1,44 +1,16 @@
 -- What a record's page needs, as the engine counts it and as the model does, and where it has room.
-use Rattle.std.proofs.Common.{◌≡◌, ℕ, zero, suc, ◌+◌, ◌*◌, ◌/◌, ◌%◌, ◌<◌, ◌≤◌, ◌==◌, ◌&&◌, Bool, true, false, cond, max, List, [], ◌∷◌, ◌++◌, length, Option, Some, None, unwrap_or, ⊎_elim, refl, sym, ap, subst, ◌∙◌, arith, get_or-set_same, get_or-set_other, true≢false}
-use Rattle.std.specs.Prelude.{is_none, slice_index_or, slice_set, sum_by}
-use Rattle.std.specs.List.{range_with_len, reduce}
-use Rattle.std.proofs.Math.Nat.{div-add-mod}
-use Rattle.std.proofs.lemmas.Bool.{cases_eq, cases_lt, eq-eqb, eqb-true, ne_eqb, le-ltb, lt-ltb}
+use Rattle.engine.proofs.Names.{◌≡◌, ℕ, zero, suc, ◌+◌, ◌*◌, ◌/◌, ◌%◌, ◌<◌, ◌≤◌, ◌==◌, ◌&&◌, Bool, true, false, cond, max, List, [], ◌∷◌, ◌++◌, length, Option, Some, None, ⊎_elim, refl, sym, ap, subst, ◌∙◌, arith, get_or-set_same, get_or-set_other, true≢false, div-add-mod, le-max_left, cases_eq, cases_lt, eq-eqb, eqb-true, ne_eqb, le-ltb, lt-ltb, sum_by-cons, none-some, range_with_len, reduce, is_none, slice_index_or, slice_set, front_of, Master, sizes_of, full_for, Matches, Engine, lengths, lengths_on, of_session, need_in, Footprint, versions_on, total_within, with, IsUndoable, Entry, Version, shown, HasOpenRoom, open_length, put_back, longest, Begin, Update, IsStore, Content, State, content_at, footprint, footprint_with, length_of, need, page_of, page_room, session_at, writes_of, refuse_if, FitsFront, IsInFront, Represents, shown_in, TransactionStore, Site, content_length, slots_of, total_length, IsTable}
+use Rattle.std.proofs.Common.{unwrap_or}
+use Rattle.std.specs.Prelude.{sum_by}
 use Rattle.std.proofs.lemmas.List.{length-set}
-use Rattle.std.proofs.lemmas.Option.{none-some}
-use Rattle.std.proofs.lemmas.List.Sums.{sum_by-cons}
-use Rattle.site.specs.State.{State as Site}
-use Rattle.record_model.specs.State.{Content, State, content_at, footprint, footprint_with, length_of, need, page_of, page_room, session_at, writes_of}
-use Rattle.record_model.specs.Step.{refuse_if}
-use Rattle.record_model.specs.declared.words.Reply.TheVariants as reply
-use Rattle.log_records.specs.declared.log_record.LogRecord.TheVariants.{Begin, Update}
-use Rattle.log_records.specs.Log.{Entry, Version, shown}
-use Rattle.log_records.specs.Room.{HasOpenRoom, open_length, put_back, longest, total_on}
-use Rattle.log_laws.specs.Follow.{IsUndoable}
-use Rattle.log_laws.proofs.Rooms.{total_within}
-use Rattle.log_laws.proofs.Values.{with}
-use Rattle.std.proofs.Math.Nat.{le-max_left}
-use Rattle.slotted_page.specs.Layout.{content_length, slots_of, total_length}
+use Rattle.log_records.specs.Room.{total_on}
 use Rattle.slotted_page.proofs.Slots.{length-slots_of}
-use Rattle.buffer_pool.specs.Frames.{front_of}
-use Rattle.page_store.specs.Representation.{IsStore}
-use Rattle.txn_table.specs.Entries.{IsTable}
-use Rattle.image_meaning.specs.Meaning.{versions_on}
 use Rattle.redo_laws.proofs.Changed.{front_shows}
-use Rattle.redo_undo.specs.Fitting.{FitsFront}
-use Rattle.redo_undo.specs.declared.store.TransactionStore.{TransactionStore}
-use Rattle.redo_undo.specs.Stores.{IsInFront, Represents, shown_in}
-use Rattle.checkpoint.specs.declared.master.Master.{Master}
-use Rattle.footprints.specs.declared.footprint.Footprint.{Footprint}
-use Rattle.footprints.specs.Longest.{lengths, lengths_on, of_session, need_in}
-use Rattle.footprints.specs.Longest as footprints
-use Rattle.engine.specs.declared.engine.Engine.{Engine}
-use Rattle.engine.specs.Invariant.{sizes_of}
-use Rattle.engine.specs.PageTests.{full_for}
-use Rattle.engine.specs.Representation.{Matches}
 use Rattle.engine.proofs.Footprints.{never_written, same_footprint}
 use Rattle.engine.proofs.Meanings.{undoable}
 use Rattle.engine.proofs.OpenRooms.{begun_needs, needs_within, open_room, room_for, shown_as}
+use Rattle.record_model.specs.declared.words.Reply.TheVariants as reply
+use Rattle.footprints.specs.Longest as footprints
 
 -- Sums.
 

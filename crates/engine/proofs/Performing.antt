@@ -1,47 +1,16 @@
 -- What commands make of the machine that mirrors the database.
-use Rattle.std.proofs.Common.{◌≡◌, ℕ, ◌+◌, Bool, false, List, [], ◌∷◌, ◌++◌, flat_map, append_assoc, Some, None, refl, sym, ap, ◌∙◌, arith, ◌*◌, ◌<◌, ◌≤◌, ◌-◌, true≢false, IsTrue}
-use Rattle.std.specs.Prelude.{Option, Result, Ok, Err, if◌then◌else◌}
-use Rattle.std.specs.List.{range_with_len, list_any}
+use Rattle.engine.proofs.Names.{◌≡◌, ℕ, ◌+◌, Bool, false, List, [], ◌∷◌, ◌++◌, flat_map, append_assoc, Some, None, refl, sym, ap, ◌∙◌, arith, ◌*◌, ◌<◌, ◌≤◌, ◌-◌, true≢false, IsTrue, eq-eqb, false_from_ne_true, range_with_len, list_any, Result, Ok, Err, if◌then◌else◌, checkpointed_if, Matches, Engine, length-versions, versions_on, fresh_entries, has_written_is, entries_own, shown_is_value, content_of_table, IsFree, IsFresh, Entry, Version, is_on, end_of, State, Content, content_at, seen, asks_for_checkpoint, fills_page, lacks_room, refusal, Command, Reply, MirrorsStore, Represents, shown_in, TransactionStore, performs_as, performs_by, performs_then, performs_stopped, performs_nothing, reads, saves, command_work, RingOp, Performs, no_error, Image, Site, Geometry, Dev, Stop, Worn, Memory, IsTable, entry_of, Active}
+use Rattle.std.specs.Prelude.{Option}
 use Rattle.std.proofs.lemmas.Grind.{flat_map-append}
-use Rattle.site.specs.declared.outside.Dev.{Dev}
-use Rattle.site.specs.declared.outside.Stop.{Stop}
-use Rattle.site.specs.declared.outside.Stop.TheVariants.{Worn, Memory}
-use Rattle.site.specs.State.{Image, State as Site}
-use Rattle.site.proofs.Working.{no_error}
-use Rattle.record_model.specs.declared.words.Command.{Command}
-use Rattle.record_model.specs.declared.words.Reply.{Reply}
-use Rattle.record_model.specs.State.{State, Content, content_at, seen}
-use Rattle.record_model.specs.Step.{asks_for_checkpoint, fills_page, lacks_room, refusal}
-use Rattle.ring_machine.specs.Machine.{RingOp}
-use Rattle.ring_machine.specs.Commands.{reads, saves, command_work}
-use Rattle.ring_machine.specs.Performing.{Performs}
-use Rattle.ring_machine.proofs.Performing.{performs_as, performs_by, performs_then, performs_stopped, performs_nothing}
 use Rattle.page_store.specs.Caching.{rules}
-use Rattle.redo_undo.specs.declared.store.TransactionStore.{TransactionStore}
-use Rattle.redo_undo.specs.Mirroring.{MirrorsStore}
-use Rattle.engine.specs.Representation.{checkpointed_if, Matches}
 use Rattle.engine.proofs.Replies.{work_behind, worked}
 use Rattle.engine.proofs.Scans.{range_more, range_at}
-use Rattle.std.proofs.lemmas.Bool.{eq-eqb, false_from_ne_true}
-use Rattle.log_records.specs.Log.{Entry, Version, is_on}
-use Rattle.log_laws.specs.Follow.{IsFree, IsFresh}
-use Rattle.log_laws.specs.Follow as follow
-use Rattle.log_laws.proofs.Tables.{content_of_table}
-use Rattle.log_laws.proofs.Appends.{fresh_entries, has_written_is}
-use Rattle.log_laws.proofs.Losers.{entries_own}
-use Rattle.log_laws.proofs.Shown.{shown_is_value}
-use Rattle.image_meaning.proofs.Versions.{length-versions}
-use Rattle.lock_table.specs.Locks as locks
-use Rattle.txn_table.specs.declared.active.Active.{Active}
-use Rattle.txn_table.specs.Entries.{IsTable, entry_of}
-use Rattle.log_store.specs.Representation.{end_of}
-use Rattle.image_meaning.specs.Meaning.{versions_on}
-use Rattle.redo_undo.specs.Stores.{Represents, shown_in, sizes_of}
-use Rattle.engine.specs.declared.engine.Engine.{Engine}
+use Rattle.redo_undo.specs.Stores.{sizes_of}
 use Rattle.engine.proofs.Meanings.{busy_write_is, free, fresh_behind, seen_is, table_is}
-use Rattle.site.specs.declared.geometry.Geometry.{Geometry}
 use Rattle.engine.proofs.Settings.{begin_at, free_begun, unwritten}
 use Rattle.engine.proofs.Writes.{may_read_too, touched_fits}
+use Rattle.log_laws.specs.Follow as follow
+use Rattle.lock_table.specs.Locks as locks
 
 abbrev PerformsOver : {T : Type 0} → Result T Stop → List RingOp → TransactionStore → TransactionStore → Image → Image → Type 0
 PerformsOver result works old new image image' = Performs result (rules old.pages) works (MirrorsStore old image) (MirrorsStore new image')

@@ -1,16 +1,7 @@
 -- The queue on flash, as the cache machine has it.
+use Rattle.engine.proofs.Names.{◌≡◌, ◌-◌, List, [], ◌∷◌, length, map, refl, sym, ◌∙◌, ap, arith, AllByRecursion, sizes_of, AllTogether, HasFrames, Shows, Frame, frames_in, group, group_shape, units_on, hi_of, unread, known_of, Geometry}
 use Rattle.frame_group.proofs.Contents.{frames_are_in}
-use Rattle.std.proofs.Common.{◌≡◌, ◌-◌, List, [], ◌∷◌, length, map, refl, sym, ◌∙◌, ap, arith}
-use Rattle.std.specs.List.{AllByRecursion}
-use Rattle.site.specs.declared.geometry.Geometry.{Geometry}
-use Rattle.image_changes.specs.Rings.{group_shape, units_on}
-use Rattle.sealed_ring.specs.Ring.{hi_of}
-use Rattle.frame_group.specs.Groups.{Frame, frames_in, group}
 use Rattle.second_chance.specs.declared.frame.Frame.{Frame as Known}
-use Rattle.second_chance.specs.Machine.{unread}
-use Rattle.second_chance.specs.Queue.{frame_of as known_of}
-use Rattle.flash_cache.specs.Representation.{AllTogether, HasFrames, Shows}
-use Rattle.engine.specs.Invariant.{sizes_of}
 use Rattle.engine.specs.Listings.{QueueIsOnFlash}
 
 frames_are : (g : Geometry) (groups : List (List Frame)) → AllByRecursion (λ frames. HasFrames g frames (group frames)) groups → map frames_in (map group groups) ≡ groups

@@ -1,40 +1,11 @@
 -- What redo, undo and a checkpoint make of an opened log.
-use Rattle.page_store.specs.Stopping.{MayStop}
-use Rattle.site.specs.Work.{Calls}
-use Rattle.site.specs.declared.outside.Stop.{Stop}
-use Rattle.std.specs.Prelude.{Err}
-use Rattle.redo_laws.proofs.Touched.{tail_blocks}
-use Rattle.checkpoint.specs.declared.master.Master.{Master}
-use Rattle.checkpoint.specs.declared.pairs.Pair.{Pair}
-use Rattle.std.proofs.Common.{Option, Some, ◌≡◌, inr, ℕ, ◌+◌, ◌-◌, ◌*◌, ◌^◌, ◌≤◌, min, Bool, true, false, nat_lt, List, [], length, refl, sym, ap, subst, ◌∙◌, arith, true≢false}
-use Rattle.std.proofs.Math.Nat.{min-eq_left}
-use Rattle.site.specs.declared.geometry.Geometry.{Geometry}
-use Rattle.site.specs.State.{State, Image}
-use Rattle.sealed_ring.specs.declared.ring.Ring.{Ring}
-use Rattle.sealed_ring.specs.Ready.{Finds}
-use Rattle.record_model.specs.State.{Content}
-use Rattle.log_records.specs.declared.log_record.LogRecord.{LogRecord}
-use Rattle.log_records.specs.Log.{Entry, is_loser}
-use Rattle.log_records.specs.Unfinished.{owed}
-use Rattle.log_records.specs.Sound.{commit_numbers, from_block}
+use Rattle.engine.proofs.Names.{Option, Some, ◌≡◌, inr, ℕ, ◌+◌, ◌-◌, ◌*◌, ◌^◌, ◌≤◌, min, Bool, true, false, List, [], length, refl, sym, ap, subst, ◌∙◌, arith, true≢false, min-eq_left, Err, owed_for, listed, Master, Pair, IsSound, log_under, IsReady, RestartedAs, Restarts, Opened, Restarted, next_block_is, logical_image_under, next_block_under, master_of, Entry, is_loser, commit_numbers, from_block, owed, LogRecord, has_tail, LogStore, MayStop, PageStore, Content, tail_blocks, MayBeMade, blocks_to, HasCheckpoint, Finds, Ring, Site as State, Image, Calls, Geometry, Stop}
+use Rattle.std.proofs.Common.{nat_lt}
 use Rattle.analysis.specs.declared.analysis.Analysis.{Analysis}
-use Rattle.analysis.specs.Open.{owed_for}
-use Rattle.analysis.specs.Table.{listed}
 use Rattle.analysis.specs.Read.{IsTable, IsAnalysis}
 use Rattle.analysis.specs.Taken.{taken, TakenCommits}
 use Rattle.analysis.specs.Laws.{OneTable, TableOfUnfinished, OwedOfUnfinished}
-use Rattle.log_store.specs.declared.store.LogStore.{LogStore}
-use Rattle.log_store.specs.Representation.{has_tail}
-use Rattle.image_meaning.specs.Meaning.{logical_image_under, next_block_under, master_of}
-use Rattle.image_meaning.proofs.UnchangedImages.{next_block_is}
-use Rattle.engine.specs.Image.{IsSound, log_under}
-use Rattle.page_store.specs.declared.store.PageStore.{PageStore}
-use Rattle.redo_laws.specs.Holding.{Represents, blocks_to}
-use Rattle.redo_laws.specs.Checkpointing.{MayBeMade}
-use Rattle.engine.specs.declared.restart.Opened.{Opened}
-use Rattle.engine.specs.declared.restart.Restarted.{Restarted}
-use Rattle.redo_undo.specs.Stores.{HasCheckpoint}
-use Rattle.engine.specs.Restarting.{IsReady, RestartedAs, Restarts}
+use Rattle.redo_laws.specs.Holding.{Represents}
 
 -- a log that has as many blocks, and had no tail, has none still
 pub no_tail_still : (log log' : LogStore) → log.used ≡ 2 → blocks_to log' ≡ blocks_to log → log.ring.hi ≤ log'.ring.hi → has_tail log' ≡ false

@@ -1,37 +1,13 @@
 -- What the model answers, test by test.
-use Rattle.checkpoint.specs.declared.master.Master.{Master}
-use Rattle.std.proofs.Common.{◌≡◌, ℕ, ◌+◌, ◌*◌, ◌/◌, ◌<◌, ◌≤◌, Bool, true, false, not, ◌&&◌, true≢false, List, [], ◌∷◌, ◌++◌, length, map, sum_by, filter_map, Option, None, Some, refl, sym, ap, ◌∙◌, arith}
-use Rattle.std.specs.Prelude.{option_map, slice_index_or, nat_le, nat_lt, is_none, is_some, IsSome, if◌then◌else◌}
-use Rattle.std.specs.Option.{option_map_or}
-use Rattle.std.specs.List.{range_with_len}
-use Rattle.std.proofs.Math.Bool.{and-true, and-false}
-use Rattle.std.proofs.lemmas.Bool.{le-leb, lt-leb, lt-ltb, le-ltb}
-use Rattle.std.proofs.Math.Nat.{zero-add}
-use Rattle.std.proofs.lemmas.List.Sums.{sum_by-cons}
+use Rattle.engine.proofs.Names.{◌≡◌, ℕ, ◌+◌, ◌*◌, ◌/◌, ◌<◌, ◌≤◌, Bool, true, false, not, ◌&&◌, true≢false, List, [], ◌∷◌, ◌++◌, length, map, sum_by, Option, None, Some, refl, sym, ap, ◌∙◌, arith, and-true, and-false, zero-add, le-leb, lt-leb, lt-ltb, le-ltb, sum_by-cons, range_with_len, option_map_or, option_map, slice_index_or, nat_le, nat_lt, is_none, is_some, IsSome, if◌then◌else◌, Master, sizes_of, touches_by, work_by, Matches, SessionIs, IsFull, IsRefusedWith, IsCarriedOut, IsTested, run, checkpointed_if, Engine, Entry, Session, State, session_at, used, is_due, Outcome, carried_through, refusal, outcome, fills_page, full, lacks_room, asks_for_checkpoint, makes_checkpoint, ready, wants_active, wants_record, wants_short, refuse_if, may_write, may_read, CacheOp, flush, command_touches, record_touches, tested_touches, Command, Reply, BadSession, NoRecord, TooLong, saves, command_work, page_work, record_work, RingOp, cached, Site, owed_at, owed_one, owed_is, IsTable, entry_of, Active}
+use Rattle.std.proofs.Common.{filter_map}
 use Rattle.byte_fields.specs.declared.TheConstants.{VALUE_MAX}
-use Rattle.site.specs.State.{State as Site}
-use Rattle.record_model.specs.declared.words.Command.{Command}
-use Rattle.record_model.specs.declared.words.Why.TheVariants.{BadSession, NoRecord, TooLong}
-use Rattle.record_model.specs.declared.words.Reply.{Reply}
-use Rattle.record_model.specs.declared.words.Reply.TheVariants as reply
-use Rattle.record_model.specs.State.{Session, State, session_at, used, is_due}
-use Rattle.record_model.specs.State as model
-use Rattle.record_model.specs.Touches.{CacheOp, flush, command_touches, record_touches, tested_touches}
-use Rattle.record_model.specs.Step.{Outcome, carried_through, refusal, outcome, fills_page, full, lacks_room, asks_for_checkpoint, makes_checkpoint, ready, wants_active, wants_record, wants_short, refuse_if, may_write, may_read}
-use Rattle.log_records.specs.Log.{Entry}
-use Rattle.ring_machine.specs.Machine.{RingOp, cached}
-use Rattle.ring_machine.specs.Commands.{saves, command_work, page_work, record_work}
-use Rattle.txn_table.specs.declared.active.Active.{Active}
-use Rattle.txn_table.specs.Entries.{IsTable, entry_of}
-use Rattle.txn_table.specs.Entries as entries
-use Rattle.engine.specs.PageTests.{touches_by, work_by}
-use Rattle.engine.specs.declared.engine.Engine.{Engine}
-use Rattle.engine.specs.Invariant.{sizes_of}
-use Rattle.engine.specs.Representation.{Matches, SessionIs, IsFull, IsRefusedWith, IsCarriedOut, IsTested, run, checkpointed_if}
 use Rattle.engine.proofs.Actives.{some_active, none_active}
-use Rattle.lock_table.specs.Locks as locks
 use Rattle.engine.proofs.Meanings.{same_size, busy_write_is, busy_read_is}
-use Rattle.txn_table.proofs.Owing.{owed_at, owed_one, owed_is}
+use Rattle.record_model.specs.declared.words.Reply.TheVariants as reply
+use Rattle.record_model.specs.State as model
+use Rattle.txn_table.specs.Entries as entries
+use Rattle.lock_table.specs.Locks as locks
 
 -- What a command leaves and answers behind its first tests, by whether the log lacks room and by what the test of its page
 -- gives.

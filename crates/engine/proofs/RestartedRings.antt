@@ -1,45 +1,14 @@
 -- A restart as work of the machine of the rings: while it redoes, nothing is in the log's tail.
-use Rattle.std.proofs.Common.{◌≡◌, ℕ, ◌+◌, ◌*◌, ◌^◌, ◌<◌, ◌≤◌, ◌==◌, Bool, true, false, nat_lt, zero, suc, List, [], ◌∷◌, ◌++◌, map, replicate, reverse, length, Option, Some, None, refl, sym, ap, subst, ◌∙◌, arith, ltb-false}
-use Rattle.std.specs.Prelude.{Result, Ok, Err, OnOk, if◌then◌else◌}
-use Rattle.std.specs.List.{list_any}
-use Rattle.std.proofs.lemmas.Bool.{or_from}
+use Rattle.engine.proofs.Names.{◌≡◌, ℕ, ◌+◌, ◌*◌, ◌^◌, ◌<◌, ◌≤◌, ◌==◌, Bool, true, false, zero, suc, List, [], ◌∷◌, ◌++◌, map, replicate, reverse, length, Option, Some, None, refl, sym, ap, subst, ◌∙◌, arith, ltb-false, or_from, list_any, Result, Ok, Err, OnOk, if◌then◌else◌, frame_of, Master, cache_on, found_machine, machine_on, Opened, version_on, log_shape, master_shape, all_find, Entry, is_of, txn_of, number_of, before_of, pending, has_tail, LogStore, content_by, current, PageStore, Content, CacheOp, tail_blocks, blocks_to, resting, Mirrors, MirrorsStore, AsksAtRest, TransactionStore, performs_as, performs_by, performs_failed, performs_from, performs_with, Machine, RingOp, cached, logged, after_all, Performs, clr_work, undoing_one, undoing_work, undo_work, only_ends, hi_of, Rules, Site as State, Image, Geometry, Stop}
+use Rattle.std.proofs.Common.{nat_lt}
 use Rattle.std.proofs.lemmas.List.Folds.{list_any-append}
-use Rattle.site.specs.declared.outside.Stop.{Stop}
-use Rattle.site.specs.declared.geometry.Geometry.{Geometry}
-use Rattle.site.specs.State.{State, Image}
-use Rattle.image_changes.specs.Rings.{log_shape, master_shape}
-use Rattle.sealed_ring.specs.Ring.{hi_of}
 use Rattle.buffer_pool.specs.declared.frame.Frame.{Frame}
-use Rattle.buffer_pool.specs.Frames.{frame_of}
-use Rattle.record_model.specs.State.{Content}
-use Rattle.record_model.specs.Touches.{CacheOp}
-use Rattle.log_records.specs.Log.{Entry, is_of, txn_of, number_of, before_of}
-use Rattle.log_records.specs.Unfinished.{pending}
-use Rattle.log_laws.proofs.Lists.{all_find}
-use Rattle.second_chance.specs.Machine.{Rules}
 use Rattle.ring_machine.specs.Tail.{empty_at}
-use Rattle.ring_machine.specs.Machine.{Machine, RingOp, cached, logged, after_all}
-use Rattle.ring_machine.specs.Restart.{clr_work, undoing_one, undoing_work, undo_work, only_ends}
-use Rattle.ring_machine.specs.Performing.{Performs}
 use Rattle.ring_machine.proofs.Ends.{saves_one, masters_stay, clr_saves_none}
-use Rattle.ring_machine.proofs.Performing.{performs_as, performs_by, performs_failed, performs_from, performs_with}
-use Rattle.log_store.specs.declared.store.LogStore.{LogStore}
-use Rattle.log_store.specs.Representation.{has_tail}
 use Rattle.write_ahead.specs.Forcing.{IsLogged, is_unsealed, end_now, end_forced}
-use Rattle.page_store.specs.declared.store.PageStore.{PageStore}
-use Rattle.page_store.specs.Representation.{content_by, current}
-use Rattle.flash_cache.specs.Representation.{version_on}
 use Rattle.page_store.specs.Caching.{cache_of, rules}
-use Rattle.checkpoint.specs.declared.master.Master.{Master}
-use Rattle.redo_laws.specs.Holding.{Invariant, Represents, blocks_to}
-use Rattle.redo_laws.proofs.Touched.{tail_blocks}
-use Rattle.redo_undo.specs.Mirroring.{resting, Mirrors, MirrorsStore}
-use Rattle.redo_undo.specs.Redoing.{AsksAtRest}
-use Rattle.redo_undo.specs.declared.store.TransactionStore.{TransactionStore}
+use Rattle.redo_laws.specs.Holding.{Invariant, Represents}
 use Rattle.redo_undo.proofs.PushedPages.{sealed_off}
-use Rattle.engine.specs.declared.restart.Opened.{Opened}
-use Rattle.engine.specs.Paging.{cache_on}
-use Rattle.engine.specs.RingWork.{found_machine, machine_on}
 use Rattle.engine.proofs.Recovers.{no_tail_still}
 
 -- No page waits where the tail has no records.

@@ -1,17 +1,6 @@
 -- The next units of the rings behind a restart of an honest site, whatever stood there.
-use Rattle.std.proofs.Common.{◌≡◌, ◌≢◌, ◌∙◌, sym, subst}
-use Rattle.std.specs.Prelude.{Ok, Err}
-use Rattle.site.specs.declared.outside.Dev.{Dev}
-use Rattle.site.specs.declared.outside.Stop.{Stop}
-use Rattle.site.specs.declared.outside.Stop.TheVariants.{Memory, Worn}
-use Rattle.site.specs.declared.geometry.Geometry.{Geometry}
-use Rattle.site.specs.State.{State}
-use Rattle.site.proofs.Working.{no_error, err_again}
-use Rattle.redo_laws.specs.Holding.{IsSpent}
+use Rattle.engine.proofs.Names.{◌≡◌, ◌≢◌, ◌∙◌, sym, subst, Ok, Err, LeavesNext, IsSpent, AreNext, KeepsNext, TransactionStore, no_error, err_again, Site as State, Geometry, Dev, Stop, Memory, Worn}
 use Rattle.redo_undo.specs.Stores.{sizes_of}
-use Rattle.redo_undo.specs.StoreCalls.{AreNext, KeepsNext}
-use Rattle.redo_undo.specs.declared.store.TransactionStore.{TransactionStore}
-use Rattle.engine.specs.Restarting.{LeavesNext}
 
 -- a call of it fails
 pub next_at_error : {A T : Type 0} {stop : Stop} {old new : TransactionStore} {before now : State} {store_of : T → TransactionStore} {g : Geometry} → sizes_of old ≡ g → AreNext old before → KeepsNext {T = A} (Err stop) old new before now → LeavesNext {T = T} (Err stop) store_of g now

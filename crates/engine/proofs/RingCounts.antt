@@ -1,40 +1,8 @@
 -- The numbers of the rings' units, over the calls of the database.
+use Rattle.engine.proofs.Names.{◌≡◌, ◌+◌, ◌≤◌, Bool, true, false, List, [], Option, None, Some, ap, subst, arith, ℕ, Result, Ok, Err, Master, Invariant, sizes_of, CountsOn, RestartsWithin, Matches, run, IsReady, Engine, Opened, log_shape, master_shape, Entry, owed, LogRecord, has_tail, LogStore, Content, State, refusal, outcome, fills_page, ready, lacks_room, Command, Reply, if_ok_one, none_now, hi_on, leaves_more, leaves_unchanged, skips_answered, skips_nothing, skips_on, then_skips, tail_blocks, blocks_to, HasNumbers, SkipsNone, hi_of, in_sequence, ok_as, IsUnchanged, Leaves, LeavesOnly, Site, Image, IsQuiet, Geometry, Stop}
 use Rattle.record_model.proofs.StepLaws.{effect_makes}
 use Rattle.engine.proofs.Replies.{way}
-use Rattle.redo_laws.proofs.Touched.{tail_blocks}
-use Rattle.std.proofs.Common.{◌≡◌, ◌+◌, ◌≤◌, Bool, true, false, List, [], Option, None, Some, ap, subst, arith, ℕ}
-use Rattle.std.specs.Prelude.{Result, Ok, Err}
-use Rattle.site.specs.declared.outside.Stop.{Stop}
-use Rattle.site.specs.declared.geometry.Geometry.{Geometry}
-use Rattle.site.specs.State.{State as Site, Image, IsQuiet}
-use Rattle.site.specs.Calls.{IsUnchanged}
-use Rattle.site.specs.Moments.{Leaves, LeavesOnly}
-use Rattle.site.proofs.Laws.{in_sequence}
-use Rattle.sealed_ring.specs.Ring.{hi_of}
-use Rattle.image_changes.specs.Rings.{log_shape, master_shape}
-use Rattle.image_changes.proofs.Counting.{calls_then, calls_unchanged}
-use Rattle.record_model.specs.State.{Content, State}
-use Rattle.record_model.specs.declared.words.Command.{Command}
-use Rattle.record_model.specs.declared.words.Reply.{Reply}
-use Rattle.record_model.specs.Step.{refusal, outcome, fills_page, ready, lacks_room}
-use Rattle.log_records.specs.declared.log_record.LogRecord.{LogRecord}
-use Rattle.log_records.specs.Log.{Entry}
-use Rattle.log_records.specs.Unfinished.{owed}
-use Rattle.log_store.specs.declared.store.LogStore.{LogStore}
-use Rattle.log_store.specs.Representation.{has_tail}
-use Rattle.checkpoint.specs.declared.master.Master.{Master}
-use Rattle.redo_laws.specs.Holding.{blocks_to}
-use Rattle.redo_laws.specs.Numbers.{HasNumbers, SkipsNone}
-use Rattle.redo_laws.proofs.RingNumbers.{hi_on, leaves_more, leaves_unchanged, skips_answered, skips_nothing, skips_on, then_skips}
-use Rattle.engine.specs.declared.engine.Engine.{Engine}
-use Rattle.engine.specs.declared.restart.Opened.{Opened}
-use Rattle.engine.specs.Representation.{Matches, run}
-use Rattle.engine.specs.Invariant.{Invariant, sizes_of}
-use Rattle.engine.specs.Restarting.{IsReady}
-use Rattle.engine.specs.Numbers.{CountsOn, RestartsWithin}
-use Rattle.site.proofs.Working.{ok_as}
-use Rattle.redo_laws.proofs.Appended.{if_ok_one}
-use Rattle.redo_laws.proofs.Forced.{none_now}
+use Rattle.page_store.proofs.Counting.{calls_then, calls_unchanged}
 
 -- Calls on log and pages, as calls of the database.
 

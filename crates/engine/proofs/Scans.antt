@@ -1,21 +1,12 @@
 -- Reading several records at once.
+use Rattle.engine.proofs.Names.{◌≡◌, zero, suc, ◌+◌, ◌-◌, ◌*◌, ◌^◌, ◌<◌, ◌≤◌, ◌==◌, ◌&&◌, ◌||◌, Bool, true, false, not, List, [], ◌∷◌, ◌++◌, map, find, length, Option, None, Some, refl, sym, ap, ◌∙◌, arith, add-one, get_or-set_same, ℕ, true≢false, map-append, set-get_or, filter_map-append, range_with_len, slice_set, option_map, is_some, unwrap_or, LocksAre, with_read, with_reads, first_busy, items_seen, items_of, AddsLock, has_written, busy_read, Lock, Content, Session, State, session_at, writes_of, seen, content_at, last_write, first_refusal, item, having_read, may_read, Reply}
 use Rattle.record_model.proofs.SerialLists.{set_set}
-use Rattle.std.proofs.Common.{◌≡◌, zero, suc, ◌+◌, ◌-◌, ◌*◌, ◌^◌, ◌<◌, ◌≤◌, ◌==◌, ◌&&◌, ◌||◌, Bool, true, false, not, List, [], ◌∷◌, ◌++◌, map, find, filter_map, length, Option, None, Some, refl, sym, ap, ◌∙◌, arith, add-one, get_or-set_same, ℕ, true≢false}
-use Rattle.std.specs.Prelude.{slice_set, option_map, is_some, unwrap_or}
-use Rattle.std.specs.List.{range_with_len}
-use Rattle.std.proofs.lemmas.List.{map-append, append-nil, append_assoc, set-get_or}
-use Rattle.std.proofs.lemmas.List.Elements.{filter_map-append}
-use Rattle.record_model.specs.declared.words.Reply.{Reply}
-use Rattle.record_model.specs.declared.words.Reply.TheVariants as reply
+use Rattle.std.proofs.Common.{filter_map}
+use Rattle.std.proofs.lemmas.List.{append-nil, append_assoc}
 use Rattle.record_model.specs.declared.words.Item.{Item}
 use Rattle.site.specs.Geometry.{HasLimits}
-use Rattle.record_model.specs.State.{Content, Session, State, session_at, writes_of, seen, content_at, last_write}
-use Rattle.record_model.specs.Step.{first_refusal, item, having_read, may_read}
-use Rattle.lock_table.specs.declared.lock.Lock.{Lock}
-use Rattle.lock_table.specs.Locks.{AddsLock, has_written, busy_read}
-use Rattle.engine.specs.Representation.{LocksAre, with_read, with_reads}
-use Rattle.engine.specs.Scans.{first_busy, items_seen, items_of}
 use Rattle.engine.proofs.Meanings.{busy_read_is}
+use Rattle.record_model.specs.declared.words.Reply.TheVariants as reply
 
 -- Numbers.
 

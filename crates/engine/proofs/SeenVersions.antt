@@ -1,38 +1,13 @@
 -- What the versions on the devices show, beside the model's state.
-use Rattle.std.proofs.Common.{◌≡◌, ℕ, ◌+◌, ◌*◌, ◌/◌, ◌%◌, ◌<◌, ◌==◌, Bool, true, false, ◌&&◌, ◌||◌, cond, List, [], ◌∷◌, map, Option, Some, None, ⊎_elim, refl, sym, ap, ◌∙◌, arith, true≢false}
-use Rattle.std.specs.Prelude.{unwrap_or}
-use Rattle.std.specs.List.{list_any}
-use Rattle.std.proofs.lemmas.Option.{none-some, same_Some}
-use Rattle.site.specs.State.{State as Site, Image}
-use Rattle.record_model.specs.State.{Content, Session, State, Write, content_at, has_written, last_write, seen, session_at, writes_of, wrote_of}
-use Rattle.log_records.specs.Log.{Entry, Version, is_closed, is_on, last_where, entries_of, slot_at, txn_of, shown}
-use Rattle.log_laws.specs.Follow as follow
-use Rattle.log_laws.specs.Follow.{IsFree, IsFreeFor, IsUndoable}
-use Rattle.log_laws.proofs.Appends.{has_written_is}
-use Rattle.log_laws.proofs.Chains.{none_any}
-use Rattle.log_laws.proofs.Lists.{some_or_none}
-use Rattle.log_laws.proofs.Shown.{shown_is_value}
-use Rattle.log_laws.proofs.StandingTables.{shown_stands}
-use Rattle.log_laws.proofs.Values.{last_is_own, update_of}
-use Rattle.checkpoint.specs.declared.master.Master.{Master}
-use Rattle.txn_table.specs.declared.active.Active.{Active}
-use Rattle.txn_table.specs.Entries.{entry_of}
+use Rattle.engine.proofs.Names.{◌≡◌, ℕ, ◌+◌, ◌*◌, ◌/◌, ◌%◌, ◌<◌, ◌==◌, Bool, true, false, ◌&&◌, ◌||◌, cond, List, [], ◌∷◌, map, Option, Some, None, ⊎_elim, refl, sym, ap, ◌∙◌, arith, true≢false, none-some, same_Some, list_any, unwrap_or, frame_of, Master, sizes_of, Matches, SessionIs, Engine, version_on, version_at_is, version_in, versions_on, has_written_is, none_any, some_or_none, shown_is_value, shown_stands, last_is_own, update_of, IsFree, IsFreeFor, IsUndoable, Entry, Version, is_closed, is_on, last_where, entries_of, slot_at, txn_of, shown, content_by, current, PageStore, Content, Session, State, Write, content_at, last_write, seen, session_at, writes_of, wrote_of, is_changed, Site, Image, entry_of, Active}
+use Rattle.record_model.specs.State.{has_written}
 use Rattle.buffer_pool.specs.declared.frame.Frame.{Frame}
-use Rattle.buffer_pool.specs.Frames.{frame_of}
-use Rattle.second_chance.specs.Machine.{is_changed}
-use Rattle.flash_cache.specs.Representation.{version_on}
-use Rattle.image_meaning.specs.Meaning.{version_in, versions_on}
-use Rattle.image_meaning.proofs.Versions.{version_is as version_at_is}
-use Rattle.page_store.specs.declared.store.PageStore.{PageStore}
 use Rattle.page_store.specs.Caching.{cache_of, pool_page}
-use Rattle.page_store.specs.Representation.{content_by, current}
-use Rattle.engine.specs.declared.engine.Engine.{Engine}
-use Rattle.engine.specs.Representation.{Matches, SessionIs}
-use Rattle.engine.specs.Invariant.{sizes_of}
 use Rattle.engine.specs.SeenVersions.{WhereItFits}
 use Rattle.engine.proofs.Actives.{some_active}
 use Rattle.engine.proofs.Updated.{updated_is}
 use Rattle.engine.proofs.Meanings.{undoable, value_is, writer}
+use Rattle.log_laws.specs.Follow as follow
 
 -- Two unfinished transactions that have written a number are one.
 

@@ -1,51 +1,14 @@
 -- A set: a transaction of one write, outside sessions.
-use Rattle.image_meaning.proofs.Versions.{length-versions}
-use Rattle.checkpoint.specs.declared.master.Master.{Master}
-use Rattle.std.proofs.Common.{Option, ◌≡◌, ◌+◌, ◌*◌, ◌/◌, ◌%◌, ◌<◌, ◌≤◌, ◌==◌, Bool, true, false, ◌||◌, cond, List, [], ◌∷◌, ◌++◌, length, find, None, Some, refl, sym, ap, subst, ◌∙◌, arith, IsTrue, ℕ, ⊎_elim, true≢false}
-use Rattle.std.specs.Prelude.{filter_map}
-use Rattle.std.specs.List.{AllByRecursion, list_any, range_with_len}
-use Rattle.std.proofs.Math.Nat.{div-add-mod}
-use Rattle.std.proofs.lemmas.Bool.{cases_eq, ne_eqb, and_right, or_parts}
-use Rattle.site.specs.declared.geometry.Geometry.{Geometry}
-use Rattle.site.specs.State.{State as Site}
-use Rattle.record_model.specs.State.{Content, State, Write, session_at, table_with}
-use Rattle.record_model.specs.State as model
-use Rattle.record_model.specs.Step.{making, committed}
-use Rattle.log_records.specs.Log.{Entry, is_of, is_closed, is_loser, shown}
-use Rattle.log_records.specs.Unfinished.{owed}
-use Rattle.log_records.specs.declared.log_record.LogRecord.TheVariants.{Begin, Commit}
-use Rattle.log_laws.specs.Follow.{IsActive, IsUndoable, IsFresh, IsFree, IsFreeFor, writes_in, write_of}
-use Rattle.log_laws.specs.Follow as follow
-use Rattle.log_laws.proofs.Appends.{begin_follows}
-use Rattle.log_laws.proofs.Owing.{owed_begin, owed_update, owed_closing}
-use Rattle.log_laws.proofs.Losers.{entries_other, active_begun, active_may_write, active_writes, active_owes, loser_is_closed}
-use Rattle.log_laws.proofs.StandingTables.{table_stands}
-use Rattle.log_laws.proofs.Values.{closed_same}
-use Rattle.lock_table.specs.declared.lock.Lock.{Lock}
-use Rattle.lock_table.specs.Locks as locks
-use Rattle.log_store.specs.Representation.{end_of}
-use Rattle.txn_table.specs.declared.active.Active.{Active}
-use Rattle.txn_table.specs.Entries.{IsTable, entry_of}
-use Rattle.txn_table.specs.Entries as entries
-use Rattle.image_meaning.specs.Meaning.{master_of, versions_on}
-use Rattle.redo_laws.specs.Holding.{blocks_to}
-use Rattle.redo_laws.specs.Committing.{MayCommit}
-use Rattle.redo_undo.specs.declared.store.TransactionStore.{TransactionStore}
-use Rattle.engine.specs.declared.engine.Engine.{Engine}
-use Rattle.engine.specs.Invariant.{sizes_of}
-use Rattle.redo_undo.specs.Stores.{Represents, MayGrow, shown_in, update_by}
-use Rattle.redo_undo.specs.StoreRollback.{ConcernsOnly}
-use Rattle.engine.specs.OneWrite.{HasOneWrite}
-use Rattle.engine.specs.Representation.{Matches, SessionsAre, LocksAre}
+use Rattle.engine.proofs.Names.{Option, ◌≡◌, ◌+◌, ◌*◌, ◌/◌, ◌%◌, ◌<◌, ◌≤◌, ◌==◌, Bool, true, false, ◌||◌, cond, List, [], ◌∷◌, ◌++◌, length, find, None, Some, refl, sym, ap, subst, ◌∙◌, arith, IsTrue, ℕ, ⊎_elim, true≢false, div-add-mod, cases_eq, ne_eqb, and_right, or_parts, AllByRecursion, list_any, range_with_len, filter_map, Master, sizes_of, HasOneWrite, AreLocked, FootprintsAre, Matches, SessionsAre, LocksAre, Engine, Footprint, length-versions, master_of, versions_on, Lock, begin_follows, undoable_behind, entries_other, active_begun, active_may_write, active_writes, active_owes, loser_is_closed, owed_begin, owed_update, owed_closing, table_stands, closed_same, IsActive, IsUndoable, IsFresh, IsFree, IsFreeFor, writes_in, write_of, Entry, is_of, is_closed, is_loser, shown, HasOpenRoom, owed, Begin, Commit, end_of, Content, State, Write, session_at, table_with, making, committed, MayCommit, blocks_to, ConcernsOnly, Represents, MayGrow, shown_in, update_by, TransactionStore, Site, Geometry, IsTable, entry_of, Active}
 use Rattle.engine.proofs.Meanings.{busy_write_is, begins_late, free, fresh_behind, none_of, stands_for, table_is, undoable}
-use Rattle.log_laws.proofs.Follow.{undoable_behind}
 use Rattle.engine.proofs.Actives.{some_active, not_fresh}
 use Rattle.engine.proofs.FootprintChanges.{none_there, one_set}
-use Rattle.engine.specs.PageTests.{AreLocked, FootprintsAre}
-use Rattle.footprints.specs.declared.footprint.Footprint.{Footprint}
-use Rattle.log_records.specs.Room.{HasOpenRoom}
 use Rattle.engine.proofs.Aborts.{others_go_on}
 use Rattle.redo_undo.proofs.StoreRollbacks.{concerns_more}
+use Rattle.record_model.specs.State as model
+use Rattle.log_laws.specs.Follow as follow
+use Rattle.lock_table.specs.Locks as locks
+use Rattle.txn_table.specs.Entries as entries
 
 -- Where nobody has written or read a record, nobody has written it.
 

@@ -1,27 +1,5 @@
 -- A run begins: what a restart leaves, and nobody at work.
-use Rattle.log_laws.proofs.Owing.{owed_none}
-use Rattle.checkpoint.specs.declared.master.Master.{Master}
-use Rattle.std.proofs.Common.{arith, ◌≡◌, ℕ, zero, suc, ◌-◌, ◌==◌, false, List, [], length, replicate, Option, None, refl, sym, ap, subst, ◌∙◌, IsTrue, true≢false}
-use Rattle.std.specs.Prelude.{slice_index_or}
-use Rattle.std.specs.List.{list_any}
-use Rattle.std.proofs.lemmas.Option.{none-some}
-use Rattle.site.specs.declared.geometry.Geometry.{Geometry}
-use Rattle.site.specs.State.{State as Site, Image}
-use Rattle.record_model.specs.State.{Session, State, writes_of, wrote_of, reads_of}
-use Rattle.log_records.specs.Log.{Entry, is_loser}
-use Rattle.log_records.specs.Unfinished.{owed}
-use Rattle.lock_table.specs.declared.lock.Lock.{Lock}
-use Rattle.txn_table.specs.declared.active.Active.{Active}
-use Rattle.redo_undo.specs.declared.store.TransactionStore.{TransactionStore}
-use Rattle.engine.specs.PageTests.{AreLocked, FootprintsAre, footprints_of}
-use Rattle.footprints.specs.Longest.{lengths_on, of_session}
-use Rattle.footprints.specs.declared.footprint.Footprint.{Footprint}
-use Rattle.engine.specs.declared.engine.Engine.{Engine}
-use Rattle.engine.specs.declared.restart.Restarted.{Restarted}
-use Rattle.engine.specs.Image.{Opens}
-use Rattle.redo_undo.specs.Stores.{Represents}
-use Rattle.engine.specs.Restarting.{RestartedAs}
-use Rattle.engine.specs.Representation.{Matches, SessionIs, SessionsAre, LocksAre}
+use Rattle.engine.proofs.Names.{arith, ◌≡◌, ℕ, zero, suc, ◌-◌, ◌==◌, false, List, [], length, replicate, Option, None, refl, sym, ap, subst, ◌∙◌, IsTrue, true≢false, none-some, list_any, slice_index_or, Master, Opens, AreLocked, FootprintsAre, footprints_of, Matches, SessionIs, SessionsAre, LocksAre, RestartedAs, Engine, Restarted, lengths_on, of_session, Footprint, Lock, owed_none, Entry, is_loser, owed, Session, State, writes_of, wrote_of, reads_of, Represents, TransactionStore, Site, Image, Geometry, Active}
 
 -- nobody is at work when it begins
 nobody : (n : ℕ) (sessions : List (Option Session)) → sessions ≡ replicate 8 None → slice_index_or sessions n None ≡ None

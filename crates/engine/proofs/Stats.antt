@@ -1,18 +1,6 @@
 -- How many sessions are active.
-use Rattle.checkpoint.specs.declared.master.Master.{Master}
-use Rattle.std.proofs.Common.{◌≡◌, ℕ, ◌+◌, List, [], ◌∷◌, length, sum_by, filter_map, Option, None, Some, refl, sym, ◌∙◌, arith}
-use Rattle.std.specs.Prelude.{slice_index_or}
-use Rattle.std.specs.Option.{option_map_or}
-use Rattle.std.specs.List.{range_with_len}
-use Rattle.std.proofs.lemmas.List.Sums.{sum_by-cons}
-use Rattle.site.specs.State.{State as Site}
-use Rattle.record_model.specs.State.{Session, State, session_at, active_sessions}
-use Rattle.log_records.specs.Log.{Entry}
-use Rattle.txn_table.specs.declared.active.Active.{Active}
-use Rattle.txn_table.specs.Entries.{IsTable, entry_of}
-use Rattle.txn_table.proofs.BySession.{sum-by_session}
-use Rattle.engine.specs.declared.engine.Engine.{Engine}
-use Rattle.engine.specs.Representation.{Matches, SessionIs}
+use Rattle.engine.proofs.Names.{◌≡◌, ℕ, ◌+◌, List, [], ◌∷◌, length, sum_by, Option, None, Some, refl, sym, ◌∙◌, arith, sum_by-cons, range_with_len, option_map_or, slice_index_or, Master, Matches, SessionIs, Engine, Entry, Session, State, session_at, active_sessions, Site, sum-by_session, IsTable, entry_of, Active}
+use Rattle.std.proofs.Common.{filter_map}
 
 abbrev one_of : Option Session → ℕ
 one_of o = option_map_or (λ (session : Session). 1) o 0

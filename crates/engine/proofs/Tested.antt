@@ -1,24 +1,7 @@
 -- A write, by what the test of its page gives.
-use Rattle.std.proofs.Common.{◌≡◌, ℕ, ◌+◌, ◌/◌, ◌≤◌, List, [], ◌∷◌, ◌++◌, Option, Some, None, refl, sym, subst, arith}
-use Rattle.std.specs.Prelude.{Result, IfOk}
-use Rattle.std.proofs.lemmas.Option.{none-some}
-use Rattle.site.specs.declared.outside.Stop.{Stop}
-use Rattle.site.specs.State.{State as Site, Snapshot}
-use Rattle.record_model.specs.State.{Content, State, content_at, seen}
-use Rattle.record_model.specs.Step.{wants_page_room, making, committed}
-use Rattle.record_model.specs.declared.words.Command.TheVariants.{Set, Write}
-use Rattle.record_model.specs.declared.words.Reply.{Reply}
+use Rattle.engine.proofs.Names.{◌≡◌, ℕ, ◌+◌, ◌/◌, ◌≤◌, List, [], ◌∷◌, ◌++◌, Option, Some, None, refl, sym, subst, arith, none-some, Result, IfOk, CommandContract, CommandEffect, sizes_of, LeavesEither, full_for, tested, touches_by, work_by, write_by, with_write, Engine, PageStore, Content, State, content_at, seen, wants_page_room, making, committed, Set, Reply, StepsMachine, one_change, one_touch, reads, begins, changes, commits, writes, RingOp, Site, Snapshot, Stop}
+use Rattle.record_model.specs.declared.words.Command.TheVariants.{Write}
 use Rattle.record_model.specs.declared.words.Reply.TheVariants as reply
-use Rattle.ring_machine.specs.Machine.{RingOp}
-use Rattle.ring_machine.specs.Commands.{reads, begins, changes, commits, writes}
-use Rattle.page_store.specs.declared.store.PageStore.{PageStore}
-use Rattle.redo_laws.specs.MachineSteps.{StepsMachine, one_change, one_touch}
-use Rattle.engine.specs.declared.engine.Engine.{Engine}
-use Rattle.engine.specs.Calls.{CommandContract, CommandEffect}
-use Rattle.engine.specs.PageTests.{full_for, tested, touches_by, work_by, write_by}
-use Rattle.engine.specs.Invariant.{sizes_of}
-use Rattle.engine.specs.Leaves.{LeavesEither}
-use Rattle.engine.specs.Representation.{with_write}
 
 -- A session's.
 

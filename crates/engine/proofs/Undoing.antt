@@ -1,34 +1,10 @@
 -- What an abort and a back take back: what stood before each write of their transaction.
-use Rattle.std.proofs.Common.{◌≡◌, ◌+◌, ◌-◌, ℕ, find, List, [], ◌∷◌, ◌++◌, flat_map, filter_map, reverse, length, take, drop, Option, Some, None, option_map, unwrap_or, refl, sym, ap, subst, ◌∙◌, arith, append_assoc, append-nil, eq-eqb}
-use Rattle.std.specs.Prelude.{⊤}
-use Rattle.std.specs.List.{AllByRecursion, cons_option}
-use Rattle.std.proofs.lemmas.List.{reverse-append, take-append-drop}
-use Rattle.std.proofs.lemmas.List.Elements.{filter_map-append}
-use Rattle.site.specs.State.{State as Site}
-use Rattle.record_model.specs.State.{Content, State, Write, content_at, session_at, writes_of}
-use Rattle.log_records.specs.Log.{Entry, Version, is_number, is_on, number_of, before_of, after_of, table_of, value_of}
-use Rattle.log_records.specs.Unfinished.{left_open}
-use Rattle.log_records.specs.Sound.{IsInTable}
-use Rattle.log_laws.specs.Follow.{write_of}
-use Rattle.log_laws.proofs.Chains.{RunsFrom}
-use Rattle.log_laws.proofs.Losers.{left_keep}
-use Rattle.log_laws.proofs.Standing.{last_standing, left_are_updates, standing_count, standing_taken, writes_dropped, writes_more}
-use Rattle.log_laws.proofs.Standing as standing
-use Rattle.log_laws.proofs.StandingTables.{left_begin_there}
-use Rattle.log_laws.proofs.Tables.{content_of_table}
-use Rattle.log_laws.proofs.Tails.{whole_in_table}
-use Rattle.image_meaning.specs.Meaning.{logical_image_under, versions_on}
-use Rattle.ring_machine.specs.Machine.{RingOp}
-use Rattle.ring_machine.specs.Commands.{takes_back, ends, stands_at, stood_before, goes_back, undoes}
-use Rattle.ring_machine.specs.Restart.{clr_on, clr_work}
-use Rattle.redo_undo.specs.Mirroring.{clrs_for, undo_one_work}
+use Rattle.engine.proofs.Names.{◌≡◌, ◌+◌, ◌-◌, ℕ, find, List, [], ◌∷◌, ◌++◌, flat_map, reverse, length, take, drop, Option, Some, None, refl, sym, ap, subst, ◌∙◌, arith, append_assoc, append-nil, reverse-append, take-append-drop, filter_map-append, AllByRecursion, cons_option, ⊤, Matches, Engine, logical_image_under, versions_on, RunsFrom, left_keep, last_standing, left_are_updates, standing_count, standing_taken, writes_dropped, writes_more, left_begin_there, content_of_table, whole_in_table, write_of, Entry, Version, is_number, is_on, number_of, before_of, after_of, table_of, value_of, IsInTable, left_open, Content, State, Write, content_at, session_at, writes_of, clrs_for, undo_one_work, takes_back, ends, stands_at, stood_before, goes_back, undoes, RingOp, clr_on, clr_work, Site, entry_of, Active}
+use Rattle.std.proofs.Common.{filter_map, option_map, unwrap_or, eq-eqb}
 use Rattle.redo_undo.specs.Stores.{sizes_of}
-use Rattle.txn_table.specs.declared.active.Active.{Active}
-use Rattle.txn_table.specs.Entries.{entry_of}
-use Rattle.engine.specs.declared.engine.Engine.{Engine}
-use Rattle.engine.specs.Representation.{Matches}
 use Rattle.engine.proofs.Actives.{Finds, some_active}
 use Rattle.engine.proofs.Meanings.{table_is, undoable}
+use Rattle.log_laws.proofs.Standing as standing
 
 -- What stood before writes.
 

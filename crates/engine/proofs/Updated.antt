@@ -1,15 +1,6 @@
 -- The records that a transaction has updated.
-use Rattle.std.proofs.Common.{◌≡◌, ◌==◌, ℕ, Bool, ◌||◌, List, [], ◌∷◌, ◌++◌, length, Option, None, Some, refl, sym, ap, ◌∙◌, arith}
-use Rattle.std.specs.Prelude.{filter_map}
-use Rattle.std.specs.List.{list_any, cons_option}
-use Rattle.std.proofs.lemmas.List.Elements.{filter-append, filter_map-append}
-use Rattle.log_records.specs.declared.log_record.LogRecord.{LogRecord}
-use Rattle.log_records.specs.declared.log_record.LogRecord.TheVariants.{Begin, Update, Clr, Commit, End}
-use Rattle.log_records.specs.Log.{Entry, entries_of, is_number, is_on, is_update, number_of, updates_in}
-use Rattle.log_records.specs.Sound.{IsLoserChain}
+use Rattle.engine.proofs.Names.{◌≡◌, ◌==◌, ℕ, Bool, ◌||◌, List, [], ◌∷◌, ◌++◌, length, Option, None, Some, refl, sym, ap, ◌∙◌, arith, filter-append, filter_map-append, list_any, cons_option, filter_map, updated, written_is, Entry, entries_of, is_number, is_on, is_update, number_of, updates_in, IsLoserChain, LogRecord, Begin, Update, Clr, Commit, End}
 use Rattle.log_laws.specs.Follow as follow
-use Rattle.log_laws.proofs.StandingTables.{written_is}
-use Rattle.engine.specs.Representation.{updated}
 
 pub updated_more : (entries : List Entry) (e : Entry) → updated (entries ++ e ∷ []) ≡ updated entries ++ updated (e ∷ [])
 updated_more entries e =

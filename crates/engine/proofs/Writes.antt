@@ -1,47 +1,16 @@
 -- A session's read, and its write.
+use Rattle.engine.proofs.Names.{◌≡◌, ℕ, ◌+◌, ◌*◌, ◌/◌, ◌%◌, ◌<◌, ◌≤◌, ◌&&◌, ◌||◌, ◌==◌, Bool, true, false, not, cond, ◌++◌, ◌∷◌, [], List, length, find, Option, None, Some, ⊎_elim, refl, sym, ap, subst, ◌∙◌, arith, IsTrue, get_or-set_same, get_or-set_other, length-set, or-false, and-true, cases_eq, eq-eqb, ne_eqb, none-some, list_any, range_with_len, slice_set, slice_index_or, option_map, unwrap_or, Master, sizes_of, footprint_of, full_for, Matches, LocksAre, SessionIs, SessionsAre, with_write, with_read, Engine, of_session, Footprint, length-versions, master_of, versions_on, AddsLock, Lock, active_may_write, owed_update, IsFreeFor, Entry, shown, HasOpenRoom, IsStore, Content, Session, State, Write, session_at, writes_of, wrote_of, reads_of, content_at, last_write, length_of, seen, having_written, having_read, blocks_to, IsInFront, Represents, MayGrow, shown_in, update_by, TransactionStore, Site, entry_is, IsTable, entry_of, ChangesOnly, after_write, Active}
 use Rattle.engine.proofs.Scans.{none_more_written}
-use Rattle.std.proofs.Math.Bool.{or-false, and-true}
-use Rattle.image_meaning.proofs.Versions.{length-versions}
-use Rattle.checkpoint.specs.declared.master.Master.{Master}
-use Rattle.std.proofs.Common.{◌≡◌, ℕ, ◌+◌, ◌*◌, ◌/◌, ◌%◌, ◌<◌, ◌≤◌, ◌&&◌, ◌||◌, ◌==◌, Bool, true, false, not, cond, ◌++◌, ◌∷◌, [], List, length, find, Option, None, Some, ⊎_elim, refl, sym, ap, subst, ◌∙◌, arith, IsTrue, get_or-set_same, get_or-set_other, length-set}
-use Rattle.std.specs.Prelude.{slice_set, slice_index_or, option_map, unwrap_or}
-use Rattle.std.specs.List.{list_any, range_with_len}
-use Rattle.std.proofs.lemmas.Bool.{cases_eq, eq-eqb, ne_eqb}
-use Rattle.std.proofs.lemmas.Option.{none-some}
-use Rattle.site.specs.State.{State as Site}
-use Rattle.record_model.specs.State.{Content, Session, State, Write, session_at, writes_of, wrote_of, reads_of, content_at, last_write, length_of, seen}
-use Rattle.record_model.specs.State as model
-use Rattle.record_model.specs.Step.{having_written, having_read}
-use Rattle.log_records.specs.Log.{Entry, shown}
-use Rattle.log_laws.specs.Follow.{IsFreeFor}
-use Rattle.log_laws.proofs.Losers.{active_may_write}
-use Rattle.log_laws.proofs.Owing.{owed_update}
 use Rattle.log_laws.proofs.Versions.{page_and_slot}
-use Rattle.lock_table.specs.declared.lock.Lock.{Lock}
-use Rattle.lock_table.specs.Locks.{AddsLock}
-use Rattle.lock_table.specs.Locks as locks
-use Rattle.txn_table.specs.declared.active.Active.{Active}
-use Rattle.txn_table.specs.Entries.{IsTable, entry_of, ChangesOnly, after_write}
-use Rattle.txn_table.specs.Entries as entries
-use Rattle.engine.specs.declared.engine.Engine.{Engine}
-use Rattle.image_meaning.specs.Meaning.{master_of, versions_on}
-use Rattle.redo_laws.specs.Holding.{blocks_to}
-use Rattle.redo_undo.specs.declared.store.TransactionStore.{TransactionStore}
-use Rattle.engine.specs.Invariant.{sizes_of}
-use Rattle.redo_undo.specs.Stores.{IsInFront, Represents, MayGrow, shown_in, update_by}
-use Rattle.engine.specs.Representation.{Matches, LocksAre, SessionIs, SessionsAre, with_write, with_read}
 use Rattle.engine.proofs.Actives.{some_active}
 use Rattle.engine.proofs.FootprintChanges.{footprints_stay, wrote}
 use Rattle.engine.proofs.PageRooms.{room_written}
-use Rattle.engine.specs.PageTests.{footprint_of, full_for}
-use Rattle.footprints.specs.declared.footprint.Footprint.{Footprint}
-use Rattle.footprints.specs.Longest.{of_session}
-use Rattle.page_store.specs.Representation.{IsStore}
-use Rattle.log_records.specs.Room.{HasOpenRoom}
 use Rattle.engine.proofs.Changes.{wrote_more}
 use Rattle.engine.proofs.Locks.{at_set}
 use Rattle.engine.proofs.Meanings.{busy_write_is, free_for, undoable}
-use Rattle.txn_table.proofs.Owing.{entry_is}
+use Rattle.record_model.specs.State as model
+use Rattle.lock_table.specs.Locks as locks
+use Rattle.txn_table.specs.Entries as entries
 
 -- Locks.
 

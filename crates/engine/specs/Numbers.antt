@@ -6,7 +6,6 @@ use Rattle.site.specs.State.{State as Site, IsQuiet}
 use Rattle.site.specs.Moments.{LeavesOnly}
 use Rattle.sealed_ring.specs.Ring.{hi_of}
 use Rattle.image_changes.specs.Rings.{log_shape, master_shape}
-use Rattle.image_changes.specs.Costs.{CallsForUnits}
 use Rattle.record_model.specs.State.{State}
 use Rattle.record_model.specs.declared.words.Command.{Command}
 use Rattle.record_model.specs.declared.words.Reply.{Reply}
@@ -14,6 +13,7 @@ use Rattle.record_model.specs.Step.{makes_checkpoint}
 use Rattle.log_records.specs.Log.{Entry}
 use Rattle.log_records.specs.Unfinished as unfinished
 use Rattle.log_store.specs.declared.store.LogStore.{LogStore}
+use Rattle.page_store.specs.Costs.{CallsForUnits}
 use Rattle.redo_laws.specs.Holding.{blocks_to}
 use Rattle.redo_laws.specs.Numbers.{HasNumbers, SkipsNone}
 use Rattle.engine.specs.declared.engine.Engine.{Engine}
@@ -35,8 +35,8 @@ pub record CountsOn {T E : Type 0} (result : Result T E) (old new : Engine) (bef
 
 -- A restart on these records. However it ends, and wherever a crash ends it, the ring of the log's blocks has at most
 -- one number more for each record that undo owes, and the ring of the master units one for its checkpoint. At Ok the
--- blocks are no more than that with the tail, too, and no more calls of the site were made than the units need that
--- were appended.
+-- blocks are no more than that with the tail, too, and calls of the site were made for the units that were appended,
+-- and of the disk.
 pub record RestartsWithin {T : Type 0} (result : Result T Stop) (log_of : T
     → LogStore) (g : Geometry) (records : List Entry) (before now : Site) : Type 0 where
   pub log : IfOk result (λ x. blocks_to (log_of x) ≤ hi_of (log_shape g) before.image.log + unfinished.owed records)

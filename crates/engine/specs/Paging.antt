@@ -14,6 +14,7 @@ use Rattle.sealed_ring.specs.Ring.{hi_of}
 use Rattle.second_chance.specs.Machine.{Rules, Cache, after_works, staged_by_works}
 use Rattle.page_store.specs.declared.store.PageStore.{PageStore}
 use Rattle.page_store.specs.Caching.{cache_of, rules}
+use Rattle.page_store.specs.Costs.{CallsForStaged}
 use Rattle.page_store.specs.Staging.{WritesOnly}
 use Rattle.site.specs.Moments.{LeavesOnly}
 use Rattle.redo_laws.specs.MachineSteps.{redo_works, undo_works, checkpoint_works, next_group, finds_in, misses_in}
@@ -39,9 +40,12 @@ WritesFrom g r works start before now =
     LeavesOnly before now (λ s. WritesOnly g (staged_by_works r works start) (next_group (after_works r works start))
     before.image s.image)
 
--- and behind it the disk has of the frames that this work stages those that were staged last
-abbrev pub HasLastFrom : Geometry → Rules → List CacheOp → Cache → State → State → Type 0
-HasLastFrom g r works start before now = HasLastStaged g (staged_by_works r works start) before now
+-- And behind it the disk has of the frames that this work stages those that were staged last, by no calls but theirs.
+pub record HasStagedFrom (g : Geometry) (r : Rules) (works : List CacheOp) (start : Cache) (before now : State)
+    : Type 0 where
+  pub last : HasLastStaged g (staged_by_works r works start) before now
+  pub counted : CallsForStaged (staged_by_works r works start) start.queue.first (after_works r works start).queue.first
+      before now
 
 -- A call that opens pages asks for this work, beginning with a cache. At Ok the machine has done it. Beside so many
 -- reads of flash that find the queue it reads no more pages than the work needs.

@@ -30,7 +30,7 @@ use Rattle.engine.specs.Image.{log_under}
 use Rattle.engine.specs.Leaves.{LeavesTable}
 use Rattle.engine.specs.Calls.{Ends}
 use Rattle.engine.specs.Numbers.{RestartsWithin}
-use Rattle.engine.specs.Paging.{AsksFrom, HasLastFrom, WritesFrom, restart_works}
+use Rattle.engine.specs.Paging.{AsksFrom, HasStagedFrom, WritesFrom, restart_works}
 use Rattle.site.specs.Work.{Calls}
 
 -- of every site: what was opened may be recovered
@@ -85,7 +85,7 @@ pub record Recovers (result : Result Restarted Stop) (opened : Opened) (before n
   pub writes : IsQuiet before → WritesFrom opened.pages.flash.geometry (rules opened.pages)
       (restart_works (logical_image_under newest opened.pages.flash.geometry before.image blocks))
       (cache_of opened.pages) before now
-  pub last : IsQuiet before → OnOk result (HasLastFrom opened.pages.flash.geometry (rules opened.pages)
+  pub last : IsQuiet before → OnOk result (HasStagedFrom opened.pages.flash.geometry (rules opened.pages)
       (restart_works (logical_image_under newest opened.pages.flash.geometry before.image blocks))
       (cache_of opened.pages) before now)
 

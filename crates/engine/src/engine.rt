@@ -32,7 +32,7 @@ ghost use Rattle.engine.specs.Calls.{Ends};
 ghost use Rattle.engine.specs.Numbers.{RestartsWithin};
 ghost use Rattle.engine.specs.LogReads.{restart_log_reads};
 ghost use Rattle.site.specs.Work.{Calls};
-ghost use Rattle.engine.specs.Paging.{HasLastFrom, WritesFrom};
+ghost use Rattle.engine.specs.Paging.{HasStagedFrom, WritesFrom};
 
 use crate::restart::restart;
 use footprints::Footprints;
@@ -102,7 +102,7 @@ impl Engine {
         ensures last { IsTrue (S.state site.old).honest → IsQuiet (S.state site.old)
             → (g : Geometry) (newest : Option Master) (blocks : List (List LogRecord))
             → IsSound newest g (S.state site.old).image blocks
-            → OnOk result (HasLastFrom g (rules_of pool g.groups)
+            → OnOk result (HasStagedFrom g (rules_of pool g.groups)
             (restart_works (logical_image_under newest g (S.state site.old).image blocks))
             (cache_on g (S.state site.old).image) (S.state site.old) (S.state site.new)) }
         ensures performs { IsTrue (S.state site.old).honest

@@ -33,7 +33,7 @@ ghost use Rattle.page_store.specs.Caching.{cache_of, rules};
 ghost use Rattle.ring_machine.specs.Restart.{restart_work};
 ghost use Rattle.engine.specs.RingWork.{PerformsFrom, found_machine, machine_on};
 ghost use Rattle.second_chance.specs.Machine.{rules_of};
-ghost use Rattle.engine.specs.Paging.{HasLastFrom, WritesFrom};
+ghost use Rattle.engine.specs.Paging.{HasStagedFrom, WritesFrom};
 
 use analysis::{losers_are_taken, table_of_records};
 use checkpoint::{Master, Pairs, newest, one_master};
@@ -284,7 +284,7 @@ pub fn restart<S: Site>(alloc: Global, site: &mut S, pool: u32) -> Result<Restar
     ensures last { IsTrue (S.state site.old).honest → IsQuiet (S.state site.old)
         → (g : Geometry) (newest : Option Master) (blocks : List (List LogRecord))
         → IsSound newest g (S.state site.old).image blocks
-        → OnOk result (HasLastFrom g (rules_of pool g.groups)
+        → OnOk result (HasStagedFrom g (rules_of pool g.groups)
         (restart_works (logical_image_under newest g (S.state site.old).image blocks))
         (cache_on g (S.state site.old).image) (S.state site.old) (S.state site.new)) }
 

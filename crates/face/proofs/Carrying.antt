@@ -4,11 +4,11 @@ use Rattle.std.proofs.Common.{IfOk}
 use Rattle.site.specs.Faults.{WorkFaults}
 use Rattle.site.proofs.Laws.{stays_quiet}
 use Rattle.site.proofs.Working.{ok_always}
-use Rattle.page_store.proofs.StagingLaws.{last_none}
 use Rattle.redo_undo.specs.Mirroring.{PerformsStore}
 use Rattle.ring_machine.proofs.Performing.{performs_nothing}
 use Rattle.engine.specs.Calls.{CommandContract, KeepsEngine}
 use Rattle.engine.specs.LogReads.{log_reads_by}
+use Rattle.engine.proofs.Asking.{staged_from}
 use Rattle.engine.proofs.RingCounts.{run_makes}
 use Rattle.front_end.specs.declared.halt.Halt.TheVariants as halt
 use Rattle.front_end.specs.Tells.{HandsLines, TellsText}
@@ -21,7 +21,7 @@ use Rattle.face.proofs.NextUnits.{next_later}
 use Rattle.face.proofs.Pagings.{after_same, reads_still}
 use Rattle.face.proofs.Quiet.{is_told, no_change, not_told, says_nothing}
 use Rattle.face.proofs.WornRuns.{cache_work, mark_work, neither, quit_work, stat_work}
-use Rattle.face.proofs.Writings.{last_told, writes_nothing, writes_told}
+use Rattle.face.proofs.Writings.{last_told, staged_nothing, told_synced, writes_nothing, writes_told}
 
 quiet_always : {T : Type 0} (result : Result T Halt) (P : Type 0) → P → IfErr result (λ h. ((d : Dev) → h ≢ halt.Stop (Device d)) → P)
 quiet_always (Ok x) P p = tt
@@ -50,7 +50,7 @@ module _ (command : Command) (old new : Engine) (before now : Site) where
         let a = c.answers s fits in
         record {
           fits = a.does.after_fits;
-          asks = record { machine = a.asks.machine; reads = a.asks.reads; log_reads = c.log_reads s fits; writes = a.asks.stages.writes; last = a.asks.stages.last; rules_are = a.asks.rules_are };
+          asks = record { machine = a.asks.machine; reads = a.asks.reads; log_reads = c.log_reads s fits; writes = a.asks.stages.writes; last = staged_from (Ok x) (line_touches s (Some command)) old.store.pages new.store.pages before now a.asks; rules_are = a.asks.rules_are };
           performs = record { done = performs_answered (c.performs s fits); worn = λ m is dev says. absurd cc };
           numbers = λ quiet. counts_as x (Ok x) old new before now s _ _ (a.does.numbers quiet);
           quiet = λ quiet. tt;
@@ -132,7 +132,7 @@ module _ (line : Line) (idle : IsIdle line) (old new : Engine) (site : Site) (sa
           reads = record { flash = omega arith; disk = omega arith };
           log_reads = omega arith;
           writes = λ has quiet. writes_nothing old.store.pages site has quiet;
-          last = λ has quiet. ok_always h _ (last_none old.store.pages.flash.geometry [] site site refl);
+          last = λ has quiet. ok_always h _ (staged_nothing old.store.pages.flash.geometry (rules old.store.pages) (cache_of old.store.pages) site);
           rules_are = refl;
         }));
     performs = subst (λ (t : TransactionStore). LinePerforms h (line_work s line) old.store t site site) (sym same) (record {
@@ -258,7 +258,7 @@ module _ {A : Type 0} (reply : A) (line : Line) (a b : Engine) (old mid new : Si
               reads = reads_still (rules a.store.pages) (line_touches s line) (cache_of a.store.pages) old mid new tells.reads d.asks.reads;
               log_reads = let read = d.asks.log_reads in let none : new.log_reads ≡ mid.log_reads = tells.reads Log in omega (arith, read, none);
               writes = λ has quiet. writes_told a.store.pages.flash.geometry (rules a.store.pages) (line_touches s line) (cache_of a.store.pages) piece old mid new (d.asks.writes has quiet) each;
-              last = λ has quiet. ok_always result _ (last_told a.store.pages.flash.geometry (rules a.store.pages) (line_touches s line) (cache_of a.store.pages) piece old mid new (d.asks.writes has quiet).grown each (d.asks.last has quiet));
+              last = λ has quiet. ok_always result _ (last_told a.store.pages.flash.geometry (rules a.store.pages) (line_touches s line) (cache_of a.store.pages) piece old mid new (d.asks.writes has quiet).grown each (told_synced piece mid new (c.stays_quiet fits.honest quiet) each) (d.asks.last has quiet));
               rules_are = d.asks.rules_are;
             };
             performs = record {

@@ -1,8 +1,9 @@
 -- What a run asks of the devices, by how it ends.
-use Rattle.face.proofs.Names.{CallsForUnits, calls_then, ◌≡◌, ℕ, ◌≤◌, List, [], length, sym, ap, subst, arith, Ok, Err, IsErrOf, Dev, Worn, Site, Image, SameReads, EachMoment, TellsPart, Halt, HasDone, AsksNoMore, LeavesStaged, SkipsNoNumber, staged_by_run, Run, answered, first_lines, turns_of, fault_line, Demands, WearsFirst, WearsNone, WearsNoneBefore, last_still}
+use Rattle.face.proofs.Names.{CallsForUnits, calls_then, ◌≡◌, ℕ, ◌≤◌, List, [], length, sym, ap, subst, arith, Ok, Err, IsErrOf, Dev, Worn, Site, Image, SameReads, unsynced_in, EachMoment, TellsPart, Halt, HasDone, AsksNoMore, LeavesStaged, SkipsNoNumber, staged_by_run, Run, answered, first_lines, turns_of, fault_line, Demands, WearsFirst, WearsNone, WearsNoneBefore}
 use Rattle.front_end.specs.declared.halt.Halt.TheVariants as halt
 use Rattle.face.specs.Headline.{Resources}
 use Rattle.face.proofs.Counted.{skips_still}
+use Rattle.face.proofs.Writings.{last_told}
 use Rattle.face.proofs.Pagings.{few_told, leaves_its_queue, leaves_staged, leaves_versions}
 use Rattle.face.proofs.WornRuns.{leaves_its_rings, wears_none}
 
@@ -29,9 +30,9 @@ module _ (pool : ℕ) (run : Run) (old mid new : Site) (image : new.image ≡ mi
   still_reads : AsksNoMore pool run old mid → AsksNoMore pool run old new
   still_reads few newest blocks sound = few_told _ _ _ _ _ old mid new reads tells (few newest blocks sound)
 
-  pub demands_done : {T U : Type 0} (x : T) (y : U) → CallsForUnits run.geometry mid new → Demands pool run old mid (Ok x) → Demands pool run old new (Ok y)
-  demands_done x y calls d = demands_ok pool run old new y d.room (subst (HasDone pool run old.image) (sym image) d.done)
-      (λ newest blocks sound. last_still run.geometry (staged_by_run pool run (turns_of run) newest old.image blocks) old mid new (d.reads newest blocks sound).writes.grown tells.grown (ap (λ (i : Image). i.disk) image) (d.staged newest blocks sound))
+  pub demands_done : {T U : Type 0} (x : T) (y : U) → CallsForUnits run.geometry mid new → unsynced_in new.past ≡ unsynced_in mid.past → Demands pool run old mid (Ok x) → Demands pool run old new (Ok y)
+  demands_done x y calls synced d = demands_ok pool run old new y d.room (subst (HasDone pool run old.image) (sym image) d.done)
+      (λ newest blocks sound. last_told run.geometry _ _ _ piece old mid new (d.reads newest blocks sound).writes.grown tells synced (d.staged newest blocks sound))
       (calls_then run.geometry old mid new d.calls calls)
       (skips_still run piece old mid new tells d.numbers) (still_reads d.reads)
 

@@ -4,6 +4,7 @@ use Rattle.front_end.specs.declared.halt.Halt.TheVariants as halt
 use Rattle.face.proofs.WornFronts.{never_worn_within}
 use Rattle.face.specs.Loads.{Allows}
 use Rattle.face.specs.Workload.{load_texts}
+use Rattle.page_store.proofs.Counting.{unsynced_told}
 use Rattle.face.proofs.CallCounts.{calls_told}
 use Rattle.face.proofs.Dones.{none_behind}
 use Rattle.face.proofs.Demanded.{asked_done, asked_halted, done_whole, demands_done, demands_err, demands_failed, demands_lost}
@@ -88,7 +89,7 @@ module _ (pool : ℕ) (run : Run) (summary : List ℕ) (old : Site) where
       has_begun = still_begun run works.begun summary old mid new tells works.has_begun;
       written = still_written pool run works.begun summary old mid new tells works.written;
       all = works.all;
-      demands = demands_done pool (first_lines run works.begun) old mid new same.image read tells x y (calls_told run.geometry summary mid new same.image told few) works.demands;
+      demands = demands_done pool (first_lines run works.begun) old mid new same.image read tells x y (calls_told run.geometry summary mid new same.image told tells.grown few) (unsynced_told mid new tells.grown few.works) works.demands;
       earlier = works.earlier;
       left = same.left ∙ works.left;
     }

@@ -11,7 +11,7 @@ pub use Rattle.engine.specs.Image.{Stands, log_under, Opens, IsSound}
 pub use Rattle.engine.specs.Invariant.{sizes_of, Invariant}
 pub use Rattle.engine.specs.Leaves.{LeavesEither, LeavesTable}
 pub use Rattle.engine.specs.Listings.{QueueIsOnFlash, listing_of}
-pub use Rattle.engine.specs.Paging.{WritesFrom, restart_works, cache_on, HasLastFrom}
+pub use Rattle.engine.specs.Paging.{WritesFrom, restart_works, cache_on, HasStagedFrom}
 pub use Rattle.engine.specs.Representation.{Matches}
 pub use Rattle.engine.specs.RingWork.{machine_on}
 pub use Rattle.engine.specs.SeenVersions.{WhereItFits}
@@ -43,8 +43,8 @@ pub use Rattle.front_end.specs.Tells.{EndsBehind, Tells}
 pub use Rattle.front_end.specs.Texts.{status_of, fault_line}
 pub use Rattle.front_end.specs.declared.halt.Halt.{Halt}
 pub use Rattle.front_end.specs.declared.source.Source.{Source}
-pub use Rattle.image_changes.proofs.Counting.{calls_then}
-pub use Rattle.image_changes.specs.Costs.{CallsForUnits}
+pub use Rattle.page_store.proofs.Counting.{calls_then}
+pub use Rattle.page_store.specs.Costs.{CallsForUnits, CallsForStaged, unsynced_in}
 pub use Rattle.image_changes.specs.Rings.{master_shape, log_shape, group_shape, segment_shape}
 pub use Rattle.image_meaning.specs.Meaning.{kept_by, logical_image_under}
 pub use Rattle.log_records.specs.Log.{Entry}

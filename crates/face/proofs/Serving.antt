@@ -1,5 +1,5 @@
 -- What a run asks of the devices, one line after the other.
-use Rattle.face.proofs.Names.{◌≡◌, ℕ, suc, ◌+◌, ◌≤◌, List, [], ◌∷◌, ◌++◌, drop, IsErrOf, OnOk, refl, sym, ◌∙◌, ap, subst, arith, Option, Result, Ok, Err, Some, ⊤, Dev, Worn, Geometry, Site, Image, Preserves, ok_as, State, Line, CacheOp, line_touches, LogRecord, Master, calls_then, Rules, after_works, rules_of, start_reads, cache_of, rules, HasQueueOn, ReadsFor, ops_compose, MirrorsStore, line_work, RingOp, after_all, first_worn, Performs, performs_as, Engine, IsSound, log_under, QueueIsOnFlash, Invariant, sizes_of, Matches, HasLastFrom, WritesFrom, cache_on, machine_on, WhereItFits, Halt, HearsOnly, CarriesOut, DoesLine, AsksFew, Run, answered, first_lines, listing_at, state_at, turns_of, HasDone, HasServed, IsPaged, AsksNoMore, GivesNumbers, Demands, asked_after, log_reads_after, IsMirrored, WearsNone, WearsNoneBefore, rings_by, worn_by}
+use Rattle.face.proofs.Names.{◌≡◌, ℕ, suc, ◌+◌, ◌≤◌, List, [], ◌∷◌, ◌++◌, drop, IsErrOf, OnOk, refl, sym, ◌∙◌, ap, subst, arith, Option, Result, Ok, Err, Some, ⊤, Dev, Worn, Geometry, Site, Image, Preserves, ok_as, State, Line, CacheOp, line_touches, LogRecord, Master, calls_then, Rules, after_works, rules_of, start_reads, cache_of, rules, HasQueueOn, ReadsFor, ops_compose, MirrorsStore, line_work, RingOp, after_all, first_worn, Performs, performs_as, Engine, IsSound, log_under, QueueIsOnFlash, Invariant, sizes_of, Matches, HasStagedFrom, WritesFrom, cache_on, machine_on, WhereItFits, Halt, HearsOnly, CarriesOut, DoesLine, AsksFew, Run, answered, first_lines, listing_at, state_at, turns_of, HasDone, HasServed, IsPaged, AsksNoMore, GivesNumbers, Demands, asked_after, log_reads_after, IsMirrored, WearsNone, WearsNoneBefore, rings_by, worn_by}
 use Rattle.second_chance.specs.Machine.{Cache}
 use Rattle.redo_laws.proofs.Costs.{reads_add_up}
 use Rattle.ring_machine.proofs.Performing.{performs_by, performs_then}
@@ -112,9 +112,9 @@ module _ (pool : ℕ) (run : Run) (entry mid : Site) (engine : Engine) (i : ℕ)
             writes = writes_then run.geometry r first own start entry mid new (let least = sound.octets.limits.groups in omega (arith, least)) few.writes own_writes;
           })
 
-      line_staged : OnOk result (HasLastFrom run.geometry r (asked_after run newest entry.image blocks (suc i)) start entry new)
-      line_staged = ok_as result _ _ (λ last. subst (λ (w : List CacheOp). HasLastFrom run.geometry r w start entry new) (sym more)
-          (last_works run.geometry r first own start entry mid new (so_far.reads newest blocks sound).writes own_writes (so_far.staged newest blocks sound) (behind (λ g y z. HasLastFrom g y own z mid new) last))) (does.asks.last queue_is so_far.quiet)
+      line_staged : OnOk result (HasStagedFrom run.geometry r (asked_after run newest entry.image blocks (suc i)) start entry new)
+      line_staged = ok_as result _ _ (λ last. subst (λ (w : List CacheOp). HasStagedFrom run.geometry r w start entry new) (sym more)
+          (last_works run.geometry r first own start entry mid new (so_far.reads newest blocks sound).writes own_writes (so_far.staged newest blocks sound) (behind (λ g y z. HasStagedFrom g y own z mid new) last))) (does.asks.last queue_is so_far.quiet)
 
       line_paged : OnOk result (IsPaged pool run newest entry.image blocks engine' (suc i))
       line_paged = grind (arith, behind, ok_as, ops_compose, more, does)

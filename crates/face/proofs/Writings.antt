@@ -1,8 +1,13 @@
 -- What a run writes, one line after the other.
-use Rattle.face.proofs.Names.{◌≡◌, ◌≤◌, ℕ, List, [], ◌++◌, arith, sym, ap, subst, Geometry, Site, Snapshot, Image, IsQuiet, EachMoment, Leaves, LeavesOnly, since, HasLastStaged, TellsPart, in_sequence, leaves_weaker, holds_now, tell_leaves, calm, now_same, unchanged, CacheOp, State, Rules, Staged, after_works, staged_by_works, cache_of, rules, WritesOnly, HasQueueOn, last_still, PageStore, ops_compose, Engine, Matches, Invariant, HasLastFrom, WritesFrom, HearsOnly}
+use Rattle.face.proofs.Names.{◌≡◌, ◌≤◌, ℕ, List, [], ◌++◌, arith, refl, sym, ap, subst, ◌∙◌, CallsForStaged, unsynced_in, Geometry, Site, Snapshot, Image, IsQuiet, EachMoment, Leaves, LeavesOnly, since, HasLastStaged, TellsPart, in_sequence, leaves_weaker, holds_now, tell_leaves, calm, now_same, unchanged, CacheOp, State, Rules, Staged, after_works, staged_by_works, cache_of, rules, WritesOnly, HasQueueOn, last_still, PageStore, ops_compose, Engine, Matches, Invariant, HasStagedFrom, WritesFrom, HearsOnly}
 use Rattle.second_chance.specs.Machine.{Cache}
 use Rattle.page_store.specs.Caching.{next_group}
-use Rattle.page_store.proofs.StagingLaws.{last_then, last_unmoved, among_first, written_weaker, written_then, fits_queue, still_leaves}
+use Rattle.site.specs.declared.outside.Dev.TheVariants.{Disk}
+use Rattle.site.specs.State.{Loose}
+use Rattle.site.specs.Moments.{SameAt}
+use Rattle.site.proofs.Laws.{each_weaker, quiet_settled}
+use Rattle.page_store.proofs.Counting.{staged_counts_none, staged_counts_then, unsynced_untouched}
+use Rattle.page_store.proofs.StagingLaws.{last_none, last_then, last_unmoved, among_first, written_weaker, written_then, fits_queue, still_leaves}
 use Rattle.redo_laws.proofs.Costs.{staged_add_up, more_next}
 
 -- the queue of a database that fits is the one on flash
@@ -47,25 +52,49 @@ writes_then g r first later start old mid new some one two =
     subst (λ (n : ℕ). LeavesOnly old new (λ (s : Snapshot). WritesOnly g (staged_by_works r (first ++ later) start) n old.image s.image)) (sym all)
     (subst (λ (l : List Staged). LeavesOnly old new (λ (s : Snapshot). WritesOnly g l next' old.image s.image)) (sym (staged_add_up r first later start)) joined)
 
--- What the disk has of the frames that were staged last.
+-- What the disk has of the frames that were staged last, and the calls that staged them.
+
+-- behind them are no more
+counted_still : (staged : List Staged) (a b : ℕ) (old mid new : Site) → unsynced_in new.past ≡ unsynced_in mid.past → CallsForStaged staged a b old mid → CallsForStaged staged a b old new
+counted_still staged a b old mid new same counted = record { calls = same ∙ counted.calls; rises = counted.rises; within = counted.within }
+
+-- of a site of which nothing is loose, while something is told
+pub told_synced : (piece : List ℕ) (mid new : Site) → IsQuiet mid → EachMoment mid new (TellsPart piece mid) → unsynced_in new.past ≡ unsynced_in mid.past
+told_synced piece mid new quiet tells = unsynced_untouched mid new (quiet_settled Disk mid quiet)
+    (each_weaker mid new (TellsPart piece mid) (SameAt Disk mid) (λ m part. record { content = ap (λ (i : Image). i.disk) part.image; loose = ap (λ (l : Loose). l.disk) part.loose }) tells)
 
 -- behind it something is told
-pub last_told : (g : Geometry) (r : Rules) (works : List CacheOp) (start : Cache) (piece : List ℕ) (old mid new : Site) → mid.past ≡ old.past ++ since old mid → EachMoment mid new (TellsPart piece mid) → HasLastFrom g r works start old mid → HasLastFrom g r works start old new
-last_told g r works start piece old mid new grown tells last = last_still g (staged_by_works r works start) old mid new grown tells.grown (ap (λ (i : Image). i.disk) tells.now.image) last
+pub last_told : (g : Geometry) (r : Rules) (works : List CacheOp) (start : Cache) (piece : List ℕ) (old mid new : Site) → mid.past ≡ old.past ++ since old mid → EachMoment mid new (TellsPart piece mid) → unsynced_in new.past ≡ unsynced_in mid.past → HasStagedFrom g r works start old mid → HasStagedFrom g r works start old new
+last_told g r works start piece old mid new grown tells same has = record {
+  last = last_still g (staged_by_works r works start) old mid new grown tells.grown (ap (λ (i : Image). i.disk) tells.now.image) has.last;
+  counted = counted_still (staged_by_works r works start) _ _ old mid new same has.counted;
+}
 
 -- or heard
-pub last_heard : (g : Geometry) (r : Rules) (works : List CacheOp) (start : Cache) (old mid new : Site) → HearsOnly mid new → HasLastFrom g r works start old mid → HasLastFrom g r works start old new
-last_heard g r works start old mid new same last = last_unmoved g (staged_by_works r works start) old mid new same.past (ap (λ (i : Image). i.disk) same.image) last
+pub last_heard : (g : Geometry) (r : Rules) (works : List CacheOp) (start : Cache) (old mid new : Site) → HearsOnly mid new → HasStagedFrom g r works start old mid → HasStagedFrom g r works start old new
+last_heard g r works start old mid new same has = record {
+  last = last_unmoved g (staged_by_works r works start) old mid new same.past (ap (λ (i : Image). i.disk) same.image) has.last;
+  counted = counted_still (staged_by_works r works start) _ _ old mid new (ap unsynced_in same.past) has.counted;
+}
 
 -- work behind work
-pub last_works : (g : Geometry) (r : Rules) (first later : List CacheOp) (start : Cache) (old mid new : Site) → WritesFrom g r first start old mid → WritesFrom g r later (after_works r first start) mid new → HasLastFrom g r first start old mid → HasLastFrom g r later (after_works r first start) mid new →
-    HasLastFrom g r (first ++ later) start old new
-last_works g r first later start old mid new one two last more =
+pub last_works : (g : Geometry) (r : Rules) (first later : List CacheOp) (start : Cache) (old mid new : Site) → WritesFrom g r first start old mid → WritesFrom g r later (after_works r first start) mid new → HasStagedFrom g r first start old mid → HasStagedFrom g r later (after_works r first start) mid new →
+    HasStagedFrom g r (first ++ later) start old new
+last_works g r first later start old mid new one two has more =
     let staged = staged_by_works r first start in
     let others = staged_by_works r later (after_works r first start) in
     let next = next_group (after_works r later (after_works r first start)) in
     let written : WritesOnly g others next mid.image new.image = holds_now mid new (λ (s : Snapshot). WritesOnly g others next mid.image s.image) two in
-    subst (λ (l : List Staged). HasLastStaged g l old new) (sym (staged_add_up r first later start)) (last_then g staged others old mid new one.grown two.grown written.disk last more)
+    let all = ap (λ (c : Cache). c.queue.first) (ops_compose r first later start) in
+    record {
+      last = subst (λ (l : List Staged). HasLastStaged g l old new) (sym (staged_add_up r first later start)) (last_then g staged others old mid new one.grown two.grown written.disk has.last more.last);
+      counted = subst (λ (l : List Staged). CallsForStaged l start.queue.first (after_works r (first ++ later) start).queue.first old new) (sym (staged_add_up r first later start))
+          (subst (λ (n : ℕ). CallsForStaged (staged ++ others) start.queue.first n old new) (sym all) (staged_counts_then staged others _ _ _ old mid new has.counted more.counted));
+    }
+
+-- no work
+pub staged_nothing : (g : Geometry) (r : Rules) (start : Cache) (site : Site) → HasStagedFrom g r [] start site site
+staged_nothing g r start site = record { last = last_none g [] site site refl; counted = staged_counts_none [] start.queue.first start.queue.first site site (omega arith) refl refl }
 
 -- no work
 pub writes_nothing : (pages : PageStore) (site : Site) → HasQueueOn pages site → IsQuiet site → WritesFrom pages.flash.geometry (rules pages) [] (cache_of pages) site site

@@ -30,7 +30,7 @@ use Rattle.engine.specs.Invariant.{Invariant, sizes_of}
 use Rattle.engine.specs.Leaves.{LeavesEither}
 use Rattle.engine.specs.Listings.{listing_of}
 use Rattle.engine.specs.Numbers.{CountsOn}
-use Rattle.engine.specs.Paging.{HasLastFrom, WritesFrom}
+use Rattle.engine.specs.Paging.{HasStagedFrom, WritesFrom}
 use Rattle.shell_text.specs.Texts.{reply_text}
 use Rattle.front_end.specs.declared.halt.Halt.{Halt}
 use Rattle.front_end.specs.declared.halt.Halt.TheVariants as halt
@@ -53,7 +53,7 @@ pub record LineStepsMachine {T : Type 0} (result : Result T Halt) (works : List 
   pub writes : HasQueueOn old before → IsQuiet before →
       WritesFrom old.flash.geometry (rules old) works (cache_of old) before now
   pub last : HasQueueOn old before → IsQuiet before →
-      OnOk result (HasLastFrom old.flash.geometry (rules old) works (cache_of old) before now)
+      OnOk result (HasStagedFrom old.flash.geometry (rules old) works (cache_of old) before now)
   pub rules_are : rules new ≡ rules old
 
 -- and this work of the machine of the rings

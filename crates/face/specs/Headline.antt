@@ -10,7 +10,7 @@ use Rattle.record_model.specs.State.{State}
 use Rattle.front_end.specs.declared.halt.Halt.{Halt}
 use Rattle.front_end.specs.declared.halt.Halt.TheVariants.{Stop}
 use Rattle.front_end.specs.Texts.{IsLineOf, fault_line, status_of}
-use Rattle.image_changes.specs.Costs.{CallsForUnits}
+use Rattle.page_store.specs.Costs.{CallsForUnits}
 use Rattle.engine.specs.Image.{Opens}
 use Rattle.face.specs.Causes.{HasCause}
 use Rattle.face.specs.Done.{HasDone, TellsDone}
@@ -108,9 +108,10 @@ pub record Resources (pool : ℕ) (run : Run) (begun : ℕ) (fault : List ℕ) (
   pub earlier : WearsNoneBefore pool run begun old.image
   -- with 0 what they ask is done
   pub done : status ≡ 0 → HasDone pool run old.image new.image
-  -- and each page that it has staged is on the disk as the frame that was staged last
+  -- and each page that it has staged is on the disk as the frame that was staged last; a page was written once for
+  -- each frame that it has staged, and the disk synced once behind those of a group
   pub staged : status ≡ 0 → LeavesStaged pool run old new
-  -- and no more calls were made than its units and its texts need
+  -- and no other calls were made than these and five for each unit, and to tell at most one an octet
   pub calls : status ≡ 0 → CallsForUnits run.geometry old new
   -- whatever the status, with these lines no ring number is skipped on the log's device
   pub numbers : SkipsNoNumber (first_lines run begun) old new

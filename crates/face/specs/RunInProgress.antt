@@ -22,7 +22,7 @@ use Rattle.front_end.specs.declared.halt.Halt.{Halt}
 use Rattle.front_end.specs.Faults.{SameFaults}
 use Rattle.log_records.specs.Log.{Entry}
 use Rattle.redo_laws.specs.Holding.{blocks_to}
-use Rattle.image_changes.specs.Costs.{CallsForUnits}
+use Rattle.page_store.specs.Costs.{CallsForUnits}
 use Rattle.face.specs.Done.{TellsDone}
 use Rattle.face.specs.RunMeaning.{AsksNoMore, GivesNumbers, IsLeft, LeavesStaged, ListsTheMachine, WritesAsTold}
 use Rattle.face.specs.RunMeaning.{blocks_by, first_texts}

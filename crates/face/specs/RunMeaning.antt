@@ -14,12 +14,11 @@ use Rattle.log_records.specs.declared.log_record.LogRecord.{LogRecord}
 use Rattle.checkpoint.specs.declared.master.Master.{Master}
 use Rattle.image_meaning.specs.Meaning.{logical_image_under}
 use Rattle.second_chance.specs.Machine.{Cache, Staged, rules_of, after_works, staged_by_works, listing, opened}
-use Rattle.flash_cache.specs.OnDisk.{HasLastStaged}
 use Rattle.page_store.specs.Staging.{WritesOnly}
 use Rattle.redo_laws.specs.MachineSteps.{next_group}
 use Rattle.redo_laws.specs.Numbers.{HasNumbers}
 use Rattle.site.specs.Moments.{LeavesOnly}
-use Rattle.engine.specs.Paging.{restart_works, cache_on}
+use Rattle.engine.specs.Paging.{HasStagedFrom, restart_works, cache_on}
 use Rattle.engine.specs.Image.{IsSound, Stands, log_under}
 use Rattle.engine.specs.LogReads.{restart_log_reads}
 use Rattle.engine.specs.SeenVersions.{VersionsAreSeen}
@@ -133,11 +132,12 @@ LeavesVersions pool run old now = (newest : Option Master) (blocks : List (List 
     VersionsAreSeen run.geometry (cache_by pool run (turns_of run) newest old blocks).pool now
     (left_by run.opening (turns_of run))
 
--- and the disk has of the frames that the run stages those that were staged last
+-- and the disk has of the frames that the run stages those that were staged last, by no calls but theirs
 abbrev pub LeavesStaged : ℕ → Run → Site → Site → Type 0
 LeavesStaged pool run old new = (newest : Option Master) (blocks : List (List LogRecord)) →
     IsSound newest run.geometry old.image blocks →
-    HasLastStaged run.geometry (staged_by_run pool run (turns_of run) newest old.image blocks) old new
+    HasStagedFrom run.geometry (rules_of pool run.geometry.groups) (works_by run (turns_of run) newest old.image blocks)
+    (cache_on run.geometry old.image) old new
 
 -- each line that asks for the listing of the cache is replied what the cache machine lists after the restart's work and
 -- that of the lines before it

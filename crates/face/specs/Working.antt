@@ -7,7 +7,7 @@ use Rattle.std.specs.List.{AllByRecursion, list_any}
 use Rattle.site.specs.declared.outside.Take.{Take}
 use Rattle.site.specs.declared.outside.Dev.{Dev}
 use Rattle.site.specs.declared.outside.Stop.TheVariants.{Worn}
-use Rattle.image_changes.specs.Costs.{CallsForUnits}
+use Rattle.page_store.specs.Costs.{CallsForUnits}
 use Rattle.record_model.specs.Run.{commit_marks, commits_among, is_quit}
 use Rattle.record_model.specs.Touches.{CacheOp}
 use Rattle.log_records.specs.declared.log_record.LogRecord.{LogRecord}

@@ -1,23 +1,10 @@
 -- The last frame of a page, where the directory says that it stands.
-use Rattle.std.proofs.Common.{◌≡◌, ℕ, ◌+◌, ◌*◌, ◌<◌, true, false, List, [], length, get_or, map, take, drop, Option, Some, None, option_map, arith, refl, sym, ap, subst, ◌∙◌}
-use Rattle.std.proofs.lemmas.Option.{none-some, same_Some}
-use Rattle.site.specs.declared.geometry.Geometry.{Geometry}
-use Rattle.site.specs.State.{State, Image}
-use Rattle.site.specs.Calls.{Preserves}
-use Rattle.frame_group.specs.Groups.{Frame, group}
-use Rattle.frame_group.specs.Versions.{frames_of, last_frame, version_by}
-use Rattle.frame_group.proofs.Pages.{pages_stand}
-use Rattle.second_chance.specs.Queue.{Queue, with_read}
+use Rattle.flash_cache.proofs.Names.{◌≡◌, ℕ, ◌+◌, ◌*◌, ◌<◌, true, false, List, [], length, get_or, map, take, drop, Option, Some, None, option_map, arith, refl, sym, ap, subst, ◌∙◌, none-some, same_Some, HasGroups, AreSaved, Represents, Invariant, group_on, disk_on, version_on, AllTogether, Shows, FlashCache, last_place, newest, pages_stand, Frame, group, frames_of, last_frame, version_by, Queue, with_read, lengths_later, Preserves, State, Image, Geometry, stands}
 use Rattle.flash_directory.specs.declared.place.Place.{Place}
-use Rattle.flash_directory.specs.Heads.{last_place, newest}
 use Rattle.flash_directory.proofs.Newest.{placed, last_among-place, place_bound, last_bound}
 use Rattle.flash_directory.proofs.Reading.{sizes_read}
-use Rattle.flash_cache.specs.declared.cache.FlashCache.{FlashCache}
-use Rattle.flash_cache.specs.Representation.{HasGroups, AreSaved, Represents, Invariant, group_on, disk_on, version_on, AllTogether, Shows}
 use Rattle.flash_cache.proofs.Queues.{last_of_groups, frames_of_groups, has_at, groups_shown, exist_read, together_length, together_at}
-use Rattle.tail_rebuild.proofs.Standing.{stands}
 use Rattle.flash_cache.proofs.Standing.{rings_later}
-use Rattle.site.proofs.Working.{lengths_later}
 use Rattle.second_chance.proofs.Unread.{length-groups_read}
 
 -- where the newest frame of a page stands

@@ -1,7 +1,5 @@
 -- What was gathered by places so far.
-use Rattle.std.proofs.Common.{◌≡◌, ℕ, ◌+◌, List, [], ◌∷◌, ◌++◌, get_or, map, take, Some, slice_get, ap, ◌∙◌}
-use Rattle.std.proofs.lemmas.List.{map-append, take_more}
-use Rattle.std.proofs.lemmas.Option.{get_or_from_slice_get, slice_get_within}
+use Rattle.flash_cache.proofs.Names.{◌≡◌, ℕ, ◌+◌, List, [], ◌∷◌, ◌++◌, get_or, map, take, Some, slice_get, ap, ◌∙◌, map-append, take_more, get_or_from_slice_get, slice_get_within}
 
 pub mapped_more : {B : Type 0} (f : ℕ → B) (xs : List ℕ) (n x : ℕ) → slice_get xs n ≡ Some x → map f (take (n + 1) xs) ≡ map f (take n xs) ++ f x ∷ []
 mapped_more f xs n x is =

@@ -1,12 +1,9 @@
 -- The frames given, one by one.
-use Rattle.std.proofs.Common.{◌≡◌, ℕ, zero, suc, ◌<◌, Bool, false, List, [], ◌∷◌, ◌++◌, length, get_or, map, take, arith, refl, ap}
-pub use Rattle.std_lemmas.proofs.AllOf.{all_append}
+use Rattle.flash_cache.proofs.Names.{◌≡◌, ℕ, zero, suc, ◌<◌, Bool, false, List, [], ◌∷◌, ◌++◌, length, get_or, map, take, arith, refl, ap, frames_given, known_given, Frame, known_of, Known}
 use Rattle.slotted_page.specs.Layout.{lsn_of as page_lsn}
-use Rattle.second_chance.specs.declared.frame.Frame.{Frame as Known}
-use Rattle.second_chance.specs.Queue.{frame_of as known_of}
-use Rattle.frame_group.specs.Groups.{Frame, lsn_of}
-use Rattle.flash_cache.specs.Pushed.{frames_given, known_given}
+use Rattle.frame_group.specs.Groups.{lsn_of}
 use Rattle.std.proofs.lemmas.Grind.{common_steps}
+pub use Rattle.std_lemmas.proofs.AllOf.{all_append}
 
 pub same_lsn : (octets : List ℕ) → page_lsn octets ≡ lsn_of octets
 unfolding page_lsn lsn_of

@@ -1,14 +1,6 @@
 -- The heads of frames, and the frames that heads and contents make.
-use Rattle.std.proofs.Common.{◌≡◌, ℕ, zero, suc, ◌-◌, ◌<◌, ◌≤◌, Bool, List, [], ◌∷◌, ◌++◌, length, get_or, map, replicate, arith, refl, ap, length-append}
-use Rattle.std.specs.Prelude.{slice_set}
-use Rattle.std.proofs.lemmas.List.{map-append}
-use Rattle.byte_fields.specs.declared.frame_head.FrameHead.{FrameHead}
-use Rattle.byte_fields.specs.FrameHeads.{blank}
-use Rattle.frame_group.specs.Groups.{Frame, head_of, frame_of, heads_of}
-use Rattle.flash_cache.specs.Leaving.{frames_with}
-use Rattle.flash_cache.specs.Pushed.{no_frame, frames_given}
+use Rattle.flash_cache.proofs.Names.{◌≡◌, ℕ, zero, suc, ◌-◌, ◌<◌, ◌≤◌, Bool, List, [], ◌∷◌, ◌++◌, length, get_or, map, replicate, arith, refl, ap, length-append, map-append, slice_set, blank, FrameHead, frames_with, no_frame, frames_given, length_heads, Frame, head_of, frame_of, heads_of}
 use Rattle.flash_cache.proofs.Standing.{length-mapped}
-use Rattle.frame_group.proofs.Front.{length_heads}
 use Rattle.std.proofs.lemmas.Grind.{common_steps}
 
 -- one head more

@@ -1,27 +1,6 @@
 -- The frames that a push stages: what the disk has of them behind it.
-use Rattle.std.proofs.Common.{◌≡◌, ℕ, zero, suc, ◌+◌, ◌<◌, ◌≤◌, List, [], ◌∷◌, length, get_or, Some, slice_get, arith, sym, ap, subst, ◌∙◌, length-append}
-use Rattle.std.proofs.lemmas.List.{get_or-append-add, get_or-map, length-map}
-use Rattle.std.proofs.lemmas.Option.{same_Some, slice_get-get_or, slice_get_within}
-use Rattle.site.specs.declared.geometry.Geometry.{Geometry}
-use Rattle.site.specs.declared.outside.Dev.TheVariants.{Flash}
-use Rattle.site.specs.State.{State, Image, Moment, MayStand, loose_of, IsQuiet}
-use Rattle.site.specs.Moments.{Leaves, SameAt}
-use Rattle.site.proofs.Laws.{settled_is, quiet_settled}
-use Rattle.byte_fields.specs.declared.frame_head.Mark.{Mark}
-use Rattle.disk_pages.specs.Pages.{page_on}
-use Rattle.stage_out.specs.Staged.{HasStaged}
-use Rattle.frame_group.specs.Groups.{Frame, frames_in, group}
-use Rattle.frame_group.proofs.Contents.{frames_are_in}
-use Rattle.second_chance.specs.declared.frame.Frame.{Frame as Known}
-use Rattle.second_chance.specs.Queue.{group_marks, front_marks}
-use Rattle.second_chance.specs.Plans.{Placed}
-use Rattle.second_chance.specs.Machine.{Staged, rules_of, staged_in_push}
-use Rattle.tail_rebuild.proofs.Standing.{stands}
-use Rattle.flash_cache.specs.declared.cache.FlashCache.{FlashCache}
-use Rattle.flash_cache.specs.Representation.{AllTogether, HasGroups, Invariant, Represents, Shows, disk_on, group_on}
-use Rattle.flash_cache.specs.Pushed.{no_frame, staged_contents, staged_marks, staged_pages}
-use Rattle.flash_cache.specs.OnDisk.{HasFrameAt, HasLastStaged, IsOnDisk, SomeMoment}
-use Rattle.flash_cache.specs.Leaving.{no_mark}
+use Rattle.flash_cache.proofs.Names.{◌≡◌, ℕ, zero, suc, ◌+◌, ◌<◌, ◌≤◌, List, [], ◌∷◌, length, get_or, Some, slice_get, arith, sym, ap, subst, ◌∙◌, length-append, get_or-append-add, get_or-map, length-map, same_Some, slice_get-get_or, slice_get_within, Mark, page_on, no_mark, HasFrameAt, HasLastStaged, IsOnDisk, SomeMoment, no_frame, staged_contents, staged_marks, staged_pages, AllTogether, HasGroups, Invariant, Represents, Shows, disk_on, group_on, FlashCache, frames_are_in, Frame, group, Staged, rules_of, staged_in_push, Placed, group_marks, front_marks, Known, settled_is, quiet_settled, Leaves, SameAt, State, Image, Moment, MayStand, loose_of, IsQuiet, Geometry, Flash, HasStaged, stands}
+use Rattle.frame_group.specs.Groups.{frames_in}
 use Rattle.flash_cache.proofs.Queues.{has_at, together_length}
 use Rattle.flash_cache.proofs.StagedMarks.{staged_numbered}
 use Rattle.flash_cache.proofs.StagedContents.{front_long, some_group}

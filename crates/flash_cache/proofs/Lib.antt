@@ -1,3 +1,4 @@
+mod Names
 pub mod Gathering
 pub mod Given
 pub mod Heads

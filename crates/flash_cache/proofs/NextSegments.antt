@@ -1,23 +1,6 @@
 -- The number of the next segment over an honest site, whatever stands there: calls one after the other.
-use Rattle.std.proofs.Common.{◌≡◌, inl, arith, refl, ap}
-use Rattle.std.specs.Prelude.{◌^◌, Result, Ok, Err, IsErrOf}
-use Rattle.site.specs.declared.outside.Dev.TheVariants.{Flash}
-use Rattle.site.specs.declared.outside.Stop.{Stop}
-use Rattle.site.specs.declared.outside.Stop.TheVariants.{Worn}
-use Rattle.site.specs.declared.geometry.Geometry.{Geometry}
-use Rattle.site.specs.Geometry.{HasLimits, HasLengths}
-use Rattle.site.specs.State.{State}
-use Rattle.site.specs.Calls.{Preserves}
-use Rattle.site.proofs.Working.{no_error, err_again, ok_always}
-use Rattle.sealed_ring.specs.declared.ring.Ring.{Ring}
-use Rattle.sealed_ring.specs.Ready.{Matches as RingFits}
-use Rattle.tail_rebuild.specs.Rebuilt.{AreRings}
-use Rattle.sealed_ring.specs.Ring.{Units, SameOutside, hi_of}
+use Rattle.flash_cache.proofs.Names.{◌≡◌, inl, arith, refl, ap, ◌^◌, Result, Ok, Err, IsErrOf, Invariant, IsNext, IsSpent, KeepsNext, FlashCache, ring_fits, Groups, Segments, group_shape, segment_shape, RingFits, Units, SameOutside, hi_of, Ring, no_error, err_again, ok_always, Preserves, HasLimits, HasLengths, State, Geometry, Flash, Stop, Worn, AreRings}
 use Rattle.sealed_ring.proofs.Others.{leaves_others}
-use Rattle.image_changes.specs.Rings.{Groups, Segments, group_shape, segment_shape}
-use Rattle.image_changes.proofs.AppendLaws.{ring_fits}
-use Rattle.flash_cache.specs.declared.cache.FlashCache.{FlashCache}
-use Rattle.flash_cache.specs.Representation.{Invariant, IsNext, IsSpent, KeepsNext}
 use Rattle.std.proofs.lemmas.Grind.{common_steps}
 
 -- the ring of the segments stays where it stands when a group is appended

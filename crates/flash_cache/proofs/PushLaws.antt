@@ -1,19 +1,6 @@
 -- Staging and an append, one after the other.
-use Rattle.std.proofs.Common.{◌≡◌, ◌⊎◌, inl, inr, ℕ, List, [], ◌∷◌, ◌++◌, length, sym, ◌∙◌, ap, subst, append_assoc, append-nil}
-use Rattle.site.specs.declared.geometry.Geometry.{Geometry}
-use Rattle.site.specs.Geometry.{HasLimits, HasLengths}
-use Rattle.site.specs.State.{State, Snapshot, IsQuiet}
-use Rattle.site.specs.Moments.{Leaves, LeavesOnly, OnlyDevice}
-use Rattle.site.proofs.Laws.{in_sequence, leaves_weaker}
-use Rattle.sealed_ring.specs.Ready.{LeavesOldOrNew}
-use Rattle.image_changes.specs.Rings.{Groups, shape_of, octets_of}
-use Rattle.image_changes.specs.Changes.{Change, AppendsGroup, Reaches}
-use Rattle.image_changes.specs.Reached.{IsReached, LeavesFront, IsFrontOf}
+use Rattle.flash_cache.proofs.Names.{◌≡◌, ◌⊎◌, inl, inr, ℕ, List, [], ◌∷◌, ◌++◌, length, sym, ◌∙◌, ap, subst, append_assoc, append-nil, changes_of_push, LeavesPush, LeavesPushBehind, append_makes, changes_add_up, reads_itself, Change, AppendsGroup, Reaches, IsReached, LeavesFront, IsFrontOf, Groups, shape_of, octets_of, LeavesOldOrNew, in_sequence, leaves_weaker, HasLimits, HasLengths, Leaves, LeavesOnly, OnlyDevice, State, Snapshot, IsQuiet, Geometry, HasStaged, changes_of}
 use Rattle.image_changes.specs.Laws.{KeepsOrAppends}
-use Rattle.image_changes.proofs.Sequence.{changes_add_up, reads_itself}
-use Rattle.image_changes.proofs.AppendLaws.{append_makes}
-use Rattle.stage_out.specs.Staged.{HasStaged, changes_of}
-use Rattle.flash_cache.specs.Pushed.{changes_of_push, LeavesPush, LeavesPushBehind}
 
 module _ (g : Geometry) (pages : List ℕ) (contents : List (List ℕ)) (group : List ℕ) (old : State) where
   -- while pages are staged

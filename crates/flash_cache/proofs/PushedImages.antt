@@ -1,37 +1,10 @@
 -- The images that a push leaves: its changes, the groups that stand there, and the versions of pages.
-use Rattle.std.proofs.Common.{◌≡◌, ◌⊎◌, inl, inr, ℕ, zero, suc, ◌+◌, ◌-◌, ◌<◌, ◌≤◌, ◌==◌, Bool, true, false, cond, List, [], ◌∷◌, ◌++◌, length, get_or, map, drop, Option, Some, None, arith, refl, sym, ap, subst, ◌∙◌, length-append, append_assoc, append-nil}
-use Rattle.std.specs.List.{AllByRecursion, Contains}
-use Rattle.std.proofs.lemmas.List.{map-append, get_or-map, length-map}
-use Rattle.std.proofs.lemmas.Option.{none-some, same_Some, cond_some}
-use Rattle.std.proofs.lemmas.List.Elements.{recursion_from_All}
-use Rattle.site.specs.declared.outside.Dev.TheVariants.{Disk}
-use Rattle.site.specs.declared.geometry.Geometry.{Geometry}
-use Rattle.site.specs.State.{Image}
-use Rattle.sealed_ring.specs.Ring.{Units, IsRing, hi_of, appended, last_of}
-use Rattle.image_changes.specs.Rings.{Groups, group_shape, units_on, KeepsUnits}
-use Rattle.image_changes.specs.Changes.{Change, RewritesPages, AppendsGroup, AppendsSegment, Makes, Reaches}
-use Rattle.image_changes.specs.Reached.{IsFrontOf}
-use Rattle.stage_out.specs.Staged.{changes_of}
-use Rattle.frame_group.specs.Groups.{Frame, group}
-use Rattle.frame_group.specs.Versions.{frames_of, last_frame, version}
-use Rattle.second_chance.specs.declared.frame.Frame.{Frame as Known}
-use Rattle.second_chance.specs.Queue.{group_marks, front_marks, pushed}
-use Rattle.second_chance.specs.Plans.{Placed, chances_of, staged_of}
-use Rattle.second_chance.proofs.DistinctStaged.{staged_stand_in}
-use Rattle.tail_rebuild.specs.Saving.{changes_of_save}
-use Rattle.flash_cache.specs.declared.cache.FlashCache.{FlashCache}
-use Rattle.flash_cache.specs.Representation.{HasGroups, HasFrames, AllTogether, Shows, frames_on}
-use Rattle.flash_cache.specs.Pushed.{no_frame, front_leaves, chance_given}
+use Rattle.flash_cache.proofs.Names.{◌≡◌, ◌⊎◌, inl, inr, ℕ, zero, suc, ◌+◌, ◌-◌, ◌<◌, ◌≤◌, ◌==◌, Bool, true, false, cond, List, [], ◌∷◌, ◌++◌, length, get_or, map, drop, Option, Some, None, arith, refl, sym, ap, subst, ◌∙◌, length-append, append_assoc, append-nil, map-append, get_or-map, length-map, recursion_from_All, none-some, same_Some, cond_some, AllByRecursion, Contains, option_or, no_mark, no_frame, front_leaves, chance_given, HasGroups, HasFrames, AllTogether, Shows, frames_on, FlashCache, last_of_both, last_is_of_page, Frame, group, frames_of, last_frame, version, Change, RewritesPages, AppendsGroup, AppendsSegment, Makes, Reaches, IsFrontOf, Groups, group_shape, units_on, KeepsUnits, Units, IsRing, hi_of, appended, last_of, staged_stand_in, Placed, chances_of, staged_of, group_marks, front_marks, pushed, Known, Image, Geometry, Disk, changes_of, all_left, all_push, map_same, changes_of_save}
 use Rattle.flash_cache.proofs.Queues.{joined, frames_of_groups, together_length}
 use Rattle.flash_cache.proofs.Pushing.{leaves_when, stays_when}
 use Rattle.flash_cache.proofs.Standing.{length-mapped}
 use Rattle.flash_cache.proofs.StagedFrames.{Stands, frames_at, each_staged, each_chance, found_staged}
 use Rattle.flash_cache.proofs.PushedVersions.{IsBeside, AreStaged, some_is_some}
-use Rattle.flash_cache.specs.Leaving.{no_mark}
-use Rattle.frame_group.proofs.LastFrames.{last_of_both, last_is_of_page}
-use Rattle.std.specs.Option.{option_or}
-use Rattle.std_lemmas.proofs.AllOf.{all_left, all_push}
-use Rattle.std_lemmas.proofs.Lists.{map_same}
 use Rattle.std.proofs.lemmas.Grind.{common_steps}
 
 -- changes before a group is appended: these pages are rewritten, or a segment is appended

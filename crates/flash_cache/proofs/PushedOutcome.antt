@@ -1,34 +1,8 @@
 -- What a push keeps and gives, of each image that it leaves and of the cache.
-use Rattle.std.proofs.Common.{◌≡◌, ◌≢◌, inl, inr, ℕ, ◌<◌, ◌≤◌, Bool, false, cond, List, [], ◌∷◌, ◌++◌, length, get_or, map, drop, Option, Some, None, arith, refl, sym, ap, subst, ◌∙◌, append_assoc}
-use Rattle.std.specs.List.{AllPairs, Contains}
-use Rattle.std.proofs.lemmas.List.{get_or_default}
-use Rattle.std_lemmas.proofs.AllOf.{all_append}
-use Rattle.site.specs.declared.geometry.Geometry.{Geometry}
-use Rattle.std.specs.Prelude.{Result, OnOk, IsErrOf}
-use Rattle.std_lemmas.proofs.Results.{ok_both}
-use Rattle.site.specs.declared.outside.Stop.{Stop}
-use Rattle.site.specs.declared.outside.Stop.TheVariants.{Foreign}
-use Rattle.site.specs.State.{State, Image, Snapshot, IsQuiet}
-use Rattle.site.specs.Moments.{LeavesOnly}
-use Rattle.site.proofs.Laws.{leaves_weaker}
-use Rattle.image_changes.specs.Changes.{Change, AppendsGroup, Reaches}
-use Rattle.image_changes.specs.Reached.{IsFrontOf}
-use Rattle.stage_out.specs.Staged.{HasStaged, changes_of}
-use Rattle.frame_group.specs.Groups.{Frame, group}
-use Rattle.frame_group.specs.Versions.{last_frame, version, version_by, CleanAsDisk}
-use Rattle.frame_group.proofs.LastFrames.{last_by_index, none_by_index, last_is_of_page, new_version, other_versions, push_keeps_clean}
-use Rattle.second_chance.specs.Queue.{Queue, has_frame}
-use Rattle.second_chance.specs.Plans.{Placed, chances_given}
-use Rattle.second_chance.specs.Machine.{chance_frame, rules_of, staged_in_push}
-use Rattle.tail_rebuild.specs.Saving.{is_due, changes_of_save}
-use Rattle.tail_rebuild.specs.Saving.{LeavesGaps}
-use Rattle.flash_cache.specs.declared.cache.FlashCache.{FlashCache}
-use Rattle.flash_cache.specs.Representation.{Invariant, Matches, HasGroups, HasFrames, AreSaved, Represents, AllTogether, Shows, frames_on, disk_on, version_on, IsCleanOn}
+use Rattle.flash_cache.proofs.Names.{◌≡◌, ◌≢◌, inl, inr, ℕ, ◌<◌, ◌≤◌, Bool, false, cond, List, [], ◌∷◌, ◌++◌, length, get_or, map, drop, Option, Some, None, arith, refl, sym, ap, subst, ◌∙◌, append_assoc, get_or_default, AllPairs, Contains, Result, OnOk, IsErrOf, HasLastStaged, no_frame, front_leaves, staged_pages, staged_contents, chance_marks, chance_given, frames_given, known_given, frames_pushed, known_pushed, pushed_groups, pushed_queue, changes_of_push, changes_before, changes_of_group, LeavesPushBehind, Invariant, Matches, HasGroups, HasFrames, AreSaved, Represents, AllTogether, Shows, frames_on, disk_on, version_on, IsCleanOn, FlashCache, last_by_index, none_by_index, last_is_of_page, new_version, other_versions, push_keeps_clean, Frame, group, last_frame, version, version_by, CleanAsDisk, Change, AppendsGroup, Reaches, IsFrontOf, chance_frame, rules_of, staged_in_push, Placed, chances_given, Queue, has_frame, leaves_weaker, LeavesOnly, State, Image, Snapshot, IsQuiet, Geometry, Stop, Foreign, HasStaged, changes_of, all_append, ok_both, is_due, changes_of_save, LeavesGaps}
 use Rattle.flash_cache.specs.Kept.{KeepsVersions, GivesVersions, LeavesVersions, AreCleanGiven, LeavesClean, PushesGroup}
-use Rattle.flash_cache.specs.OnDisk.{HasLastStaged}
 use Rattle.flash_cache.proofs.PushLaws.{push_front}
 use Rattle.flash_cache.specs.Laws.{UnframedIsDisk}
-use Rattle.flash_cache.specs.Pushed.{no_frame, front_leaves, staged_pages, staged_contents, chance_marks, chance_given, frames_given, known_given, frames_pushed, known_pushed, pushed_groups, pushed_queue, changes_of_push, changes_before, changes_of_group, LeavesPushBehind}
 use Rattle.flash_cache.proofs.Given.{length-given, given_at}
 use Rattle.flash_cache.proofs.Queues.{joined}
 use Rattle.flash_cache.proofs.StagedFrames.{frames_at, not_in_groups}

@@ -1,16 +1,6 @@
 -- What a push makes of the versions of pages.
-use Rattle.std.proofs.Common.{◌≡◌, ◌≢◌, ℕ, ◌+◌, ◌*◌, ◌<◌, ◌≤◌, true, false, true≢false, List, [], ◌++◌, length, get_or, drop, Option, Some, None, arith, refl, sym, ap, subst, ◌∙◌}
-use Rattle.std.specs.List.{Contains}
-use Rattle.std.specs.Option.{option_or}
-use Rattle.std.proofs.lemmas.Bool.{cases_order}
-use Rattle.std.proofs.lemmas.List.{same_lists, get_or_default, get_or-take, get_or-drop, length-take, length-drop}
-use Rattle.disk_pages.specs.Pages.{page_on}
-use Rattle.disk_pages.specs.Laws.{IsBesidePage}
-use Rattle.stage_out.specs.Staged.{IsBesideAll}
-use Rattle.frame_group.specs.Groups.{Frame}
-use Rattle.frame_group.specs.Versions.{last_frame, version, version_by, CleanAsDisk}
-use Rattle.frame_group.proofs.LastFrames.{last_of_both, drop_keeps_version, drop_keeps_clean, push_keeps_clean}
 use Rattle.std.proofs.lemmas.Grind.{common_steps}
+use Rattle.flash_cache.proofs.Names.{◌≡◌, ◌≢◌, ℕ, ◌+◌, ◌*◌, ◌<◌, ◌≤◌, true, false, true≢false, List, [], ◌++◌, length, get_or, drop, Option, Some, None, arith, refl, sym, ap, subst, ◌∙◌, cases_order, same_lists, get_or_default, get_or-take, get_or-drop, length-take, length-drop, Contains, option_or, IsBesidePage, page_on, last_of_both, drop_keeps_version, drop_keeps_clean, push_keeps_clean, Frame, last_frame, version, version_by, CleanAsDisk, IsBesideAll}
 
 -- the octets of a disk beside some pages are as they were
 pub record IsBeside (pages : List ℕ) (old new : List ℕ) : Type 0 where

@@ -1,34 +1,7 @@
 -- The cache behind an append of a group.
-use Rattle.std.proofs.Common.{◌≡◌, ℕ, ◌+◌, ◌-◌, ◌*◌, ◌<◌, ◌≤◌, Bool, true, false, List, length, arith, refl, sym, ap, subst, ◌∙◌}
-use Rattle.std.specs.Prelude.{IsTrue, ◌↔◌}
-use Rattle.std.specs.List.{AllByRecursion}
-use Rattle.std.proofs.lemmas.Bool.{leb-true, leb-false, le-leb, eqb-false}
+use Rattle.flash_cache.proofs.Names.{◌≡◌, ℕ, ◌+◌, ◌-◌, ◌*◌, ◌<◌, ◌≤◌, Bool, true, false, List, length, arith, refl, sym, ap, subst, ◌∙◌, leb-true, leb-false, le-leb, eqb-false, AllByRecursion, IsTrue, ◌↔◌, AreGroupHeads, FrameHead, front_leaves, pushed_queue, Invariant, Matches, PagesExist, FlashCache, size_of_heads, frames_in, append_done, Appends, Groups, Segments, group_shape, usable_later, region, units_in, IsUsable, IsReady, Finds, Units, FitsIn, IsRing, SameOutside, hi_of, appended, Ring, Shape, Queue, pushed, Known, lengths_later, Preserves, OnlyDevice, State, Flash, all_push, all_drop, is_due}
 use Rattle.std.proofs.lemmas.List.{length-append}
-use Rattle.std_lemmas.proofs.AllOf.{all_push, all_drop}
-use Rattle.site.specs.declared.outside.Dev.TheVariants.{Flash}
-use Rattle.site.specs.State.{State}
-use Rattle.site.specs.Calls.{Preserves}
-use Rattle.site.specs.Moments.{OnlyDevice}
-use Rattle.sealed_ring.specs.declared.slots.Shape.{Shape}
-use Rattle.sealed_ring.specs.declared.ring.Ring.{Ring}
-use Rattle.sealed_ring.specs.Ring.{Units, FitsIn, IsRing, SameOutside, hi_of, appended}
-use Rattle.sealed_ring.specs.Ready.{region, units_in, IsUsable, IsReady, Finds}
-use Rattle.image_changes.specs.Rings.{Groups, Segments, group_shape}
-use Rattle.image_changes.specs.Changes.{Appends}
-use Rattle.image_changes.proofs.AppendLaws.{append_done}
-use Rattle.byte_fields.specs.declared.frame_head.FrameHead.{FrameHead}
-use Rattle.byte_fields.specs.FrameHeads.{AreGroupHeads}
-use Rattle.second_chance.specs.declared.frame.Frame.{Frame as Known}
-use Rattle.second_chance.specs.Queue.{Queue, pushed}
-use Rattle.flash_directory.specs.Heads.{frames_in}
-use Rattle.flash_directory.proofs.Opened.{size_of_heads}
-use Rattle.tail_rebuild.specs.Saving.{is_due}
-use Rattle.flash_cache.specs.declared.cache.FlashCache.{FlashCache}
-use Rattle.flash_cache.specs.Representation.{Invariant, Matches, PagesExist}
-use Rattle.flash_cache.specs.Pushed.{front_leaves, pushed_queue}
 use Rattle.flash_cache.proofs.Standing.{rings_later, exist_in}
-use Rattle.site.proofs.Working.{lengths_later}
-use Rattle.sealed_ring.proofs.Stays.{usable_later}
 use Rattle.std.proofs.lemmas.Grind.{common_steps}
 
 -- nothing but counts of the ring's device changed, as far as the cache knows

@@ -1,18 +1,6 @@
 -- The directory's frames and those on flash.
-use Rattle.std.proofs.Common.{◌≡◌, ℕ, zero, suc, ◌+◌, ◌<◌, ◌==◌, Bool, true, false, cond, List, [], ◌∷◌, ◌++◌, length, get_or, map, Option, Some, None, option_map, add-one, arith, refl, sym, ap, ◌∙◌}
-use Rattle.std.specs.Option.{option_or}
-use Rattle.std.specs.Prelude.{Result, Err, IsErrOf}
-use Rattle.std.specs.List.{AllByRecursion}
-use Rattle.frame_group.specs.Groups.{Frame, group}
-use Rattle.frame_group.specs.Versions.{frames_of, last_frame}
-use Rattle.frame_group.proofs.LastFrames.{last_of_both}
-use Rattle.frame_group.proofs.Contents.{frames_are_in}
-use Rattle.second_chance.specs.declared.frame.Frame.{Frame as Known}
-use Rattle.second_chance.specs.Queue.{group_read, groups_read}
-use Rattle.flash_directory.specs.Heads.{last_in, last_place, in_first, in_next}
-use Rattle.flash_cache.specs.Representation.{Shows, AllTogether, HasFrames}
-use Rattle.site.specs.declared.geometry.Geometry.{Geometry}
 use Rattle.std.proofs.lemmas.Grind.{common_steps}
+use Rattle.flash_cache.proofs.Names.{◌≡◌, ℕ, zero, suc, ◌+◌, ◌<◌, ◌==◌, Bool, true, false, cond, List, [], ◌∷◌, ◌++◌, length, get_or, map, Option, Some, None, option_map, add-one, arith, refl, sym, ap, ◌∙◌, AllByRecursion, option_or, Result, Err, IsErrOf, Shows, AllTogether, HasFrames, last_in, last_place, in_first, in_next, frames_are_in, last_of_both, Frame, group, frames_of, last_frame, group_read, groups_read, Known, Geometry}
 
 -- the last frame of a page in a group
 

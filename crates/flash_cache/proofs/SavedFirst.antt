@@ -1,31 +1,7 @@
 -- A segment is saved first, where one is due, and a group is pushed behind it.
-use Rattle.std.proofs.Common.{arith, ◌≡◌, inl, inr, ℕ, Bool, List, [], ◌++◌, sym, ap, subst, ◌∙◌, append_assoc}
-use Rattle.site.specs.declared.geometry.Geometry.{Geometry}
-use Rattle.std.specs.Prelude.{Ok, IsTrue}
-use Rattle.site.specs.declared.outside.Dev.TheVariants.{Flash}
-use Rattle.site.specs.State.{State, Image, Snapshot, IsQuiet}
-use Rattle.site.specs.Calls.{Preserves}
-use Rattle.site.specs.Moments.{Leaves, LeavesOnly, ChangesOnly}
-use Rattle.site.proofs.Laws.{in_sequence, leaves_weaker}
-use Rattle.sealed_ring.specs.declared.ring.Ring.{Ring}
-use Rattle.sealed_ring.specs.Ring.{Units}
-use Rattle.sealed_ring.specs.Ready.{Finds}
-use Rattle.byte_fields.specs.declared.frame_head.FrameHead.{FrameHead}
-use Rattle.image_changes.specs.Rings.{segment_shape}
-use Rattle.image_changes.specs.Changes.{Change, Reaches}
-use Rattle.image_changes.specs.Reached.{IsReached, IsFrontOf, LeavesFront}
-use Rattle.image_changes.proofs.Sequence.{changes_add_up}
-use Rattle.stage_out.specs.Staged.{HasStaged, changes_of}
-use Rattle.frame_group.specs.Groups.{Frame, group}
-use Rattle.frame_group.specs.Versions.{frames_of}
-use Rattle.tail_rebuild.specs.Rebuilt.{AreRings}
-use Rattle.tail_rebuild.specs.Saving.{is_due, changes_of_save, Stands, Saves}
-use Rattle.flash_cache.specs.declared.cache.FlashCache.{FlashCache}
-use Rattle.flash_cache.specs.Representation.{Invariant, Matches, Represents, frames_on, version_on}
-use Rattle.flash_cache.specs.Pushed.{staged_pages, staged_contents, frames_pushed, changes_of_push, changes_before, changes_of_group, LeavesPush, LeavesPushBehind}
+use Rattle.flash_cache.proofs.Names.{arith, ◌≡◌, inl, inr, ℕ, Bool, List, [], ◌++◌, sym, ap, subst, ◌∙◌, append_assoc, Ok, IsTrue, FrameHead, staged_pages, staged_contents, frames_pushed, changes_of_push, changes_before, changes_of_group, LeavesPush, LeavesPushBehind, Invariant, Matches, Represents, frames_on, version_on, FlashCache, Frame, group, frames_of, changes_add_up, Change, Reaches, IsReached, IsFrontOf, LeavesFront, segment_shape, Finds, Units, Ring, in_sequence, leaves_weaker, lengths_later, Preserves, Leaves, LeavesOnly, ChangesOnly, State, Image, Snapshot, IsQuiet, Geometry, Flash, HasStaged, changes_of, AreRings, is_due, changes_of_save, Stands, Saves}
 use Rattle.flash_cache.proofs.Segments.{groups_are}
 use Rattle.flash_cache.proofs.PushedImages.{keeps_by, saving_only}
-use Rattle.site.proofs.Working.{lengths_later}
 use Rattle.std.proofs.lemmas.Grind.{common_steps}
 
 -- What stands before the save, and the cache behind it.

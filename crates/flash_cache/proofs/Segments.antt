@@ -1,26 +1,8 @@
 -- Segments follow the groups at each moment of a push.
-use Rattle.std.proofs.Common.{◌≡◌, ℕ, ◌+◌, ◌-◌, ◌*◌, ◌<◌, ◌≤◌, Bool, true, false, List, [], ◌∷◌, ◌++◌, length, map, arith, refl, ap, subst, ◌∙◌}
-use Rattle.std.specs.List.{AllByRecursion}
-use Rattle.std.proofs.lemmas.Bool.{eqb-true, eqb-false}
-use Rattle.std_lemmas.proofs.AllOf.{all_left}
-use Rattle.site.specs.declared.geometry.Geometry.{Geometry}
-use Rattle.site.specs.Geometry.{HasLimits}
-use Rattle.site.specs.State.{Image}
-use Rattle.sealed_ring.specs.Ring.{Units, hi_of}
-use Rattle.byte_fields.specs.FrameHeads.{spelling_of_all}
-use Rattle.image_changes.specs.Rings.{Groups, Segments, group_shape, segment_shape, KeepsUnits}
-use Rattle.image_changes.specs.Changes.{Change, RewritesPages, AppendsGroup, AppendsSegment, ReadsAs, Appends, Reaches}
-use Rattle.image_changes.specs.Reached.{IsFrontOf}
-use Rattle.image_changes.proofs.Sequence.{reaches_parts}
-use Rattle.stage_out.specs.Staged.{changes_of}
-use Rattle.frame_group.specs.Groups.{Frame, group, frames_in}
-use Rattle.frame_group.proofs.Contents.{frames_are_in}
+use Rattle.flash_cache.proofs.Names.{◌≡◌, ℕ, ◌+◌, ◌-◌, ◌*◌, ◌<◌, ◌≤◌, Bool, true, false, List, [], ◌∷◌, ◌++◌, length, map, arith, refl, ap, subst, ◌∙◌, eqb-true, eqb-false, AllByRecursion, spelling_of_all, pushed_groups, changes_of_push, HasFrames, HasGroups, AreSaved, AllTogether, Shows, groups_on, FlashCache, frames_are_in, Frame, group, reaches_parts, Change, RewritesPages, AppendsGroup, AppendsSegment, ReadsAs, Appends, Reaches, IsFrontOf, Groups, Segments, group_shape, segment_shape, KeepsUnits, Units, hi_of, HasLimits, Image, Geometry, changes_of, all_left, is_due, segment_of, changes_of_save}
+use Rattle.frame_group.specs.Groups.{frames_in}
 use Rattle.tail_rebuild.specs.Laws.{with_group}
-use Rattle.tail_rebuild.specs.Saving.{is_due, segment_of, changes_of_save}
 use Rattle.tail_rebuild.proofs.Following.{groups_again, saved_again, segment_saved, group_pushed}
-use Rattle.flash_cache.specs.declared.cache.FlashCache.{FlashCache}
-use Rattle.flash_cache.specs.Representation.{HasFrames, HasGroups, AreSaved, AllTogether, Shows, groups_on}
-use Rattle.flash_cache.specs.Pushed.{pushed_groups, changes_of_push}
 use Rattle.flash_cache.proofs.Queues.{together_length}
 use Rattle.flash_cache.proofs.Pushing.{leaves_when, stays_when}
 use Rattle.flash_cache.proofs.PushedImages.{made_as}

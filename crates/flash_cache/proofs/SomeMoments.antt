@@ -1,11 +1,6 @@
 -- Moments within calls, one after the other.
-use Rattle.std.proofs.Common.{◌≡◌, ◌<◌, List, [], ◌∷◌, ◌++◌, length, arith, refl, sym, ap, subst, ◌∙◌, append_assoc, length-append}
-use Rattle.std.specs.List.{AllByRecursion, Contains}
-use Rattle.std.proofs.lemmas.List.{drop_at}
-use Rattle.site.specs.State.{State, Moment}
-use Rattle.site.specs.Moments.{EachMoment, since}
-use Rattle.flash_cache.specs.OnDisk.{SomeMoment}
 use Rattle.std.proofs.lemmas.Grind.{common_steps}
+use Rattle.flash_cache.proofs.Names.{◌≡◌, ◌<◌, List, [], ◌∷◌, ◌++◌, length, arith, refl, sym, ap, subst, ◌∙◌, append_assoc, length-append, drop_at, AllByRecursion, Contains, SomeMoment, EachMoment, since, State, Moment}
 
 -- where a call was made each moment has Q, and so some one
 pub some_of : (old new : State) (Q : Moment → Type 0) → EachMoment old new Q → length old.past < length new.past → SomeMoment old new Q

@@ -1,36 +1,10 @@
 -- What a push reads of the front group, and the group that it appends.
-use Rattle.std.proofs.Common.{◌≡◌, ℕ, suc, ◌+◌, ◌-◌, ◌<◌, ◌≤◌, Bool, List, [], ◌∷◌, ◌++◌, length, get_or, map, arith, refl, sym, ap, subst, ◌∙◌}
-use Rattle.std.specs.List.{All, AllByRecursion}
-use Rattle.std.proofs.lemmas.List.Elements.{recursion_from_All, All-from_recursion}
-use Rattle.std.proofs.lemmas.List.{map-append, length-append}
-use Rattle.std.proofs.lemmas.Option.{slice_get_within}
-use Rattle.std_lemmas.proofs.AllOf.{all_append}
-use Rattle.std_lemmas.proofs.Lists.{map_map}
-use Rattle.site.specs.declared.geometry.Geometry.{Geometry}
-use Rattle.site.specs.State.{State}
-use Rattle.sealed_ring.specs.declared.slots.Shape.{Shape}
-use Rattle.sealed_ring.specs.Ring.{unit_at}
-use Rattle.sealed_ring.specs.Ready.{units_in}
-use Rattle.byte_fields.specs.declared.frame_head.FrameHead.{FrameHead}
-use Rattle.frame_group.specs.Groups.{Frame, IsFrame, group, heads_of}
-use Rattle.frame_group.proofs.Pages.{pages_stand}
-use Rattle.second_chance.specs.declared.frame.Frame.{Frame as Known}
-use Rattle.second_chance.specs.Queue.{front_marks, frame_of as known_of}
-use Rattle.second_chance.specs.Plans.{Placed}
-use Rattle.second_chance.specs.Machine.{chance_frame}
-use Rattle.byte_fields.specs.declared.frame_head.Mark.{Mark}
-use Rattle.flash_directory.specs.Heads.{frames_in}
-use Rattle.flash_cache.specs.declared.cache.FlashCache.{FlashCache}
-use Rattle.flash_cache.specs.Representation.{Invariant, Represents, HasFrames, AllTogether, Shows, version_on}
-use Rattle.flash_cache.specs.declared.leaving.DepartingFrames.{DepartingFrames}
-use Rattle.flash_cache.specs.Leaving.{page_at, AreAt, again}
-use Rattle.flash_cache.specs.declared.cache.PushPlan.{PushPlan}
-use Rattle.flash_cache.specs.Pushed.{IsPlan, no_frame, staged_marks, staged_pages, chance_marks, chance_given, pages_pushed, frames_given, known_given, frames_pushed, known_pushed}
+use Rattle.flash_cache.proofs.Names.{◌≡◌, ℕ, suc, ◌+◌, ◌-◌, ◌<◌, ◌≤◌, Bool, List, [], ◌∷◌, ◌++◌, length, get_or, map, arith, refl, sym, ap, subst, ◌∙◌, map-append, recursion_from_All, All-from_recursion, slice_get_within, All, AllByRecursion, FrameHead, Mark, page_at, AreAt, again, IsPlan, no_frame, staged_marks, staged_pages, chance_marks, chance_given, pages_pushed, frames_given, known_given, frames_pushed, known_pushed, Invariant, Represents, HasFrames, AllTogether, Shows, version_on, FlashCache, PushPlan, DepartingFrames, frames_in, pages_stand, Frame, IsFrame, group, heads_of, units_in, unit_at, Shape, chance_frame, Placed, front_marks, known_of, Known, State, Geometry, all_append, map_map, stands}
+use Rattle.std.proofs.lemmas.List.{length-append}
 use Rattle.flash_cache.proofs.Given.{length-given, known_of_given}
 use Rattle.flash_cache.proofs.StagedFrames.{frames_at}
 use Rattle.flash_cache.proofs.PushedOutcome.{stored}
 use Rattle.flash_cache.proofs.Queues.{together_length, has_at}
-use Rattle.tail_rebuild.proofs.Standing.{stands}
 use Rattle.flash_cache.proofs.Standing.{known_heads, length-mapped}
 use Rattle.flash_cache.proofs.StagedMarks.{AreNumbered, length-marks, read_at, marks_exist, chances_numbered, staged_among, chances_among}
 use Rattle.std.proofs.lemmas.Grind.{common_steps}

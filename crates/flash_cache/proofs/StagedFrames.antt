@@ -1,20 +1,6 @@
 -- The frames that a push stages and those that it gives a second chance, as they stand on flash: each is the last one of its page.
-use Rattle.std.proofs.Common.{◌≡◌, ℕ, zero, suc, ◌+◌, ◌<◌, ◌==◌, Bool, true, false, true≢false, not, ◌&&◌, ◌||◌, cond, List, [], ◌∷◌, length, get_or, map, filter, Option, Some, None, is_some, arith, refl, sym, ap, subst, ◌∙◌}
-use Rattle.std.specs.List.{enumerate_from}
-use Rattle.std.specs.Option.{option_or}
-use Rattle.std.proofs.lemmas.Bool.{and_parts, eqb-true, eq-eqb, ne_eqb}
-use Rattle.std.proofs.lemmas.List.{get_or-take, length-take}
-use Rattle.std.proofs.lemmas.Option.{none-some, same_Some, cond_some}
+use Rattle.flash_cache.proofs.Names.{◌≡◌, ℕ, zero, suc, ◌+◌, ◌<◌, ◌==◌, Bool, true, false, true≢false, not, ◌&&◌, ◌||◌, cond, List, [], ◌∷◌, length, get_or, map, filter, Option, Some, None, is_some, arith, refl, sym, ap, subst, ◌∙◌, and_parts, eqb-true, eq-eqb, ne_eqb, get_or-take, length-take, none-some, same_Some, cond_some, enumerate_from, option_or, Mark, no_frame, AllTogether, Shows, last_of_both, last_is_of_page, Frame, last_frame, Placed, chances_of, staged_of, is_among, in_group, in_groups, is_last, mark_of, group_marks, Known}
 use Rattle.std_lemmas.proofs.Options.{none_if_no_some}
-use Rattle.frame_group.specs.Groups.{Frame}
-use Rattle.frame_group.specs.Versions.{last_frame}
-use Rattle.frame_group.proofs.LastFrames.{last_of_both, last_is_of_page}
-use Rattle.second_chance.specs.declared.frame.Frame.{Frame as Known}
-use Rattle.second_chance.specs.Queue.{in_group, in_groups, is_last, mark_of, group_marks}
-use Rattle.byte_fields.specs.declared.frame_head.Mark.{Mark}
-use Rattle.second_chance.specs.Plans.{Placed, chances_of, staged_of, is_among}
-use Rattle.flash_cache.specs.Representation.{AllTogether, Shows}
-use Rattle.flash_cache.specs.Pushed.{no_frame}
 use Rattle.flash_cache.proofs.Queues.{joined}
 use Rattle.std.proofs.lemmas.Grind.{common_steps}
 

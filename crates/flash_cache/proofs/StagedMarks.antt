@@ -1,24 +1,6 @@
 -- The frames that a push stages, and its second chances, by the marks of the front group.
-use Rattle.std.proofs.Common.{◌≡◌, ◌≢◌, ℕ, zero, suc, ◌+◌, ◌<◌, ◌≤◌, Bool, true, false, cond, List, [], ◌∷◌, length, get_or, map, Some, slice_get, arith, refl, sym, ap, subst, ◌∙◌}
-use Rattle.std.specs.List.{All, AllPairs, AllByRecursion}
-use Rattle.std.proofs.lemmas.List.{get_or-map, length-map}
-use Rattle.std.proofs.lemmas.List.Elements.{All-map, recursion_from_All}
-use Rattle.std.proofs.lemmas.Option.{get_or_from_slice_get, slice_get_within, same_Some}
-use Rattle.byte_fields.specs.declared.frame_head.Mark.{Mark}
-use Rattle.second_chance.specs.declared.frame.Frame.{Frame as Known}
-use Rattle.second_chance.specs.Queue.{group_marks, front_marks}
-use Rattle.second_chance.specs.Plans.{Placed, chances_given, staged_of}
-use Rattle.second_chance.specs.Machine.{rules_of, leaving}
-use Rattle.site.specs.State.{State}
-use Rattle.sealed_ring.specs.Ring.{IsLive}
-use Rattle.flash_cache.specs.Representation.{Invariant}
-use Rattle.stage_out.specs.Staged.{calls_of}
-use Rattle.second_chance.proofs.DistinctStaged.{staged_stand_in, staged_apart}
+use Rattle.flash_cache.proofs.Names.{◌≡◌, ◌≢◌, ℕ, zero, suc, ◌+◌, ◌<◌, ◌≤◌, Bool, true, false, cond, List, [], ◌∷◌, length, get_or, map, Some, slice_get, arith, refl, sym, ap, subst, ◌∙◌, get_or-map, length-map, All-map, recursion_from_All, get_or_from_slice_get, slice_get_within, same_Some, All, AllPairs, AllByRecursion, Mark, no_mark, mark_at, front_leaves, staged_marks, staged_pages, chance_marks, IsPlan, Invariant, FlashCache, PushPlan, IsLive, staged_stand_in, staged_apart, rules_of, leaving, Placed, chances_given, staged_of, group_marks, front_marks, Known, State}
 use Rattle.second_chance.proofs.Chances.{chances_stand_in, chances_are_not_staged}
-use Rattle.flash_cache.specs.declared.cache.FlashCache.{FlashCache}
-use Rattle.flash_cache.specs.Leaving.{no_mark, mark_at}
-use Rattle.flash_cache.specs.declared.cache.PushPlan.{PushPlan}
-use Rattle.flash_cache.specs.Pushed.{front_leaves, staged_marks, staged_pages, chance_marks, IsPlan}
 use Rattle.std.proofs.lemmas.Grind.{common_steps}
 
 -- marks of a group
@@ -59,10 +41,6 @@ read_at f front marks places stand is =
 
 pub marks_exist : (pages : ℕ) (groups : List (List Known)) (marks : List Placed) → AreNumbered (front_marks groups) marks → AllByRecursion (λ frames. AllByRecursion (λ (frame : Known). frame.page < pages) frames) groups → All (λ page. page < pages) (map (λ f. f.1.page) marks)
 marks_exist pages groups marks stand exist = All-map (λ (page : ℕ). page < pages) (λ (f : Placed). f.1.page) marks (λ k d lt. front_exists pages groups _ _ exist (stand k d lt))
-
--- a page or a sync for each
-calls_most : (pages : List ℕ) (n : ℕ) → length pages ≤ n → calls_of pages ≤ n + 1
-calls_most pages n h = grind (arith, common_steps)
 
 module _ (cache : FlashCache) where
   abbrev front : List Mark
@@ -106,9 +84,6 @@ module _ (cache : FlashCache) where
   -- no more frames are read than the front group has
   pub reads_few : (staged chances : List ℕ) → AllByRecursion (λ frames. (1 ≤ length frames) × (length frames ≤ 8)) cache.directory.groups → staged ≡ map (λ f. f.0) (staged_marks cache) → chances ≡ map (λ f. f.0) (chance_marks cache) → length staged + length chances ≤ 8
   reads_few staged chances sizes is are = grind (arith, common_steps, length-map, chances_are_not_staged, marks_few, front_few)
-
-  pub calls_few : AllByRecursion (λ frames. (1 ≤ length frames) × (length frames ≤ 8)) cache.directory.groups → calls_of (staged_pages cache) ≤ 9
-  calls_few sizes = grind (arith, common_steps, reads_few, length-map, calls_most)
 
   apart_by : (given b : Bool) (groups : List (List Known)) → AllPairs (λ x y. x.1.page ≢ y.1.page) (staged_of given (cond b (front_marks groups) []))
   apart_by given b groups = grind (arith, common_steps, staged_apart)

@@ -1,20 +1,6 @@
 -- A push, device by device: pages are staged, and then a group is appended.
-use Rattle.std.specs.Prelude.{IsTrue}
-use Rattle.std.proofs.Common.{arith, ◌≡◌, ◌≢◌, inl, ℕ, List, [], ◌∷◌, refl, sym, ap, subst, ◌∙◌}
+use Rattle.flash_cache.proofs.Names.{arith, ◌≡◌, ◌≢◌, inl, ℕ, List, [], ◌∷◌, refl, sym, ap, subst, ◌∙◌, IsTrue, ChangesPages, LeavesPush, changes_of_push, Invariant, Matches, FlashCache, changes_add_up, reads_itself, AppendsGroup, Appends, Reaches, Groups, others_untouched, untouched_in_sequence, stays_honest, no_call, unchanged_calm, quiet_leaves, leaves_weaker, Preserves, IsUnchanged, Leaves, LeavesOnly, EachMoment, ChangesOnly, SameAt, Untouched, State, Image, Moment, Snapshot, IsQuiet, Geometry, Log, Flash, Disk, changes_of}
 use Rattle.site.specs.declared.outside.Dev.{Dev}
-use Rattle.site.specs.declared.outside.Dev.TheVariants.{Log, Flash, Disk}
-use Rattle.site.specs.State.{State, Image, Moment, Snapshot, IsQuiet}
-use Rattle.site.specs.Calls.{Preserves, IsUnchanged}
-use Rattle.site.specs.Moments.{Leaves, LeavesOnly, EachMoment, ChangesOnly, SameAt, Untouched}
-use Rattle.site.proofs.Laws.{others_untouched, untouched_in_sequence, stays_honest, no_call, unchanged_calm, quiet_leaves, leaves_weaker}
-use Rattle.image_changes.specs.Rings.{Groups}
-use Rattle.image_changes.specs.Changes.{AppendsGroup, Appends, Reaches}
-use Rattle.image_changes.proofs.Sequence.{changes_add_up, reads_itself}
-use Rattle.stage_out.specs.Staged.{changes_of}
-use Rattle.site.specs.declared.geometry.Geometry.{Geometry}
-use Rattle.flash_cache.specs.declared.cache.FlashCache.{FlashCache}
-use Rattle.flash_cache.specs.Representation.{Invariant, Matches}
-use Rattle.flash_cache.specs.Pushed.{ChangesPages, LeavesPush, changes_of_push}
 use Rattle.flash_cache.proofs.Pushing.{goes_on_same}
 use Rattle.std.proofs.lemmas.Grind.{common_steps}
 

@@ -1,21 +1,6 @@
 -- The rings on flash, and what the directory has of the groups there.
-use Rattle.std.proofs.Common.{◌≡◌, ℕ, zero, suc, ◌+◌, ◌-◌, ◌<◌, ◌≤◌, Bool, true, false, cond, List, [], ◌∷◌, ◌++◌, length, map, take, replicate, arith, refl, sym, ap, subst}
-use Rattle.std.specs.List.{All, AllByRecursion, take_while, prefix_len}
-use Rattle.site.specs.declared.geometry.Geometry.{Geometry}
-use Rattle.site.specs.State.{State}
-use Rattle.site.specs.Calls.{Preserves}
-use Rattle.sealed_ring.specs.declared.ring.Ring.{Ring}
-use Rattle.byte_fields.specs.declared.frame_head.FrameHead.{FrameHead}
-use Rattle.byte_fields.specs.FrameHeads.{blank, AreGroupHeads}
-use Rattle.frame_group.specs.Groups.{Frame, head_of, heads_of}
-use Rattle.second_chance.specs.declared.frame.Frame.{Frame as Known}
-use Rattle.second_chance.specs.Queue.{frame_of as known_of}
-use Rattle.flash_directory.specs.Heads.{frames_in}
-use Rattle.flash_directory.proofs.Opened.{size_of_heads}
-use Rattle.tail_rebuild.specs.Rebuilt.{AreRings}
-use Rattle.flash_cache.specs.Representation.{AllTogether, Shows, PagesExist}
-use Rattle.sealed_ring.proofs.Stays.{usable_later}
 use Rattle.std.proofs.lemmas.Grind.{common_steps}
+use Rattle.flash_cache.proofs.Names.{◌≡◌, ℕ, zero, suc, ◌+◌, ◌-◌, ◌<◌, ◌≤◌, Bool, true, false, cond, List, [], ◌∷◌, ◌++◌, length, map, take, replicate, arith, refl, sym, ap, subst, All, AllByRecursion, take_while, prefix_len, blank, AreGroupHeads, FrameHead, AllTogether, Shows, PagesExist, size_of_heads, frames_in, Frame, head_of, heads_of, usable_later, Ring, known_of, Known, Preserves, State, Geometry, AreRings}
 
 -- and so may both rings
 pub rings_later : (g : Geometry) (ring segments : Ring) (old new : State) → Preserves old new → AreRings g ring segments old → AreRings g ring segments new

@@ -1,24 +1,6 @@
 -- Which disk pages some changes of an image rewrite, and how many groups and segments they append, by how many calls.
-use Rattle.std.proofs.Common.{◌≡◌, Bool, true, false, ℕ, ◌+◌, ◌*◌, ◌<◌, ◌≤◌, List, [], ◌∷◌, ◌++◌, length, get_or, arith, refl, sym, ap, subst, ◌∙◌, append_assoc, append-nil}
-use Rattle.std.specs.Prelude.{if◌then◌else◌}
-use Rattle.std.specs.List.{Contains}
-use Rattle.std.proofs.lemmas.List.{same_lists}
-use Rattle.std.proofs.lemmas.List.Elements.{Contains-append_left, Contains-append_right}
+use Rattle.flash_cache.proofs.Names.{◌≡◌, Bool, true, false, ℕ, ◌+◌, ◌*◌, ◌<◌, ◌≤◌, List, [], ◌∷◌, ◌++◌, length, get_or, arith, refl, sym, ap, subst, ◌∙◌, append_assoc, append-nil, same_lists, Contains-append_left, Contains-append_right, Contains, if◌then◌else◌, IsBesidePage, page_on, changes_of_push, sum_of, calls_by, disk_on, Frame as Stored, Change, SealsBlock, RewritesPages, AppendsGroup, AppendsSegment, AppendsMaster, Makes, Reaches, IsFrontOf, RingName, Groups, Segments, group_shape, segment_shape, shape_of, units_on, KeepsUnits, Units, hi_of, Image, Geometry, Disk, changes_of, calls_of, changes_of_save}
 use Rattle.flash_cache.proofs.PushedVersions.{within_disk, octet_is, size_is, apart}
-use Rattle.site.specs.declared.geometry.Geometry.{Geometry}
-use Rattle.site.specs.declared.outside.Dev.TheVariants.{Disk}
-use Rattle.site.specs.State.{Image}
-use Rattle.sealed_ring.specs.Ring.{Units, hi_of}
-use Rattle.disk_pages.specs.Pages.{page_on}
-use Rattle.disk_pages.specs.Laws.{IsBesidePage}
-use Rattle.image_changes.specs.Rings.{RingName, Groups, Segments, group_shape, segment_shape, shape_of, units_on, KeepsUnits}
-use Rattle.image_changes.specs.Changes.{Change, SealsBlock, RewritesPages, AppendsGroup, AppendsSegment, AppendsMaster, Makes, Reaches}
-use Rattle.image_changes.specs.Reached.{IsFrontOf}
-use Rattle.frame_group.specs.Groups.{Frame as Stored}
-use Rattle.tail_rebuild.specs.Saving.{changes_of_save}
-use Rattle.flash_cache.specs.Representation.{disk_on}
-use Rattle.stage_out.specs.Staged.{changes_of, calls_of}
-use Rattle.flash_cache.specs.Pushed.{changes_of_push, sum_of, calls_by}
 use Rattle.std.proofs.lemmas.Grind.{common_steps}
 
 -- A page of the disk beside which alone octets differ is as it was, whether it lies on the disk or not.

@@ -20,7 +20,7 @@ ghost use Rattle.tail_rebuild.specs.Listing.{ReadsFlash};
 ghost use Rattle.tail_rebuild.specs.Saving.{is_due, LeavesGaps};
 ghost use Rattle.second_chance.specs.Queue.{has_frame, with_read, marks, front_marks};
 ghost use Rattle.second_chance.specs.Machine.{rules_of, leaving};
-ghost use Rattle.stage_out.specs.Staged.{HasStaged, calls_of};
+ghost use Rattle.stage_out.specs.Staged.{HasStaged, calls_of, unsynced_in};
 ghost use Rattle.flash_directory.specs.Heads.{frames_in};
 ghost use Rattle.flash_cache.specs.Calls.{KeepsCache};
 ghost use Rattle.flash_cache.specs.Representation.{Invariant, Matches, IsNext, HasGroups};
@@ -219,11 +219,14 @@ impl FlashCache {
             → Untouched Dev.Disk (S.state site.old) (S.state site.new) }
 
         // Five calls for a segment that is due, one for each page that is staged and for the sync, and five for the
-        // group.
+        // group. Only those of staging find something of the disk loose.
         ensures device_calls { IsTrue (S.state site.old).honest
             → OnOk result (length (S.state site.new).past ≡ length (S.state site.old).past
             + ((if is_due self.old.ring.hi self.old.segments.hi then 5 else 0)
             + (calls_of (staged_pages self.old) + 5))) }
+        ensures unsynced { IsTrue (S.state site.old).honest → IsSettled Dev.Disk (S.state site.old)
+            → OnOk result (unsynced_in (S.state site.new).past
+            ≡ unsynced_in (S.state site.old).past + calls_of (staged_pages self.old)) }
 
         // Of every site.
         ensures directory { OnOk result (self.new.directory
@@ -314,6 +317,9 @@ impl FlashCache {
         ensures device_calls { IsTrue (S.state site.old).honest
             → OnOk result (length (S.state site.new).past
             ≡ length (S.state site.old).past + (calls_of (staged_pages self.old) + 5)) }
+        ensures unsynced { IsTrue (S.state site.old).honest → IsSettled Dev.Disk (S.state site.old)
+            → OnOk result (unsynced_in (S.state site.new).past
+            ≡ unsynced_in (S.state site.old).past + calls_of (staged_pages self.old)) }
 
         // Of every site.
         ensures directory { OnOk result (self.new.directory
@@ -383,6 +389,9 @@ impl FlashCache {
         ensures device_calls { IsTrue (S.state site.old).honest
             → OnOk result (length (S.state site.new).past
             ≡ length (S.state site.old).past + (calls_of staged.now + 5)) }
+        ensures unsynced { IsTrue (S.state site.old).honest → IsSettled Dev.Disk (S.state site.old)
+            → OnOk result (unsynced_in (S.state site.new).past
+            ≡ unsynced_in (S.state site.old).past + calls_of staged.now) }
 
         // Of every site.
         ensures ok { OnOk result (self.new.directory ≡ pushed_queue self.old (frames_in heads.now)) }

@@ -1,16 +1,7 @@
 -- The frames of one group.
-use Rattle.std.proofs.Common.{◌≡◌, ℕ, zero, suc, ◌+◌, ◌<◌, ◌==◌, Bool, true, false, cond, List, [], ◌∷◌, ◌++◌, length, get_or, set, take, drop, map, Option, Some, None, append-nil, append_assoc, add-one, arith, refl, sym, ap, ◌∙◌}
+use Rattle.flash_directory.proofs.Names.{◌≡◌, ℕ, zero, suc, ◌+◌, ◌<◌, ◌==◌, Bool, true, false, cond, List, [], ◌∷◌, ◌++◌, length, get_or, set, take, drop, map, Option, Some, None, append-nil, append_assoc, add-one, arith, refl, sym, ap, ◌∙◌, length-set, take_all, drop_all, take_while-cons, refill, option_or, FrameHead, frames_in, last_in, read_at, frame_of, Frame}
 use Rattle.std.specs.Prelude.{take_while}
-use Rattle.std.specs.List.{refill}
-use Rattle.std.specs.Option.{option_or}
 use Rattle.std.proofs.Math.Seq.{drop-cons}
-use Rattle.std.proofs.Math.ListN.{length-set}
-use Rattle.std.proofs.lemmas.List.{take_all, drop_all}
-use Rattle.std.proofs.lemmas.List.Sums.{take_while-cons}
-use Rattle.byte_fields.specs.declared.frame_head.FrameHead.{FrameHead}
-use Rattle.second_chance.specs.declared.frame.Frame.{Frame}
-use Rattle.second_chance.specs.Queue.{frame_of}
-use Rattle.flash_directory.specs.Heads.{frames_in, last_in, read_at}
 
 -- the frames of heads, the first of which is present
 frames_in-cons : (b : Bool) (head : FrameHead) (heads : List FrameHead) → head.present ≡ b

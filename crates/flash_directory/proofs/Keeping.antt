@@ -1,15 +1,5 @@
 -- The places that a directory keeps, as groups enter the queue and leave it.
-use Rattle.std.proofs.Common.{◌≡◌, ℕ, zero, suc, ◌+◌, ◌-◌, ◌<◌, ◌≤◌, ◌==◌, ◌||◌, ◌↔◌, not, Bool, true, false, cond, List, [], ◌∷◌, ◌++◌, length, get_or, take, drop, Option, Some, None, option_map, is_some, IsTrue, add-one, arith, refl, sym, ap, subst, ◌∙◌}
-use Rattle.std.specs.Option.{option_or}
-use Rattle.std.proofs.lemmas.Option.{none-some, same_Some}
-use Rattle.std.proofs.lemmas.Bool.{eq-eqb, ne_eqb, cond-true, true≢false}
-use Rattle.std_lemmas.proofs.Options.{option_or_none, none_if_no_some, some_mapped, option_or_assoc}
-use Rattle.std_lemmas.proofs.Bools.{same_bools}
-use Rattle.second_chance.specs.declared.frame.Frame.{Frame}
-use Rattle.second_chance.specs.Queue.{Queue, in_group, in_groups, is_last, groups_read, group_read}
-use Rattle.flash_directory.specs.declared.place.Place.{Place}
-use Rattle.flash_directory.specs.Heads.{last_in, last_place, last_among, place_in, newest, IsNewest, IsQueue}
-use Rattle.flash_directory.specs.Places.{elsewhere, newer}
+use Rattle.flash_directory.proofs.Names.{◌≡◌, ℕ, zero, suc, ◌+◌, ◌-◌, ◌<◌, ◌≤◌, ◌==◌, ◌||◌, ◌↔◌, not, Bool, true, false, cond, List, [], ◌∷◌, ◌++◌, length, get_or, take, drop, Option, Some, None, option_map, is_some, IsTrue, add-one, arith, refl, sym, ap, subst, ◌∙◌, eq-eqb, ne_eqb, cond-true, true≢false, none-some, same_Some, option_or, last_in, last_place, last_among, place_in, newest, IsNewest, IsQueue, elsewhere, newer, Place, Queue, in_group, in_groups, is_last, groups_read, group_read, Frame, same_bools, option_or_none, none_if_no_some, some_mapped, option_or_assoc}
 use Rattle.flash_directory.proofs.Frames.{last_more}
 use Rattle.flash_directory.proofs.Newest.{placed, last_among-place, some_last_in, some_last_place, found_here, place_bound, IsPlaceIn}
 use Rattle.flash_directory.proofs.Newests.{newest_is, last_here, later_none, IsLastHere}

@@ -1,3 +1,4 @@
+mod Names
 pub mod Frames
 pub mod Newest
 pub mod Reading

@@ -1,9 +1,6 @@
 -- The marks of a group's frames, one by one.
-use Rattle.std.proofs.Common.{◌≡◌, ℕ, zero, suc, ◌+◌, ◌<◌, List, [], ◌∷◌, ◌++◌, length, get_or, set, take, drop, Some, slice_get, add-one, arith, refl, sym, ap, ◌∙◌}
-use Rattle.std.proofs.lemmas.List.{take_more, take_more_set, take_all}
+use Rattle.flash_directory.proofs.Names.{◌≡◌, ℕ, zero, suc, ◌+◌, ◌<◌, List, [], ◌∷◌, ◌++◌, length, get_or, set, take, drop, Some, slice_get, add-one, arith, refl, sym, ap, ◌∙◌, take_more, take_more_set, take_all, is_last, mark_of, group_marks, marks_of_groups, Frame}
 use Rattle.byte_fields.specs.declared.frame_head.Mark.{Mark}
-use Rattle.second_chance.specs.declared.frame.Frame.{Frame}
-use Rattle.second_chance.specs.Queue.{is_last, mark_of, group_marks, marks_of_groups}
 
 pub length-group_marks : (group : List Frame) (later : List (List Frame)) → length (group_marks group later) ≡ length group
 length-group_marks [] later = refl

@@ -1,13 +1,5 @@
 -- Where the last frame of a page stands.
-use Rattle.std.proofs.Common.{◌≡◌, ℕ, zero, suc, ◌+◌, ◌<◌, ◌≤◌, ◌==◌, ◌||◌, Bool, true, false, cond, List, [], ◌∷◌, length, get_or, drop, Option, Some, None, option_map, is_some, add-one, arith, refl, sym, ap, subst, ◌∙◌}
-use Rattle.std.specs.Option.{option_or}
-use Rattle.std.specs.List.{AllByRecursion}
-use Rattle.std.proofs.lemmas.Option.{none-some, same_Some}
-use Rattle.std_lemmas.proofs.Options.{some_mapped}
-use Rattle.second_chance.specs.declared.frame.Frame.{Frame}
-use Rattle.second_chance.specs.Queue.{in_group, in_groups}
-use Rattle.flash_directory.specs.declared.place.Place.{Place}
-use Rattle.flash_directory.specs.Heads.{last_in, last_place, last_among, in_first, in_next, place_in}
+use Rattle.flash_directory.proofs.Names.{◌≡◌, ℕ, zero, suc, ◌+◌, ◌<◌, ◌≤◌, ◌==◌, ◌||◌, Bool, true, false, cond, List, [], ◌∷◌, length, get_or, drop, Option, Some, None, option_map, is_some, add-one, arith, refl, sym, ap, subst, ◌∙◌, none-some, same_Some, AllByRecursion, option_or, last_in, last_place, last_among, in_first, in_next, place_in, Place, in_group, in_groups, Frame, some_mapped}
 
 -- There is one exactly where the page has a frame.
 

@@ -1,11 +1,5 @@
 -- That what is found is the last frame of its page.
-use Rattle.std.proofs.Common.{◌≡◌, ℕ, zero, suc, ◌+◌, ◌-◌, ◌≤◌, ◌==◌, Bool, true, false, cond, List, [], ◌∷◌, get_or, drop, slice_get, Option, Some, None, option_map, is_some, add-one, arith, refl, sym, ap, subst, ◌∙◌}
-use Rattle.std.specs.Option.{option_or}
-use Rattle.std.proofs.lemmas.Option.{none-some, same_Some}
-use Rattle.std.proofs.lemmas.Bool.{eqb-true}
-use Rattle.second_chance.specs.declared.frame.Frame.{Frame}
-use Rattle.second_chance.specs.Queue.{Queue, in_group, in_groups}
-use Rattle.flash_directory.specs.Heads.{last_in, last_place, in_first, in_next, place_in, IsNewest, IsQueue}
+use Rattle.flash_directory.proofs.Names.{◌≡◌, ℕ, zero, suc, ◌+◌, ◌-◌, ◌≤◌, ◌==◌, Bool, true, false, cond, List, [], ◌∷◌, get_or, drop, slice_get, Option, Some, None, option_map, is_some, add-one, arith, refl, sym, ap, subst, ◌∙◌, eqb-true, none-some, same_Some, option_or, last_in, last_place, in_first, in_next, place_in, IsNewest, IsQueue, Queue, in_group, in_groups, Frame}
 use Rattle.flash_directory.proofs.Newest.{some_last_in, some_last_place, last_bound, place_bound, size_at, IsPlaceIn}
 
 -- the frame at a place of a group is of the page, and none behind it is

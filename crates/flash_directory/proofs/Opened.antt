@@ -1,14 +1,7 @@
 -- The queue of groups with given heads.
-use Rattle.std.proofs.Common.{◌≡◌, ℕ, ◌+◌, ◌^◌, ◌<◌, ◌≤◌, Bool, true, false, List, [], ◌∷◌, ◌++◌, length, length-append, length-drop, get_or, drop, take, map, All, arith, refl, sym, ap, subst, ◌∙◌}
-use Rattle.std.specs.List.{AllByRecursion}
-use Rattle.std.proofs.lemmas.List.{length-map, length-take-le, take_all, take_more}
+use Rattle.flash_directory.proofs.Names.{◌≡◌, ℕ, ◌+◌, ◌^◌, ◌<◌, ◌≤◌, Bool, true, false, List, [], ◌∷◌, ◌++◌, length, length-append, length-drop, get_or, drop, take, map, All, arith, refl, sym, ap, subst, ◌∙◌, length-map, length-take-le, take_all, take_more, prefix_len-le-length, AllByRecursion, FrameHead, frames_in, IsQueue, Queue, frame_of, pushed, Frame}
 use Rattle.std.proofs.lemmas.List.Elements.{recursion_from_All}
-use Rattle.std.proofs.lemmas.List.Sums.{prefix_len-le-length}
-use Rattle.byte_fields.specs.declared.frame_head.FrameHead.{FrameHead}
 use Rattle.byte_fields.specs.FrameHeads.{AreGroupHeads, present_in_front}
-use Rattle.second_chance.specs.declared.frame.Frame.{Frame}
-use Rattle.second_chance.specs.Queue.{Queue, frame_of, pushed}
-use Rattle.flash_directory.specs.Heads.{frames_in, IsQueue}
 
 pub length-frames_in : (heads : List FrameHead) → length (frames_in heads) ≡ present_in_front heads
 length-frames_in heads =

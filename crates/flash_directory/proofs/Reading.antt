@@ -1,16 +1,7 @@
 -- The queue once a page was read from it.
-use Rattle.std.proofs.Common.{◌≡◌, ℕ, zero, suc, ◌+◌, ◌≤◌, ◌==◌, ◌||◌, ◌&&◌, not, Bool, true, false, cond, List, [], ◌∷◌, length, get_or, set, Option, Some, None, option_map, is_some, add-one, arith, refl, sym, ap, subst, ◌∙◌}
-use Rattle.std.specs.Option.{option_or}
-use Rattle.std.specs.List.{AllByRecursion}
+use Rattle.flash_directory.proofs.Names.{◌≡◌, ℕ, zero, suc, ◌+◌, ◌≤◌, ◌==◌, ◌||◌, ◌&&◌, not, Bool, true, false, cond, List, [], ◌∷◌, length, get_or, set, Option, Some, None, option_map, is_some, add-one, arith, refl, sym, ap, subst, ◌∙◌, eqb-true, none-some, same_Some, AllByRecursion, option_or, last_in, last_place, in_first, in_next, read_at, group_read_none, groups_read_none, in_group, in_groups, is_last, group_read, groups_read, Frame, and_false, or_true}
 use Rattle.std.proofs.Math.Bool.{or-false}
-use Rattle.std.proofs.lemmas.Option.{none-some, same_Some}
-use Rattle.std.proofs.lemmas.Bool.{eqb-true}
-use Rattle.std_lemmas.proofs.Bools.{and_false, or_true}
-use Rattle.second_chance.specs.declared.frame.Frame.{Frame}
-use Rattle.second_chance.specs.Queue.{in_group, in_groups, is_last, group_read, groups_read}
-use Rattle.flash_directory.specs.Heads.{last_in, last_place, in_first, in_next, read_at}
 use Rattle.flash_directory.proofs.Newest.{some_last_in, some_last_place, last_bound}
-use Rattle.second_chance.proofs.Unread.{group_read_none, groups_read_none}
 
 reads_last : (page : ℕ) (behind : List Frame) (later : List (List Frame)) (frame : Frame)
     → (frame.page == page && is_last behind later frame) ≡ (frame.page == page && not (in_group behind page || in_groups later page))

@@ -3,11 +3,12 @@ use Rattle.std.proofs.Common.{◌≡◌, ◌⊎◌, inl, inr, ◌++◌, ◌≤�
 use Rattle.std.specs.Prelude.{Result, Ok, Err, None}
 use Rattle.std.proofs.lemmas.Bool.{cases_lt}
 use Rattle.site.specs.declared.outside.Dev.{Dev}
+use Rattle.site.specs.declared.outside.Dev.TheVariants.{Log, Flash, Disk}
 use Rattle.site.specs.declared.outside.Failed.{Failed as CallFailed}
 use Rattle.site.specs.declared.outside.Stop.{Stop}
 use Rattle.site.specs.declared.outside.Stop.TheVariants.{Device, Memory, Worn, Foreign}
 use Rattle.site.specs.State.{State, Image, faults_of}
-use Rattle.site.specs.Calls.{Preserves, IsUnchanged, Rose}
+use Rattle.site.specs.Calls.{Preserves, IsUnchanged, Rose, SameReads}
 use Rattle.site.proofs.Laws.{stays_honest, unchanged_devices, devices_in_sequence}
 use Rattle.site.specs.Work.{IsOutside}
 use Rattle.image_check.specs.declared.verdict.Verdict.{Verdict}
@@ -19,6 +20,8 @@ use Rattle.image_check.specs.Laws.{SoundFailsNone}
 use Rattle.image_form.specs.Findings.{SizesAre}
 use Rattle.front_end.specs.declared.halt.Halt.TheVariants as halt
 use Rattle.front_end.specs.Faults.{FirstDecides, NoFaultRose, SameFaults}
+use Rattle.image_form.specs.Counted.{ReadsBySizes}
+use Rattle.image_check.specs.Deciding.{log_checked, pages_checked}
 use Rattle.front_end.specs.Check.{AreSound, Check, CheckContract, FailsUnread, IsAnswer, SaysSound, SaysUnsound, unsound_line, verdict_line, verdict_status}
 use Rattle.front_end.specs.Tells.{Tells}
 use Rattle.front_end.specs.Texts.{fault_line, status_of}
@@ -136,8 +139,26 @@ complete_by status line old new answer (inr (inr (inl is))) none = inr (inr is)
 complete_by status line old new answer (inr (inr (inr (inl is)))) none = absurd (none.output (answer.output is).1)
 complete_by status line old new answer (inr (inr (inr (inr is)))) none = inr (inl is)
 
-pub contract : SoundFailsNone → (old new : State) (status : ℕ) → (does : Check old new status) → Others status → (SizesAre None old.image → FailsUnread old new status ⊎ LacksMemory status old new) → ((status ≡ 0) ⊎ (status ≡ 11) → SameFaults old new) → CheckContract old new status
-contract fails_none old new status does others sizes faultless = record {
+-- the devices are read no more where nothing is told but text
+pub looks_told : (old mid new : State) → ReadsBySizes log_checked pages_checked old mid → SameReads mid new → ReadsBySizes log_checked pages_checked old new
+looks_told old mid new looks same = record {
+  sizes = λ g has.
+      let few = looks.sizes g has in
+      let log = few.log in
+      let pages = few.pages in
+      let log' = same Log in
+      let flash' = same Flash in
+      let disk' = same Disk in
+      record { log = omega (arith, log, log'); pages = omega (arith, pages, flash', disk') };
+  none = λ off d. same d ∙ looks.none off d;
+}
+
+pub looks_none : (old : State) → ReadsBySizes log_checked pages_checked old old
+looks_none old = record { sizes = λ g has. record { log = omega arith; pages = omega arith }; none = λ off d. refl }
+
+pub contract : SoundFailsNone → (old new : State) (status : ℕ) → (does : Check old new status) → Others status → (SizesAre None old.image → FailsUnread old new status ⊎ LacksMemory status old new) → ((status ≡ 0) ⊎ (status ≡ 11) → SameFaults old new) → ReadsBySizes log_checked pages_checked old new → CheckContract old new status
+contract fails_none old new status does others sizes faultless looks = record {
+  looks = looks;
   does = does;
   causes = record {
     others = others;
@@ -198,6 +219,7 @@ lacked_check status old new l =
       output = λ e. absurd (omega (arith, is, e));
     } in
     record {
+      looks = looks_told old old new (looks_none old) l.1.reads;
       does = record {
         line = memory_fault;
         answer = answer;

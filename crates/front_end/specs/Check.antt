@@ -9,7 +9,9 @@ use Rattle.site.specs.Telling.{TellsPart, SameDevices}
 use Rattle.image_check.specs.declared.verdict.Verdict.{Verdict}
 use Rattle.image_check.specs.declared.verdict.Verdict.TheVariants.{Sound, Unsound}
 use Rattle.image_form.specs.Verdict.{IsSoundWith, FailsFirst}
+use Rattle.image_form.specs.Counted.{ReadsBySizes}
 use Rattle.image_form.specs.Findings.{SizesAre}
+use Rattle.image_check.specs.Deciding.{log_checked, pages_checked}
 use Rattle.front_end.specs.declared.halt.Halt.TheVariants as halt
 use Rattle.front_end.specs.Faults.{NoFaultRose, SameFaults}
 use Rattle.front_end.specs.Tells.{EndsWith}
@@ -94,3 +96,5 @@ pub record CheckCauses (old new : State) (status : ℕ) : Type 0 where
 pub record CheckContract (old new : State) (status : ℕ) : Type 0 where
   pub does : Check old new status
   pub causes : CheckCauses old new status
+  -- of every site, by the sizes: how often the devices are read at most
+  pub looks : ReadsBySizes log_checked pages_checked old new

@@ -2,9 +2,11 @@
 ghost use Rattle.std.specs.Prelude.{◌≡◌, IsTrue, IfOk, Ok, None};
 ghost use Rattle.site.specs.Calls.{Preserves};
 ghost use Rattle.site.specs.Work.{OnlyReads};
+ghost use Rattle.image_check.specs.Deciding.{log_checked, pages_checked};
 ghost use Rattle.image_check.specs.Judgement.{IsVerdictOn};
 ghost use Rattle.image_form.specs.declared.place.Place.{Place};
 ghost use Rattle.image_check.specs.declared.verdict.Verdict.{Verdict};
+ghost use Rattle.image_form.specs.Counted.{ReadsBySizes};
 ghost use Rattle.image_form.specs.Findings.{SizesAre};
 ghost use Rattle.front_end.specs.Faults.{FirstDecides, SameFaults};
 ghost use Rattle.front_end.specs.Check.{CheckContract, verdict_status};
@@ -30,6 +32,7 @@ fn status_of(verdict: Verdict) -> u8
 fn judge<S: Site>(alloc: Global, site: &mut S) -> Result<Verdict, Stop>
     ensures verdict { IsTrue (S.state site.old).honest
         → IfOk result (λ verdict. IsVerdictOn (S.state site.old).image verdict) }
+    ensures looks { ReadsBySizes log_checked pages_checked (S.state site.old) (S.state site.new) }
     ensures reads { OnlyReads result (S.state site.old) (S.state site.new) }
     ensures sizes { SizesAre None (S.state site.old).image
         → (result ≡ Ok (Verdict.Unsound 1 Place.Lengths)) × (S.state site.new ≡ S.state site.old) }
@@ -45,7 +48,8 @@ fn judge<S: Site>(alloc: Global, site: &mut S) -> Result<Verdict, Stop>
 
 /// The work of `check`: tells whether the devices are sound, or the first rule that fails, and changes nothing. The
 /// answer is the status: 0 where they are sound, 3 where a device failed, 4 for want of memory, 6 where telling failed,
-/// 11 where they aren't sound. Devices without sizes fail the first rule.
+/// 11 where they aren't sound. Devices without sizes fail the first rule. Each log block is read seven times at most,
+/// each page's version five times, and each group's heads and frames a few times.
 pub fn serve_check<S: Site>(alloc: Global, site: &mut S) -> u8
     ensures check { CheckContract (S.state site.old) (S.state site.new) result }
     ensures preserves { Preserves (S.state site.old) (S.state site.new) }

@@ -1,4 +1,3 @@
 pub mod Adding
 pub mod AppendLaws
-pub mod Counting
 pub mod Sequence

@@ -1,33 +1,10 @@
 -- One unfinished transaction after one record more.
 use Rattle.std.proofs.lemmas.Grind.{common_steps}
-use Rattle.std.proofs.Common.{◌≡◌, ℕ, ◌-◌, ◌==◌, nat_eq, Bool, true, false, true≢false, cond, List, [], ◌∷◌, ◌++◌, length, map, take, drop, Option, Some, None, option_map, refl, sym, ap, subst, ◌∙◌, arith}
+use Rattle.image_check.proofs.Names.{◌≡◌, ℕ, ◌-◌, ◌==◌, nat_eq, Bool, true, false, cond, List, [], ◌∷◌, ◌++◌, length, map, take, drop, Option, Some, None, option_map, refl, sym, ap, subst, ◌∙◌, arith, append-nil, length-append, reverse-append, reverse-reverse, take_at, filter-append, same_Some, AreLast, IsKept, Keeps, begin_at, IsAs, Chain, IndexMap, get, InTurn-append, last_same, last_new, Entry, is_of, is_update, entries_of, number_of, before_of, after_of, last_on, Continues, ShowsLast, prev_of, LogRecord, Begin, Update, Clr, Commit, End, Content, option_or_none}
 use Rattle.std.specs.Prelude.{reverse}
-use Rattle.std.proofs.lemmas.List.{append-nil, length-append, reverse-append, reverse-reverse, take_at}
-use Rattle.std.proofs.lemmas.List.Elements.{filter-append}
-use Rattle.std.proofs.lemmas.Option.{same_Some}
-use Rattle.std_lemmas.proofs.Options.{option_or_none}
-use Rattle.indexmap.specs.IndexMap.{IndexMap, get}
-use Rattle.record_model.specs.State.{Content}
-use Rattle.log_records.specs.declared.log_record.LogRecord.{LogRecord}
-use Rattle.log_records.specs.declared.log_record.LogRecord.TheVariants.{Begin, Update, Clr, Commit, End}
-use Rattle.log_records.specs.Log.{Entry, is_of, is_update, entries_of, number_of, before_of, after_of, last_on}
-use Rattle.log_records.specs.Unfinished.{is_clr, prev_of, open_by, open_updates}
-use Rattle.log_records.specs.Sound.{Continues, Undoes, ShowsLast, last_number}
-use Rattle.log_laws.proofs.Orders.{InTurn-append}
-use Rattle.log_laws.proofs.Values.{last_same, last_new}
-use Rattle.image_check.specs.declared.chain.Chain.{Chain}
-use Rattle.image_check.specs.Chaining.{AreLast, IsKept, Keeps, begin_at}
-use Rattle.image_check.specs.Showing.{IsAs}
+use Rattle.log_judge.proofs.ChainOnes.{last_push, open_push, undoes_none}
 
 -- One record more.
-
-open_push : (us rest : List Entry) (e : Entry) → open_updates us (rest ++ e ∷ []) ≡ open_by (open_updates us rest) e e.rec
-open_push us [] e = refl
-open_push us (x ∷ rest) e = open_push (open_by us x x.rec) rest e
-
-last_push : (n : ℕ) (rest : List Entry) (e : Entry) → last_number n (map (λ (x : Entry). x.lsn) (rest ++ e ∷ [])) ≡ e.lsn
-last_push n [] e = refl
-last_push n (x ∷ rest) e = last_push x.lsn rest e
 
 map_drop : (us : List Entry) → drop 1 (map (λ (u : Entry). u.rec) us) ≡ map (λ (u : Entry). u.rec) (drop 1 us)
 map_drop [] = refl
@@ -40,16 +17,6 @@ kept_update t c new rest lsn Begin is pushed k goes d last items written = grind
 kept_update t c new rest lsn (Clr txn prev undo_next page slot after) is pushed k goes d last items written = grind (arith, common_steps)
 kept_update t c new rest lsn (Commit txn number) is pushed k goes d last items written = grind (arith, common_steps)
 kept_update t c new rest lsn (End txn) is pushed k goes d last items written = grind (arith, common_steps)
-
-undoes_none : (us : List Entry) (rec : LogRecord) → is_update rec ≡ false → is_clr rec ≡ false → Undoes us rec → ⊥
-undoes_none [] Begin a b undoes = undoes
-undoes_none (u ∷ us) Begin a b undoes = undoes
-undoes_none us (Update txn prev page slot before after) a b undoes = true≢false a
-undoes_none us (Clr txn prev undo_next page slot after) a b undoes = true≢false b
-undoes_none [] (Commit txn number) a b undoes = undoes
-undoes_none (u ∷ us) (Commit txn number) a b undoes = undoes
-undoes_none [] (End txn) a b undoes = undoes
-undoes_none (u ∷ us) (End txn) a b undoes = undoes
 
 pub kept_clr : (t : ℕ) (c : Chain) (new : List LogRecord) (rest : List Entry) (lsn : ℕ) (rec : LogRecord) → is_update rec ≡ false → reverse new ≡ drop 1 (reverse c.updates.items) → IsKept t c rest →
     Continues (begin_at t ∷ rest) (record { lsn = lsn; rec = rec }) → (d : Chain) → d.last ≡ lsn → d.updates.items ≡ new → AreLast (rest ++ record { lsn = lsn; rec = rec } ∷ []) d.written.last → IsKept t d (rest ++ record { lsn = lsn; rec = rec } ∷ [])

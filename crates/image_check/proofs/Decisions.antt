@@ -1,20 +1,8 @@
 -- The rules one after the other.
 use Rattle.std.proofs.lemmas.Grind.{common_steps}
-use Rattle.std.proofs.Common.{◌≡◌, ◌↔◌, inl, inr, ℕ, zero, suc, ◌+◌, ◌≤◌, true, false, true≢false, Bool, IsTrue, List, refl, sym, ◌∙◌, subst, arith}
-use Rattle.std.specs.Prelude.{Ok, ⊤}
-use Rattle.std.proofs.lemmas.Bool.{cases_eq}
-use Rattle.site.specs.State.{State, Image}
+use Rattle.image_check.proofs.Names.{◌≡◌, ◌↔◌, inl, inr, ℕ, zero, suc, ◌+◌, ◌≤◌, true, false, true≢false, Bool, IsTrue, List, refl, sym, ◌∙◌, subst, arith, cases_eq, Ok, ⊤, MeetsBefore, Sees, reading_of, there_later, IsThere, Reading, Reads, Rule, OctetsAreFormed, KeptBlocksAreLive, RecordsFollowBegins, LosersCanBeUndone, LosersHoldOthersOff, VersionsFit, FramesAreClean, SegmentsFollowGroups, UndoHasRoom, MasterNamesTheActive, CommitsAreNumbered, PagesHaveRoom, HoldBefore, FailsFirst, IsSoundWith, logical_image_of, values_of, Found, commit_count, LogRecord, State, Image, OnlyReads}
 use Rattle.site.specs.Calls.{Preserves}
-use Rattle.site.specs.Work.{OnlyReads}
-use Rattle.log_records.specs.declared.log_record.LogRecord.{LogRecord}
-use Rattle.log_records.specs.Sound.{commit_count}
-use Rattle.image_form.specs.declared.formed.Found.{Found}
-use Rattle.image_form.specs.Formed.{IsThere}
-use Rattle.image_check.specs.Deciding.{MeetsBefore}
-use Rattle.image_check.specs.Judging.{Sees, reading_of}
-use Rattle.image_form.specs.Verdict.{Reading, Reads, Rule, OctetsAreFormed, KeptBlocksAreLive, RecordsFollowBegins, LosersCanBeUndone, LosersHoldOthersOff, VersionsFit, FramesAreClean, SegmentsFollowGroups, UndoHasRoom, MasterNamesTheActive, CommitsAreNumbered, PagesHaveRoom, HoldBefore, FailsFirst, IsSoundWith, logical_image_of, values_of}
 use Rattle.image_check.proofs.Readings.{a_reading, no_rule}
-use Rattle.image_form.proofs.FirstRule.{there_later}
 
 -- What was found is there after calls that only read.
 

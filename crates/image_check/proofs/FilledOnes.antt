@@ -1,48 +1,12 @@
 -- What pages take up, record by record, and the twelfth rule of it.
 use Rattle.std.proofs.lemmas.Grind.{common_steps}
-use Rattle.std.proofs.Common.{◌≡◌, ◌↔◌, inl, inr, ℕ, suc, ◌+◌, ◌*◌, ◌/◌, ◌%◌, ◌≤◌, ◌<◌, ◌==◌, ◌&&◌, Bool, true, false, true≢false, cond, nat_lt, nat_le, List, [], ◌∷◌, ◌++◌, length, map, take, reverse, get_or, Option, Some, None, refl, sym, ap, ◌∙◌, subst, arith, append-nil, append_assoc}
-use Rattle.site.specs.declared.outside.Stop.{Stop}
-use Rattle.std.specs.Prelude.{Result, Ok, Err, IfOk, IsTrue, is_none, filter, flat_map, max, nat_eq, sum_by, slice_index_or, slice_set}
-use Rattle.indexmap.specs.IndexMap.{IndexMap, get}
-use Rattle.std.specs.List.{AllByRecursion, list_any, range_with_len}
-use Rattle.std.specs.Option.{option_or}
+use Rattle.image_check.proofs.Names.{◌≡◌, ◌↔◌, inl, inr, ℕ, suc, ◌+◌, ◌*◌, ◌/◌, ◌%◌, ◌≤◌, ◌<◌, ◌==◌, ◌&&◌, Bool, true, false, true≢false, cond, nat_lt, nat_le, List, [], ◌∷◌, ◌++◌, length, map, take, reverse, get_or, Option, Some, None, refl, sym, ap, ◌∙◌, subst, arith, append_assoc, or_left, or_right, cases_lt, cases_eq, eq-eqb, ne_eqb, le-leb, leb-true, lt-leb, lt-ltb, le-ltb, map-append, reverse-append, get_or-set_same, get_or-set_other, filter-append, BTreeMap, AllByRecursion, list_any, range_with_len, option_or, Result, Ok, IfOk, is_none, filter, flat_map, max, sum_by, version_on, AreChains, is_behind, is_news, filled, opened, AreOn, AreKept, AreKeptOn, FitsAt, Fills, HaveRoom, HearsLog, KeepsOpen, Opens, RedoneFits, put_back_by, Chains, Filling, PageLengths, AreVersions, PagesHaveRoom, VersionsFit, LosersCanBeUndone, page_of_number, slot_of_page, length-versions, version_is, version_in, versions_on, IndexMap, get, AreLeft, entry_of, Left, last_where-filter, all_from, none_passes, filter_all, filter_none, all_below, is_number-Some, unfinished_at, in_order_left, Entry, Version, version_at, slot_at, number_of, is_number, is_on, before_of, after_of, last_where, last_on, shown, shown_by, LogicalImage, IsInOrder, ShowsLast, last_known, redone, left_open, losers, LogRecord, Content, content_at, greatest, length_of, page_room, Image, Geometry, Stop, lsn_of, slots_of, all_push, all_weaker, option_or_assoc, option_or_none}
+use Rattle.std.proofs.Common.{append-nil}
+use Rattle.std.specs.Prelude.{Err, IsTrue, nat_eq, slice_index_or, slice_set}
 use Rattle.std.proofs.Math.Nat.{max-le, le-max_left, le-max_right}
-use Rattle.std.proofs.lemmas.Bool.{or_left, or_right, cases_lt, cases_eq, eq-eqb, ne_eqb, le-leb, leb-true, lt-leb, lt-ltb, le-ltb}
-use Rattle.std.proofs.lemmas.List.Elements.{filter-append}
-use Rattle.std.proofs.lemmas.List.{map-append, reverse-append, get_or-set_same, get_or-set_other}
-use Rattle.std_lemmas.proofs.AllOf.{all_push, all_weaker}
-use Rattle.std_lemmas.proofs.Options.{option_or_assoc, option_or_none}
-use Rattle.site.specs.declared.geometry.Geometry.{Geometry}
-use Rattle.site.specs.State.{Image}
-use Rattle.flash_cache.specs.Representation.{version_on}
-use Rattle.log_laws.specs.Analysis.{unfinished_at}
-use Rattle.std.specs.BTreeMap.{BTreeMap}
-use Rattle.image_check.specs.declared.unfinished.Left.{Left}
-use Rattle.image_check.specs.Unended.{AreLeft, entry_of}
-use Rattle.record_model.specs.State.{Content, content_at, greatest, length_of, page_room}
-use Rattle.log_records.specs.declared.log_record.LogRecord.{LogRecord}
-use Rattle.log_records.specs.Log.{Entry, Version, version_at, slot_at, number_of, is_number, is_on, before_of, after_of, last_where, last_on, shown, shown_by}
-use Rattle.log_records.specs.Unfinished.{left_open, losers}
 use Rattle.log_records.specs.Room.{longest, open_length, total_on}
-use Rattle.log_records.specs.Sound.{LogicalImage, IsInOrder, ShowsLast, last_known, redone}
-use Rattle.log_records.proofs.Entries.{in_order_left}
-use Rattle.log_laws.proofs.Lists.{last_where-filter}
-use Rattle.log_laws.proofs.Orders.{all_from, none_passes, filter_all, filter_none}
-use Rattle.log_laws.proofs.Parts.{all_below}
 use Rattle.log_laws.proofs.Rooms.{total_within, known_on, shows_itself}
 use Rattle.log_laws.proofs.Shown.{shown_push}
-use Rattle.log_laws.proofs.Values.{is_number-Some}
-use Rattle.slotted_page.specs.Layout.{lsn_of, slots_of}
-use Rattle.image_meaning.specs.Meaning.{version_in, versions_on}
-use Rattle.image_meaning.proofs.Versions.{length-versions, version_is}
-use Rattle.image_meaning.proofs.Redos.{page_of_number, slot_of_page}
-use Rattle.image_form.specs.Octets.{AreVersions}
-use Rattle.image_form.specs.Verdict.{PagesHaveRoom, VersionsFit, LosersCanBeUndone}
-use Rattle.image_check.specs.declared.chains.Chains.{Chains}
-use Rattle.image_check.specs.declared.filling.Filling.{Filling}
-use Rattle.image_check.specs.declared.lengths.PageLengths.{PageLengths}
-use Rattle.image_check.specs.Chaining.{AreChains}
-use Rattle.image_check.specs.Filling.{is_behind, is_news, filled, opened, AreOn, AreKept, AreKeptOn, FitsAt, Fills, HaveRoom, HearsLog, KeepsOpen, Opens, RedoneFits, put_back_by}
 use Rattle.image_check.proofs.PageRooms.{slot_length, sum_last, values_fit}
 use Rattle.image_check.proofs.StrayOnes.{chains_of}
 

@@ -1,35 +1,11 @@
 -- What unfinished transactions have written, after one record more.
-use Rattle.std.proofs.Common.{arith}
 use Rattle.std.proofs.lemmas.Grind.{common_steps}
-use Rattle.std.proofs.Common.{◌≡◌, ℕ, Bool, true, false, true≢false, not, ◌&&◌, ◌||◌, cond, nat_eq, List, [], ◌∷◌, ◌++◌, map, drop, Option, Some, None, option_map, refl, sym, ap, ◌∙◌}
-use Rattle.std.specs.Prelude.{filter, is_some, ◌==◌}
-use Rattle.std.specs.List.{AllByRecursion, list_any}
-use Rattle.std.specs.Map.{lookup}
-use Rattle.std.proofs.lemmas.Bool.{and_from, and_parts, or_left, eqb-true, eq-eqb, not-true, not_from_false}
-use Rattle.std.proofs.lemmas.List.{append-nil}
-use Rattle.std.proofs.lemmas.List.Elements.{filter-append}
-use Rattle.std_lemmas.proofs.AllOf.{all_push, all_weaker, all_between}
+use Rattle.image_check.proofs.Names.{arith, ◌≡◌, ℕ, Bool, true, false, true≢false, not, ◌&&◌, ◌||◌, cond, nat_eq, List, [], ◌∷◌, ◌++◌, map, drop, Option, Some, None, option_map, refl, sym, ap, ◌∙◌, and_from, and_parts, or_left, eqb-true, eq-eqb, not-true, not_from_false, append-nil, filter-append, BTreeMap, is_at, AllByRecursion, list_any, lookup, filter, is_some, AreHeld, IsListed, holds, is_others, clashes_by, LosersCanBeUndone, IndexMap, get, AreLeft, entry_of, Left, listed_is_loser, begun_is_listed, one_true, last_where-filter, last_passes, last_same, last_new, unfinished_at, one, all_last, Entry, txn_of, is_of, is_closed, is_update, is_number, is_on, number_of, entries_of, last_where, LogicalImage, Pairwise, HoldsOff, IsLoserChain, is_begin, losers, LogRecord, Begin, Update, Clr, Commit, End, all_push, all_weaker, all_between, eq_turned}
+use Rattle.std.specs.Prelude.{◌==◌}
 use Rattle.std_lemmas.proofs.Lists.{any_between}
-use Rattle.indexmap.specs.IndexMap.{IndexMap, get}
-use Rattle.log_records.specs.declared.log_record.LogRecord.{LogRecord}
-use Rattle.log_records.specs.declared.log_record.LogRecord.TheVariants.{Begin, Update, Clr, Commit, End}
-use Rattle.log_records.specs.Log.{Entry, txn_of, is_of, is_closed, is_update, is_number, is_on, number_of, entries_of, last_where}
-use Rattle.log_records.specs.Unfinished.{is_begin, losers}
-use Rattle.log_records.specs.Sound.{LogicalImage, Pairwise, HoldsOff, IsLoserChain}
-use Rattle.log_laws.specs.Analysis.{unfinished_at}
-use Rattle.log_laws.proofs.Lists.{one_true, last_where-filter, last_passes}
-use Rattle.log_laws.proofs.Listing.{listed_is_loser, begun_is_listed}
 use Rattle.log_laws.proofs.Losers.{any_of_those}
-use Rattle.log_laws.proofs.Values.{last_same, last_new}
-use Rattle.image_check.specs.declared.unfinished.Left.{Left}
-use Rattle.image_check.specs.Unended.{AreLeft, entry_of}
-use Rattle.std.specs.BTreeMap.{BTreeMap, is_at}
 use Rattle.std.specs.Cmp.{unsigned_tied}
 use Rattle.std.specs.Ordering.{nat_cmp}
-use Rattle.std_lemmas.proofs.Bools.{eq_turned}
-use Rattle.image_check.specs.Holding.{AreHeld, IsListed, holds, is_others, clashes_by}
-use Rattle.image_form.specs.Verdict.{LosersCanBeUndone}
-use Rattle.log_records.proofs.Lists.{one, all_last}
 
 -- Who is on the list.
 

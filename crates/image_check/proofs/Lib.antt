@@ -1,10 +1,8 @@
+mod Names
 pub mod Decisions
 pub mod Walking
-pub mod Numbering
 pub mod Readings
 pub mod Standing
-pub mod OpenOnes
-pub mod LeftOnes
 pub mod HeldOnes
 pub mod ShownOnes
 pub mod ChainOnes
@@ -13,4 +11,5 @@ pub mod Surveyed
 pub mod WrittenOnes
 pub mod ValuesCounted
 pub mod PageRooms
+pub mod Looks
 pub mod FilledOnes

@@ -1,16 +1,12 @@
 -- The values of a sound page have room in its heap: they overlap nowhere.
 use Rattle.std.proofs.lemmas.Grind.{common_steps}
-use Rattle.std.proofs.Common.{◌≡◌, inl, inr, ℕ, zero, suc, ◌+◌, ◌-◌, ◌*◌, ◌≤◌, ◌<◌, Bool, true, false, cond, ◌&&◌, ◌||◌, nat_le, nat_lt, Some, None, List, refl, ap, ◌∙◌, arith}
-use Rattle.std.specs.Prelude.{sum_by}
-use Rattle.std.specs.List.{range_with_len}
-use Rattle.std.proofs.lemmas.Bool.{and_from, and_parts, le-leb, leb-true, lt-ltb, ltb-true}
+use Rattle.image_check.proofs.Names.{◌≡◌, inl, inr, ℕ, zero, suc, ◌+◌, ◌-◌, ◌*◌, ◌≤◌, ◌<◌, Bool, true, false, cond, ◌&&◌, ◌||◌, nat_le, nat_lt, Some, None, List, refl, ap, ◌∙◌, arith, and_from, and_parts, le-leb, leb-true, lt-ltb, ltb-true, range_with_len, sum_by, Content, content_at, page_room, IsSound, content_length, offset_of, slots_of}
 use Rattle.std.proofs.lemmas.List.Sums.{sum_by-cons}
-use Rattle.record_model.specs.State.{Content, content_at, page_room}
-use Rattle.record_model.specs.State as model
 use Rattle.log_records.specs.Room.{total_on}
-use Rattle.slotted_page.specs.Layout.{IsSound, content_length, length_of, offset_of, slots_of}
+use Rattle.slotted_page.specs.Layout.{length_of}
 use Rattle.slotted_page.proofs.Lengths.{content_length_of}
 use Rattle.slotted_page.proofs.Slots.{get_or-slots_of}
+use Rattle.record_model.specs.State as model
 
 -- one number more at the end
 pub sum_last : (f : ℕ → ℕ) (a n : ℕ) → sum_by f (range_with_len a (suc n)) ≡ sum_by f (range_with_len a n) + f (a + n)

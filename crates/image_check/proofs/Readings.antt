@@ -1,27 +1,14 @@
 -- Devices are read in one way.
 use Rattle.std.proofs.lemmas.Grind.{common_steps}
-use Rattle.std.proofs.Common.{◌≡◌, ℕ, zero, suc, ◌+◌, ◌-◌, ◌≤◌, min, List, [], ◌∷◌, length, drop, refl, sym, ap, ◌∙◌, subst, arith}
+use Rattle.image_check.proofs.Names.{◌≡◌, ℕ, zero, suc, ◌+◌, ◌-◌, ◌≤◌, min, List, [], ◌∷◌, length, drop, refl, sym, ap, ◌∙◌, subst, arith, cases_lt, length-map, length-drop, AllByRecursion, Master, log_shape, units_on, OneReading, AReading, SoundFailsNone, one_size, Reading, Rule, LogRecord, HasBlocks, IsLive, hi_of, units_from, Image, Geometry}
 use Rattle.std.specs.Prelude.{map}
-use Rattle.std.proofs.lemmas.Bool.{cases_lt}
-use Rattle.std.specs.List.{AllByRecursion}
-use Rattle.std.proofs.lemmas.List.{length-map, length-drop}
-use Rattle.site.specs.declared.geometry.Geometry.{Geometry}
-use Rattle.site.specs.State.{Image}
 use Rattle.sealed_ring.specs.declared.slots.Shape.{Shape}
-use Rattle.sealed_ring.specs.Ring.{IsLive, hi_of, units_from}
 use Rattle.sealed_ring.proofs.Heads.{unit_is}
 use Rattle.sealed_ring.proofs.Units.{live_count}
-use Rattle.image_changes.specs.Rings.{log_shape, units_on}
-use Rattle.log_records.specs.declared.log_record.LogRecord.{LogRecord}
 use Rattle.log_records.specs.Spelling.{block, AreBlock, IsBlock}
-use Rattle.checkpoint.specs.declared.master.Master.{Master}
 use Rattle.checkpoint.specs.Laws.{OneNewest}
-use Rattle.log_store.specs.Representation.{HasBlocks}
-use Rattle.image_form.specs.Verdict.{Reading, Rule}
-use Rattle.image_check.specs.Laws.{OneReading, AReading, SoundFailsNone}
 use Rattle.image_form.proofs.LiveUnits.{all_from}
 use Rattle.log_store.proofs.OneLog.{one_blocks}
-use Rattle.image_form.proofs.FirstRule.{one_size}
 
 -- One reading.
 

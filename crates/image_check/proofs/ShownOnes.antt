@@ -1,33 +1,8 @@
 -- What versions know of a log, record by record, and the sixth rule of it.
 use Rattle.std.proofs.lemmas.Grind.{common_steps}
-use Rattle.std.proofs.Common.{◌≡◌, ℕ, suc, ◌+◌, ◌*◌, ◌/◌, ◌≤◌, ◌<◌, ◌&&◌, Bool, true, false, true≢false, cond, nat_eq, nat_lt, nat_le, List, [], ◌∷◌, ◌++◌, length, map, Option, Some, None, option_map, refl, sym, ap, ◌∙◌, subst, arith}
-use Rattle.std.specs.Prelude.{slice_get, Ok}
-use Rattle.std.specs.List.{AllByRecursion, list_all, range_with_len}
-use Rattle.std.proofs.lemmas.Bool.{and_from, eqb-true, ne_eqb}
-use Rattle.std.proofs.lemmas.Bool.Decides.{nat_tests}
-use Rattle.std.proofs.lemmas.Option.{slice_get-map, slice_get-get_or, slice_get_within, none-some, same_Some}
-use Rattle.std.proofs.lemmas.List.{map-append}
-use Rattle.std.proofs.lemmas.List.Folds.{list_all-map, list_all_at}
-use Rattle.std.proofs.lemmas.List.FromFn.{get_or-map-range_with_len, length-map-range_with_len, map-range_with_len_more}
-use Rattle.site.specs.declared.geometry.Geometry.{Geometry}
-use Rattle.site.specs.State.{State, Image}
+use Rattle.image_check.proofs.Names.{◌≡◌, ℕ, suc, ◌+◌, ◌*◌, ◌/◌, ◌≤◌, ◌<◌, ◌&&◌, Bool, true, false, true≢false, cond, nat_eq, nat_lt, nat_le, List, [], ◌∷◌, ◌++◌, length, map, Option, Some, None, option_map, refl, sym, ap, ◌∙◌, subst, arith, and_from, eqb-true, ne_eqb, nat_tests, map-append, list_all-map, list_all_at, get_or-map-range_with_len, length-map-range_with_len, map-range_with_len_more, slice_get-map, slice_get-get_or, slice_get_within, none-some, same_Some, AllByRecursion, list_all, range_with_len, slice_get, Ok, version_on, FindsVersions, AreExpected, IsKnownEarly, IsAs, HasContents, is_logged, written_by, ShowsFrames, AreGroups, VersionsFit, Found, version_in, versions_on, IndexMap, get, last_where-append, Entry, Version, blank_version, version_at, number_of, is_number, is_on, after_of, LogicalImage, ShowsLast, before_block, last_known, Content, content_at, Queue, State, Image, OnlyReads, Geometry, lsn_of}
 use Rattle.site.proofs.Laws.{stays_honest}
-use Rattle.site.specs.Work.{OnlyReads}
-use Rattle.indexmap.specs.IndexMap.{IndexMap, get}
-use Rattle.record_model.specs.State.{Content, content_at}
-use Rattle.log_records.specs.Log.{Entry, Version, blank_version, version_at, number_of, is_number, is_on, after_of}
-use Rattle.log_records.specs.Sound.{LogicalImage, ShowsLast, before_block, last_known}
-use Rattle.slotted_page.specs.Layout.{lsn_of}
-use Rattle.second_chance.specs.Queue.{Queue}
-use Rattle.flash_cache.specs.Representation.{version_on}
-use Rattle.image_meaning.specs.Meaning.{version_in, versions_on}
-use Rattle.image_form.specs.declared.formed.Found.{Found}
-use Rattle.image_form.specs.Octets.{AreGroups}
-use Rattle.image_form.specs.Newest.{ShowsFrames}
-use Rattle.image_check.specs.Showing.{FindsVersions, AreExpected, IsKnownEarly, IsAs, HasContents, is_logged, written_by}
-use Rattle.image_form.specs.Verdict.{VersionsFit}
 use Rattle.image_form.proofs.Lasting.{found_later}
-use Rattle.log_records.proofs.Lists.{last_where-append}
 
 -- What was found stays after calls that only read.
 pub versions_later : {T : Type 0} {x : T} {found : Found} {frames : Queue} {a b : State} → OnlyReads {T = T} (Ok x) a b → FindsVersions found frames a → FindsVersions found frames b

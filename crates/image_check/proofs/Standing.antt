@@ -1,39 +1,18 @@
 -- Sound by the rules, and standing for a table, are one.
 use Rattle.std.proofs.lemmas.Grind.{common_steps}
-use Rattle.std.proofs.Common.{◌≡◌, inl, inr, ℕ, suc, ◌+◌, ◌-◌, ◌*◌, ◌≤◌, ◌<◌, List, [], ◌∷◌, length, get_or, refl, sym, ap, ◌∙◌, subst, arith}
-use Rattle.std.specs.Prelude.{Option, Some, None, map, is_some, count_by}
-use Rattle.std.specs.List.{AllByRecursion}
-use Rattle.std.proofs.lemmas.Bool.{cases_eq}
-use Rattle.std_lemmas.proofs.AllOf.{all_append, all_at, all_left, all_right}
-use Rattle.site.specs.declared.geometry.Geometry.{Geometry}
-use Rattle.site.specs.State.{Image}
-use Rattle.sealed_ring.specs.Ring.{IsRing, hi_of, live, IsLive}
-use Rattle.image_changes.specs.Rings.{master_shape, log_shape, group_shape, segment_shape, units_on}
-use Rattle.record_model.specs.State.{Content}
-use Rattle.log_records.specs.declared.log_record.LogRecord.{LogRecord}
-use Rattle.log_records.specs.Log.{log_from, table_of}
-use Rattle.log_records.specs.Sound.{LogicalImage, Means}
-use Rattle.log_records.specs.Sound as lists
+use Rattle.image_check.proofs.Names.{◌≡◌, inl, inr, ℕ, suc, ◌+◌, ◌-◌, ◌*◌, ◌≤◌, ◌<◌, List, [], ◌∷◌, length, get_or, refl, sym, ap, ◌∙◌, subst, arith, cases_eq, AllByRecursion, is_some, count_by, HasMaster, IsOf, newest_of, blank, seen, Master, PagesExist, master_shape, log_shape, group_shape, segment_shape, units_on, SoundStands, StandingIsSound, JudgedStands, StandingIsJudged, one_block, log_in_table, blocks_on_pages, log_in_order, IsGroupOn, AreBlocks, SegmentsAreFormed, IsFormed, IsOnPage, IsSegmentOn, Reading, Reads, HoldBefore, logical_image_of, length-versions, IsNewest, HasNewest, IsFrameOf, AreOctetsSoundUnder, IsSoundUnder, StandsUnder, StandsFor, logical_image_under, versions_on, kept_by, log_from, table_of, LogicalImage, Means, LogRecord, HasBlocks, block_on, Content, IsRing, hi_of, live, IsLive, Image, Geometry, all_append, all_at, all_left, all_right}
+use Rattle.std.specs.Prelude.{Option, Some, None, map}
 use Rattle.byte_fields.specs.declared.frame_head.FrameHead.{FrameHead}
 use Rattle.byte_fields.specs.FrameHeads.{spelling_of_all}
 use Rattle.meta_segments.specs.Segments.{IsSegment}
 use Rattle.frame_group.specs.Groups.{Frame, IsGroup, frames_in}
 use Rattle.frame_group.specs.Versions.{frames_of}
 use Rattle.frame_group.proofs.Contents.{frames_are_in}
-use Rattle.checkpoint.specs.declared.master.Master.{Master}
-use Rattle.checkpoint.specs.Newest.{HasMaster, IsOf, newest_of, blank, seen}
 use Rattle.log_store.specs.LogList.{LogList}
-use Rattle.log_store.specs.Representation.{HasBlocks, block_on}
 use Rattle.log_store.proofs.Standing.{stands_there}
-use Rattle.flash_cache.specs.Representation.{PagesExist}
-use Rattle.image_meaning.specs.Meaning.{IsNewest, HasNewest, IsFrameOf, AreOctetsSoundUnder, IsSoundUnder, StandsUnder, StandsFor, logical_image_under, versions_on, kept_by}
-use Rattle.image_meaning.specs.Meaning as meaning
-use Rattle.image_form.specs.Octets.{IsGroupOn, AreBlocks, SegmentsAreFormed, IsFormed, IsOnPage, IsSegmentOn}
-use Rattle.image_form.specs.Verdict.{Reading, Reads, HoldBefore, logical_image_of}
-use Rattle.image_check.specs.Laws.{SoundStands, StandingIsSound, JudgedStands, StandingIsJudged}
 use Rattle.image_form.proofs.LiveUnits.{all_live, each_live}
-use Rattle.image_form.proofs.BlockLists.{one_block, log_in_table, blocks_on_pages, log_in_order}
-use Rattle.image_meaning.proofs.Versions.{length-versions}
+use Rattle.log_records.specs.Sound as lists
+use Rattle.image_meaning.specs.Meaning as meaning
 
 -- Groups.
 

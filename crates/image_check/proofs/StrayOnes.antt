@@ -1,31 +1,10 @@
 -- Unfinished transactions, with their Begin and without.
 use Rattle.std.proofs.lemmas.Grind.{common_steps}
-use Rattle.std.proofs.Common.{◌≡◌, ◌⊎◌, ℕ, ◌+◌, ◌<◌, ◌≤◌, inl, inr, Bool, true, false, true≢false, not, ◌&&◌, ◌||◌, cond, nat_eq, List, [], ◌∷◌, ◌++◌, map, drop, Option, Some, None, refl, sym, ap, subst, ◌∙◌, arith}
-use Rattle.std.specs.Prelude.{filter, slice_get, is_some, IfSome, ◌==◌}
-use Rattle.std.specs.List.{list_any}
-use Rattle.std.specs.Map.{lookup}
-use Rattle.std.proofs.lemmas.Bool.{and_parts, and_from, cases_Bool, eqb-true, eq-eqb, not-true, not_from_false, or_left, or_right}
-use Rattle.std.proofs.lemmas.List.Elements.{filter-append}
-use Rattle.std.proofs.lemmas.List.Folds.{list_any-append}
-use Rattle.std.proofs.lemmas.Option.{none-some, get_or_from_slice_get}
-use Rattle.std_lemmas.proofs.AllOf.{all_left}
-use Rattle.indexmap.specs.IndexMap.{IndexMap, get}
-use Rattle.log_records.specs.Log.{Entry, txn_of, is_of, is_closing, is_closed, entries_of}
-use Rattle.log_records.specs.Unfinished.{is_begin, losers}
-use Rattle.log_records.specs.Sound.{LogicalImage, IsInOrder, IsLoserChain, HaveBegunBefore}
-use Rattle.log_laws.proofs.Orders.{filter_none}
-use Rattle.log_laws.proofs.Values.{closed_push, closed_same}
-use Rattle.log_laws.proofs.Listing.{listed_is_loser}
-use Rattle.image_check.specs.declared.chain.Chain.{Chain}
-use Rattle.image_check.specs.declared.chains.Chains.{Chains}
-use Rattle.image_check.specs.Chaining.{IsKept, Keeps, StandsIn, StandsThere, Breaks, HearsOwn, AreChains, AreStrays, begin_at}
-use Rattle.image_form.specs.Verdict.{LosersCanBeUndone}
-use Rattle.log_laws.proofs.Parts.{InTurn-right, all_below}
-use Rattle.log_records.proofs.Entries.{in_order_left}
+use Rattle.image_check.proofs.Names.{◌≡◌, ◌⊎◌, ℕ, ◌+◌, ◌<◌, ◌≤◌, inl, inr, Bool, true, false, true≢false, not, ◌&&◌, ◌||◌, cond, nat_eq, List, [], ◌∷◌, ◌++◌, map, drop, Option, Some, None, refl, sym, ap, subst, ◌∙◌, arith, and_parts, and_from, cases_Bool, eqb-true, eq-eqb, not-true, not_from_false, or_left, or_right, filter-append, list_any-append, none-some, get_or_from_slice_get, list_any, lookup, filter, slice_get, is_some, IfSome, IsKept, Keeps, StandsIn, StandsThere, Breaks, HearsOwn, AreChains, AreStrays, begin_at, Chain, Chains, LosersCanBeUndone, IndexMap, get, listed_is_loser, fresh_of, filter_none, InTurn-right, all_below, closed_push, closed_same, in_order_left, Entry, txn_of, is_of, is_closing, is_closed, entries_of, LogicalImage, IsInOrder, IsLoserChain, HaveBegunBefore, is_begin, losers, all_left}
+use Rattle.std.specs.Prelude.{◌==◌}
 use Rattle.image_check.proofs.ChainOnes.{other_same, own_more}
 use Rattle.image_check.proofs.HeldOnes.{chain_listed}
-use Rattle.image_check.proofs.OpenOnes.{begin_only}
-use Rattle.log_laws.proofs.Orderly.{fresh_of}
+use Rattle.log_judge.proofs.OpenOnes.{begin_only}
 
 -- A transaction on the list has its Begin, and this is its first record.
 

@@ -1,20 +1,7 @@
 -- Values counted page by page.
-use Rattle.std.proofs.Common.{◌≡◌, ℕ, zero, suc, ◌+◌, ◌*◌, ◌<◌, Bool, true, false, cond, ◌≤◌, List, [], ◌∷◌, ◌++◌, map, count_by, is_some, refl, sym, ap, subst, ◌∙◌, arith}
-use Rattle.std.specs.Prelude.{Option, Some, None, IfSome, IfNone}
-use Rattle.std.specs.List.{range_with_len}
-use Rattle.std.proofs.lemmas.List.FromFn.{sum_by-map-range_with_len_more}
-use Rattle.std_lemmas.proofs.AllOf.{all_left}
-use Rattle.site.specs.declared.geometry.Geometry.{Geometry}
-use Rattle.site.specs.State.{Image}
-use Rattle.record_model.specs.State.{Content, content_at}
-use Rattle.log_records.specs.Log.{Entry, Version, version_at, slot_at, value_of, table_of}
-use Rattle.log_records.specs.Sound.{Pairwise}
-use Rattle.slotted_page.specs.Layout.{slots_of}
-use Rattle.second_chance.specs.Queue.{Queue}
-use Rattle.image_form.specs.Newest.{ShowsFrames}
-use Rattle.image_meaning.specs.Meaning.{version_in, versions_on}
-use Rattle.image_meaning.proofs.Redos.{slot_of_page}
-use Rattle.image_meaning.proofs.Versions.{length-versions}
+use Rattle.image_check.proofs.Names.{◌≡◌, ℕ, zero, suc, ◌+◌, ◌*◌, ◌<◌, Bool, true, false, cond, ◌≤◌, List, [], ◌∷◌, ◌++◌, map, refl, sym, ap, subst, ◌∙◌, arith, sum_by-map-range_with_len_more, range_with_len, IfNone, slot_of_page, length-versions, version_in, versions_on, Entry, Version, version_at, slot_at, value_of, table_of, Pairwise, Content, content_at, Queue, Image, Geometry, slots_of, all_left}
+use Rattle.std.proofs.Common.{count_by, is_some}
+use Rattle.std.specs.Prelude.{Option, None}
 
 -- how many of n numbers from one on have a value
 abbrev pub values_among : (ℕ → Content) → ℕ → ℕ → ℕ
@@ -67,9 +54,6 @@ one_at_most n true is = omega (arith, is)
 one_at_most n false is = omega (arith, is)
 
 -- what was found
-
-pub shows_some : (g : Geometry) (image : Image) (o : Option Queue) (frames : Queue) → o ≡ Some frames → IfSome o (λ found. ShowsFrames g image found) → ShowsFrames g image frames
-shows_some g image o frames is shown = subst (λ (x : Option Queue). IfSome x (λ found. ShowsFrames g image found)) is shown
 
 pub none_found : (o : Option Queue) → o ≡ None → IfNone o ⊥ → ⊥
 none_found o is none = subst (λ (x : Option Queue). IfNone x ⊥) is none

@@ -1,22 +1,9 @@
 -- What a log has written, after one record more.
-use Rattle.std.proofs.Common.{arith}
 use Rattle.std.proofs.lemmas.Grind.{common_steps}
-use Rattle.std.proofs.Common.{◌≡◌, ℕ, Bool, true, false, cond, List, Option, Some, None, option_map, is_some, nat_eq, refl, sym, subst}
+use Rattle.image_check.proofs.Names.{arith, ◌≡◌, ℕ, Bool, true, false, cond, List, Option, Some, None, option_map, nat_eq, refl, sym, subst, eqb-true, eq-eqb, none-some, same_Some, option_or, had_value, KeepsLast, AreWritten, before_by, Writings, Written, get, with, updates_there, first_is, first_push, first_same, last_same, last_new, closed_push, own_last, one, Entry, txn_of, is_on, number_of, is_closing, is_closed, after_of, last_on, first_update, Pairwise, HoldsOff, LogRecord, Update}
+use Rattle.std.proofs.Common.{is_some}
 use Rattle.std.specs.Prelude.{◌==◌}
-use Rattle.std.specs.Option.{option_or}
-use Rattle.std.proofs.lemmas.Bool.{eqb-true, eq-eqb}
-use Rattle.std.proofs.lemmas.Option.{none-some, same_Some}
-use Rattle.indexmap.specs.IndexMap.{get}
 use Rattle.indexmap.specs.IndexSet.{contains}
-use Rattle.log_records.specs.declared.log_record.LogRecord.{LogRecord}
-use Rattle.log_records.specs.declared.log_record.LogRecord.TheVariants.{Update}
-use Rattle.log_records.specs.Log.{Entry, txn_of, is_on, number_of, is_closing, is_closed, after_of, last_on, first_update}
-use Rattle.log_records.specs.Sound.{Pairwise, HoldsOff}
-use Rattle.log_laws.proofs.Values.{with, updates_there, first_is, first_push, first_same, last_same, last_new, closed_push, own_last}
-use Rattle.image_check.specs.declared.written.Written.{Written}
-use Rattle.image_check.specs.declared.written.Writings.{Writings}
-use Rattle.image_check.specs.Writing.{had_value, KeepsLast, AreWritten, before_by}
-use Rattle.log_records.proofs.Lists.{one}
 
 -- Where an open transaction has an Update on a number, the last record there is its own.
 

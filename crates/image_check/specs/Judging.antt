@@ -1,13 +1,13 @@
 -- What judges of a log and the calls below them say, however they end.
-use Rattle.std.specs.Prelude.{◌≡◌, ℕ, ◌+◌, ◌-◌, ◌*◌, ◌≤◌, IfOk, IfErr, List, Result}
+use Rattle.std.specs.Prelude.{ℕ, ◌+◌, ◌-◌, ◌*◌, ◌≤◌, IfOk, List, Result}
 use Rattle.site.specs.declared.outside.Stop.{Stop}
-use Rattle.site.specs.declared.outside.Stop.TheVariants.{Memory}
 use Rattle.site.specs.State.{State}
 use Rattle.site.specs.Work.{OnlyReads}
 use Rattle.log_records.specs.declared.log_record.LogRecord.{LogRecord}
 use Rattle.log_records.specs.Log.{Entry, log_from}
 use Rattle.log_store.specs.Representation.{Finds, HasBlocks}
 use Rattle.image_form.specs.declared.formed.Found.{Found}
+use Rattle.image_form.specs.Counted.{ReadsAtMost}
 use Rattle.image_form.specs.Formed.{MayBeRead}
 use Rattle.image_form.specs.Verdict.{Reading}
 
@@ -30,25 +30,14 @@ pub record Sees (found : Found) (blocks : List (List LogRecord)) (site : State) 
   pub log : Finds found.log site
   pub has : HasBlocks found.log.geometry found.master.kept blocks site.image
 
--- a call that only reads, and what its answer says of the blocks that stand there
-pub record Judges {T : Type 0} (found : Found) (result : Result T Stop) (old new : State)
-    (Says : List (List LogRecord) → T → Type 0) : Type 0 where
-  pub says : IfOk result (λ x. (blocks : List (List LogRecord)) → Sees found blocks old → Says blocks x)
-  pub reads : OnlyReads result old new
-
 -- how many blocks the log has from the oldest kept one on
 abbrev pub kept_blocks : Found → ℕ
 kept_blocks found = found.log.ring.hi - found.master.kept
 
--- The same by so many walks over the kept blocks at most, whatever the site: each walk reads each of them once, and
--- nothing else of the log is read.
-pub record JudgesBy {T : Type 0} (found : Found) (walks : ℕ) (result : Result T Stop) (old new : State)
+-- A call that only reads, and what its answer says of the blocks that stand there; whatever the site, by so many walks
+-- over the kept blocks at most, each of which reads each of them once, and so many reads of flash and the disk.
+pub record JudgesBy {T : Type 0} (found : Found) (walks pages : ℕ) (result : Result T Stop) (old new : State)
     (Says : List (List LogRecord) → T → Type 0) : Type 0 where
   pub says : IfOk result (λ x. (blocks : List (List LogRecord)) → Sees found blocks old → Says blocks x)
   pub reads : OnlyReads result old new
-  pub few : new.log_reads ≤ old.log_reads + walks * kept_blocks found
-
--- what is said of an answer; an error is want of memory
-pub record OrMemory {T : Type 0} (result : Result T Stop) (Done : T → Type 0) : Type 0 where
-  pub done : IfOk result Done
-  pub stops : IfErr result (λ stop. stop ≡ Memory)
+  pub few : ReadsAtMost (walks * kept_blocks found) pages old new

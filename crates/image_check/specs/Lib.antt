@@ -5,10 +5,9 @@ pub mod Filling
 pub mod Holding
 pub mod Judgement
 pub mod Judging
+pub mod Looking
 pub mod Laws
-pub mod Opening
 pub mod Showing
 pub mod Surveying
-pub mod Unended
 pub mod Values
 pub mod Writing

@@ -3,8 +3,8 @@ use Rattle.std.specs.Prelude.{ℕ, List}
 use Rattle.log_records.specs.Log.{Entry}
 use Rattle.log_records.specs.Sound.{before_block}
 use Rattle.image_check.specs.declared.survey.Survey.{Survey}
-use Rattle.image_check.specs.Counting.{NumbersAre}
-use Rattle.image_check.specs.Unended.{AreLeft}
+use Rattle.log_judge.specs.Counting.{NumbersAre}
+use Rattle.log_judge.specs.Unended.{AreLeft}
 
 -- these are the transactions that records leave unfinished, those that the records before the redo block do, and the
 -- numbers of the commits

@@ -4,10 +4,10 @@ ghost use Rattle.log_records.specs.Log.{Entry, entries_of, is_update};
 ghost use Rattle.log_records.specs.Unfinished.{is_clr, open_updates};
 ghost use Rattle.log_records.specs.Sound.{Compensates, Undoes, Continues};
 ghost use Rattle.image_check.specs.Chaining.{IsKept, HearsOwn, begin_at};
-ghost use Rattle.image_check.specs.Judging.{OrMemory};
+ghost use Rattle.log_judge.specs.Outcomes.{OrMemory};
 
 use crate::contents::Contents;
-use crate::txns::txn_of;
+use log_judge::txn_of;
 use log_records::LogRecord;
 use site::Stop;
 

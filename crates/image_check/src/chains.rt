@@ -7,12 +7,12 @@ ghost use Rattle.log_records.specs.Log.{Entry, txn_by};
 ghost use Rattle.log_records.specs.Unfinished.{losers};
 ghost use Rattle.image_check.specs.Chaining.{AreChains, Keeps, IsKept, StandsIn};
 ghost use Rattle.image_check.specs.Filling.{left_in};
-ghost use Rattle.image_check.specs.Judging.{OrMemory};
+ghost use Rattle.log_judge.specs.Outcomes.{OrMemory};
 
 use crate::chain::Chain;
 use crate::contents::Contents;
-use crate::txns::txn_of;
 use indexmap::IndexMap;
+use log_judge::txn_of;
 use log_records::LogRecord;
 use site::Stop;
 use std::alloc::Global;

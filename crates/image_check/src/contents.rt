@@ -4,7 +4,7 @@ ghost use Rattle.indexmap.specs.IndexMap.{get};
 ghost use Rattle.log_records.specs.Log.{Entry, after_of};
 ghost use Rattle.image_check.specs.Chaining.{AreLast};
 ghost use Rattle.image_check.specs.Showing.{IsAs};
-ghost use Rattle.image_check.specs.Judging.{OrMemory};
+ghost use Rattle.log_judge.specs.Outcomes.{OrMemory};
 
 use crate::holding::number_of;
 use indexmap::IndexMap;

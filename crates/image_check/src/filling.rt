@@ -1,11 +1,12 @@
 // Whether pages have room for what is redone on them, and for what undo puts back.
-ghost use Rattle.std.specs.Prelude.{◌≡◌, ◌↔◌, ◌++◌, ◌∷◌, [], ℕ, List, reverse, is_none, is_ok, IsTrue, IfOk};
+ghost use Rattle.std.specs.Prelude.{◌↔◌, ◌+◌, ◌*◌, ◌++◌, ◌∷◌, [], ℕ, List, reverse, is_none, is_ok, IsTrue, IfOk};
 ghost use Rattle.site.specs.Work.{OnlyReads};
 ghost use Rattle.log_records.specs.declared.log_record.LogRecord.{LogRecord};
 ghost use Rattle.log_records.specs.Log.{Entry, Version, number_of};
 ghost use Rattle.log_records.specs.Sound.{HaveBegunBefore};
 ghost use Rattle.log_records.specs.Unfinished.{losers};
 ghost use Rattle.image_meaning.specs.Meaning.{versions_on};
+ghost use Rattle.image_form.specs.Counted.{ReadsAtMost};
 ghost use Rattle.image_form.specs.Octets.{AreVersions};
 ghost use Rattle.image_form.specs.Findings.{AreFound};
 ghost use Rattle.image_form.specs.Newest.{AreLive};
@@ -13,18 +14,19 @@ ghost use Rattle.image_check.specs.Chaining.{StandsIn};
 ghost use Rattle.image_check.specs.Filling.{AreKept, FitsAt, HaveRoom, HearsLog, KeepsOpen, Opens, RedoneFits};
 ghost use Rattle.image_check.specs.Filling.{filled, opened, put_back_by};
 ghost use Rattle.image_check.specs.Judging.{JudgesBy, MayBeJudged, reading_of, records_of};
+ghost use Rattle.image_check.specs.Looking.{LooksOnce, without};
 ghost use Rattle.image_check.specs.Showing.{FindsVersions};
-ghost use Rattle.image_check.specs.Unended.{AreLeft};
+ghost use Rattle.log_judge.specs.Unended.{AreLeft};
 ghost use Rattle.image_form.specs.Verdict.{OctetsAreFormed, RecordsFollowBegins, LosersCanBeUndone, VersionsFit};
 ghost use Rattle.image_form.specs.Verdict.{PagesHaveRoom, logical_image_of};
 
 use crate::chains::Chains;
 use crate::lengths::Lengths;
-use crate::txns::txn_of;
-use crate::unfinished::LeftTxns;
+use crate::unfinished::is_left;
 use crate::values::page_of;
 use flash_directory::Directory;
 use image_form::{Found, Place, Walk, find_frames};
+use log_judge::{LeftTxns, txn_of};
 use log_records::LogRecord;
 use site::{Site, Stop};
 use std::alloc::Global;
@@ -71,14 +73,15 @@ impl Filling {
             × (IsTrue fits ↔ FitsAt (versions_on found.now.log.geometry (S.state site.old).image)
             (filled (versions_on found.now.log.geometry (S.state site.old).image)
             (records ++ record { lsn = lsn; rec = rec } ∷ [])) (number_of rec))) }
-        ensures log { (S.state site.new).log_reads ≡ (S.state site.old).log_reads }
+        ensures looks { LooksOnce found.now.log.geometry.pages result self.old.lengths.pages self.new.lengths.pages
+            (S.state site.old) (S.state site.new) }
         ensures reads { OnlyReads result (S.state site.old) (S.state site.new) }
     {
         let fits = match self.lengths.hear(site, found, frames, lsn, &rec) {
             Ok(fits) => fits,
             Err(stop) => return Err(stop),
         };
-        if !left.has(txn_of(lsn, &rec)) {
+        if !is_left(left, txn_of(lsn, &rec)) {
             return Ok(fits);
         }
         if let Err(stop) = self.chains.hear(lsn, rec) {
@@ -99,7 +102,8 @@ impl Filling {
         requires may { MayBeJudged found.now (S.state site.old) }
         requires live { AreLive found.now.rings frames.now }
 
-        ensures { JudgesBy found.now 1 result (S.state site.old) (S.state site.new) (λ blocks answer.
+        ensures { JudgesBy found.now 1 found.now.log.geometry.pages result (S.state site.old) (S.state site.new)
+            (λ blocks answer.
             FindsVersions found.now frames.now (S.state site.old)
             → AreVersions found.now.log.geometry (S.state site.old).image
             → HaveBegunBefore (records_of found.now blocks) → AreLeft (records_of found.now blocks) left.now.left
@@ -143,7 +147,8 @@ fn raise_all<S: Site>(
         (opened log (versions_on found.now.log.geometry (S.state site.old).image) before)
         → IfOk result (λ failing. Opens log (versions_on found.now.log.geometry (S.state site.old).image)
         (before ++ reverse updates.now) lengths.new.pages failing) }
-    ensures log { (S.state site.new).log_reads ≡ (S.state site.old).log_reads }
+    ensures looks { LooksOnce found.now.log.geometry.pages result lengths.old.pages lengths.new.pages
+        (S.state site.old) (S.state site.new) }
     ensures reads { OnlyReads result (S.state site.old) (S.state site.new) }
 {
     let mut left = updates.len();
@@ -181,7 +186,8 @@ fn find_crowded<S: Site>(
         ↔ HaveRoom (versions_on found.now.log.geometry (S.state site.old).image)
         (opened log (versions_on found.now.log.geometry (S.state site.old).image)
         (put_back_by log (losers log)))) }
-    ensures log { (S.state site.new).log_reads ≡ (S.state site.old).log_reads }
+    ensures looks { ReadsAtMost 0 (without filling.lengths.pages found.now.log.geometry.pages)
+        (S.state site.old) (S.state site.new) }
     ensures reads { OnlyReads result (S.state site.old) (S.state site.new) }
 {
     for (txn, _) in &left.left {
@@ -208,7 +214,8 @@ pub fn rule_page_room<S: Site>(
 ) -> Result<Option<Place>, Stop>
     requires { MayBeJudged found.now (S.state site.old) }
 
-    ensures { JudgesBy found.now 1 result (S.state site.old) (S.state site.new) (λ blocks failing.
+    ensures { JudgesBy found.now 1 (found.now.log.geometry.groups + 2 * found.now.log.geometry.pages) result
+        (S.state site.old) (S.state site.new) (λ blocks failing.
         AreFound found.now.rings (S.state site.old)
         → OctetsAreFormed found.now.log.geometry found.now.master (S.state site.old).image
         → RecordsFollowBegins (logical_image_of (reading_of found.now blocks) (S.state site.old).image)

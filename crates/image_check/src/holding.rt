@@ -2,15 +2,16 @@
 ghost use Rattle.std.specs.Prelude.{◌≡◌, ◌↔◌, ◌+◌, ◌++◌, ◌∷◌, [], nat_eq, List, is_none, IsTrue, IfOk};
 ghost use Rattle.indexmap.specs.IndexMap.{get};
 ghost use Rattle.log_records.specs.Log.{Entry, txn_by, number_of};
-ghost use Rattle.image_check.specs.Judging.{JudgesBy, MayBeJudged, OrMemory, reading_of, records_of};
-ghost use Rattle.image_check.specs.Unended.{AreLeft};
+ghost use Rattle.image_check.specs.Judging.{JudgesBy, MayBeJudged, reading_of, records_of};
+ghost use Rattle.log_judge.specs.Outcomes.{OrMemory};
+ghost use Rattle.log_judge.specs.Unended.{AreLeft};
 ghost use Rattle.image_check.specs.Holding.{AreHeld, IsListed, clashes_by};
 ghost use Rattle.image_form.specs.Verdict.{LosersCanBeUndone, LosersHoldOthersOff, logical_image_of};
 
-use crate::txns::txn_of;
-use crate::unfinished::LeftTxns;
+use crate::unfinished::is_left;
 use image_form::{Found, Place, Walk};
 use indexmap::IndexMap;
+use log_judge::{LeftTxns, txn_of};
 use log_records::LogRecord;
 use site::{Site, Stop};
 use std::alloc::Global;
@@ -62,7 +63,7 @@ impl HeldNumbers {
         else {
             return Ok(());
         };
-        if !left.has(*txn) {
+        if !is_left(left, *txn) {
             return Ok(());
         }
         let Ok(_) = self.held.insert(32 * *page as u64 + *slot as u64, *txn) else {
@@ -83,7 +84,7 @@ pub fn rule_apart<S: Site>(
 ) -> Result<Option<Place>, Stop>
     requires { MayBeJudged found.now (S.state site.old) }
 
-    ensures { JudgesBy found.now 1 result (S.state site.old) (S.state site.new) (λ blocks failing.
+    ensures { JudgesBy found.now 1 0 result (S.state site.old) (S.state site.new) (λ blocks failing.
         LosersCanBeUndone (logical_image_of (reading_of found.now blocks) (S.state site.old).image)
         → AreLeft (records_of found.now blocks) left.now.left
         → (IsTrue (is_none failing)

@@ -1,6 +1,8 @@
 // How many octets pages take up, record by record.
-ghost use Rattle.std.specs.Prelude.{◌≡◌, ◌↔◌, ◌/◌, ◌%◌, ◌<◌, ◌≤◌, ◌++◌, ◌∷◌, [], ℕ, nat_eq, nat_lt, max, List};
-ghost use Rattle.std.specs.Prelude.{slice_index_or, slice_set, IsTrue, IfOk, if◌then◌else◌};
+ghost use Rattle.std.specs.Prelude.{◌≡◌, ◌↔◌, ◌==◌, ◌/◌, ◌%◌, ◌<◌, ◌≤◌, ◌++◌, ◌∷◌, [], ℕ, nat_eq, nat_lt, max, List};
+ghost use Rattle.std.specs.Prelude.{slice_index_or, slice_set, is_some, Some, IsTrue, IfOk, IfSome, IfNone, OnOk};
+ghost use Rattle.std.specs.Prelude.{if◌then◌else◌};
+ghost use Rattle.indexmap.specs.IndexMap.{get};
 ghost use Rattle.site.specs.Work.{OnlyReads};
 ghost use Rattle.record_model.specs.State.{content_at, length_of, page_room};
 ghost use Rattle.log_records.specs.declared.log_record.LogRecord.{LogRecord};
@@ -8,9 +10,12 @@ ghost use Rattle.log_records.specs.Log.{Entry, Version, number_of, before_of, af
 ghost use Rattle.log_records.specs.Room.{total_on};
 ghost use Rattle.slotted_page.specs.Layout.{lsn_of, slots_of, IsSound};
 ghost use Rattle.image_meaning.specs.Meaning.{versions_on};
+ghost use Rattle.image_form.specs.Counted.{ReadsAtMost};
 ghost use Rattle.image_form.specs.Octets.{AreVersions};
 ghost use Rattle.image_form.specs.Newest.{AreLive};
-ghost use Rattle.image_check.specs.Judging.{MayBeJudged, OrMemory};
+ghost use Rattle.image_check.specs.Judging.{MayBeJudged};
+ghost use Rattle.log_judge.specs.Outcomes.{OrMemory};
+ghost use Rattle.image_check.specs.Looking.{LooksOnce, without};
 ghost use Rattle.image_check.specs.Showing.{FindsVersions};
 ghost use Rattle.image_check.specs.Filling.{AreKept, KnownOn, AreOn, Fills, filled, opened};
 
@@ -76,6 +81,12 @@ pub struct PageLengths {
 }
 
 impl PageLengths {
+    // Of a page that isn't of the form.
+    const BLANK: PageLengths = PageLengths {
+        lsn: 0,
+        lengths: [0; 32],
+    };
+
     // Those of a version.
     fn of(version: &Page) -> PageLengths
         requires { IsSound version.now }
@@ -156,8 +167,7 @@ impl Lengths {
         }
     }
 
-    // Those of a page: what is kept of it, or its version's, which is read. `None` where there is no such page, or it
-    // isn't of the form.
+    // Those of a page: what is kept of it, or its version's, which is read. `None` where there is no such page.
     fn of_page<S: Site>(
         &self,
         site: &mut S,
@@ -173,7 +183,13 @@ impl Lengths {
             → AreKept (versions_on found.now.log.geometry (S.state site.old).image) lengths self.now.pages
             → IfOk result
             (KnownOn (versions_on found.now.log.geometry (S.state site.old).image) lengths page) }
-        ensures log { (S.state site.new).log_reads ≡ (S.state site.old).log_reads }
+        ensures some { IfOk result (λ lengths. IfSome lengths (λ lengths. (page < found.now.log.geometry.pages)
+            × ReadsAtMost 0 (if is_some (get nat_eq self.now.pages page) then 0 else 1)
+            (S.state site.old) (S.state site.new))) }
+        ensures none { IfOk result (λ lengths. IfNone lengths
+            (ReadsAtMost 0 0 (S.state site.old) (S.state site.new))) }
+        ensures looks { ReadsAtMost 0 (without self.now.pages found.now.log.geometry.pages)
+            (S.state site.old) (S.state site.new) }
         ensures reads { OnlyReads result (S.state site.old) (S.state site.new) }
     {
         if page >= found.log.geometry().pages as u64 {
@@ -187,14 +203,16 @@ impl Lengths {
             Err(stop) => return Err(stop),
         };
         if !version.sound() {
-            return Ok(None);
+            return Ok(Some(PageLengths::BLANK));
         }
         Ok(Some(PageLengths::of(&version)))
     }
 
     // Keeps those of a page, and answers whether it has room for all of them.
     fn put(&mut self, page: u64, lengths: PageLengths) -> Result<bool, Stop>
-        ensures { OrMemory result (λ fits. (pages : List Version) (old new : ℕ → ℕ)
+        ensures puts { OnOk result ((p : ℕ) → get nat_eq self.new.pages p
+            ≡ (if page == p then Some lengths else get nat_eq self.old.pages p)) }
+        ensures keeps { OrMemory result (λ fits. (pages : List Version) (old new : ℕ → ℕ)
             → AreKept pages old self.old.pages → AreOn pages new page lengths
             → ((number : ℕ) → (number / 32 ≡ page → ⊥) → new number ≡ old number)
             → AreKept pages new self.new.pages × (IsTrue fits ↔ (total_on page new ≤ page_room))) }
@@ -225,7 +243,8 @@ impl Lengths {
             → IfOk result (λ fits. Fills (versions_on found.now.log.geometry (S.state site.old).image)
             (filled (versions_on found.now.log.geometry (S.state site.old).image)
             (records ++ record { lsn = lsn; rec = rec.now } ∷ [])) (number_of rec.now) self.new.pages fits) }
-        ensures log { (S.state site.new).log_reads ≡ (S.state site.old).log_reads }
+        ensures looks { LooksOnce found.now.log.geometry.pages result self.old.pages self.new.pages
+            (S.state site.old) (S.state site.new) }
         ensures reads { OnlyReads result (S.state site.old) (S.state site.new) }
     {
         let Some(number) = number_of(rec) else {
@@ -260,7 +279,8 @@ impl Lengths {
             → IfOk result (λ fits. Fills (versions_on found.now.log.geometry (S.state site.old).image)
             (opened log (versions_on found.now.log.geometry (S.state site.old).image)
             (updates ++ update.now ∷ [])) (number_of update.now) self.new.pages fits) }
-        ensures log { (S.state site.new).log_reads ≡ (S.state site.old).log_reads }
+        ensures looks { LooksOnce found.now.log.geometry.pages result self.old.pages self.new.pages
+            (S.state site.old) (S.state site.new) }
         ensures reads { OnlyReads result (S.state site.old) (S.state site.new) }
     {
         let Some(number) = number_of(update) else {

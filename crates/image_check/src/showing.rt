@@ -9,8 +9,10 @@ ghost use Rattle.log_records.specs.Log.{Entry, after_of};
 ghost use Rattle.slotted_page.specs.Layout.{slots_of, IsSound};
 ghost use Rattle.flash_cache.specs.Representation.{version_on};
 ghost use Rattle.image_meaning.specs.Meaning.{versions_on};
+ghost use Rattle.image_form.specs.Counted.{ReadsAtMost};
 ghost use Rattle.image_form.specs.Newest.{AreLive};
-ghost use Rattle.image_check.specs.Judging.{MayBeJudged, OrMemory};
+ghost use Rattle.image_check.specs.Judging.{MayBeJudged};
+ghost use Rattle.log_judge.specs.Outcomes.{OrMemory};
 ghost use Rattle.image_check.specs.Showing.{FindsVersions, AreExpected, IsKnownEarly, IsAs, HasContents, is_logged};
 
 use crate::holding::number_of;
@@ -37,7 +39,7 @@ pub fn version_of<S: Site>(
 
     ensures version { FindsVersions found.now frames.now (S.state site.old)
         → IfOk result (λ version. version ≡ version_on found.now.log.geometry (S.state site.old).image page) }
-    ensures log { (S.state site.new).log_reads ≡ (S.state site.old).log_reads }
+    ensures looks { ReadsAtMost 0 1 (S.state site.old) (S.state site.new) }
     ensures reads { OnlyReads result (S.state site.old) (S.state site.new) }
 {
     let mut octets = [0u8; PAGE_LEN];
@@ -61,6 +63,7 @@ pub fn version_lsns<S: Site>(
     ensures lsns { FindsVersions found.now frames.now (S.state site.old) → IfOk result (λ lsns.
         lsns.items ≡ map (λ v. v.lsn) (versions_on found.now.log.geometry (S.state site.old).image)) }
     ensures many { IfOk result (λ lsns. length lsns.items ≡ found.now.log.geometry.pages) }
+    ensures looks { ReadsAtMost 0 found.now.log.geometry.pages (S.state site.old) (S.state site.new) }
     ensures reads { OnlyReads result (S.state site.old) (S.state site.new) }
 {
     let mut lsns = Vec::new(alloc);

@@ -6,10 +6,10 @@ ghost use Rattle.log_records.specs.Log.{Entry, txn_by};
 ghost use Rattle.log_records.specs.Unfinished.{losers};
 ghost use Rattle.std.specs.List.{list_any};
 ghost use Rattle.image_check.specs.Chaining.{AreStrays};
-ghost use Rattle.image_check.specs.Judging.{OrMemory};
+ghost use Rattle.log_judge.specs.Outcomes.{OrMemory};
 
-use crate::txns::{closes, txn_of};
 use indexmap::IndexMap;
+use log_judge::{closes, txn_of};
 use log_records::LogRecord;
 use site::Stop;
 

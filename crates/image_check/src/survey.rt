@@ -3,17 +3,16 @@ ghost use Rattle.std.specs.Prelude.{◌≡◌, ◌↔◌, ◌^◌, ◌<◌, ◌+
 ghost use Rattle.std.specs.Prelude.{IfOk};
 ghost use Rattle.log_records.specs.Log.{Entry};
 ghost use Rattle.log_records.specs.Sound.{before_block};
-ghost use Rattle.image_check.specs.Counting.{NumbersAre};
+ghost use Rattle.log_judge.specs.Counting.{NumbersAre};
 ghost use Rattle.image_check.specs.Deciding.{IsSurveyOf};
-ghost use Rattle.image_check.specs.Judging.{JudgesBy, MayBeJudged, OrMemory, reading_of};
+ghost use Rattle.image_check.specs.Judging.{JudgesBy, MayBeJudged, reading_of};
+ghost use Rattle.log_judge.specs.Outcomes.{OrMemory};
 ghost use Rattle.image_check.specs.Surveying.{Surveys};
-ghost use Rattle.image_check.specs.Unended.{AreLeft, Comes};
+ghost use Rattle.log_judge.specs.Unended.{AreLeft, Comes};
 ghost use Rattle.image_form.specs.Verdict.{RecordsFollowBegins, logical_image_of};
 
-use crate::commits::Numbers;
-use crate::txns::OpenTxns;
-use crate::unfinished::LeftTxns;
 use image_form::{Found, Place, Walk};
+use log_judge::{LeftTxns, Numbers, OpenTxns};
 use log_records::LogRecord;
 use site::{Site, Stop};
 use std::alloc::Global;
@@ -88,7 +87,8 @@ pub fn rule_transactions<S: Site>(
 ) -> Result<Result<Survey, Place>, Stop>
     requires { MayBeJudged found.now (S.state site.old) }
 
-    ensures { JudgesBy found.now 1 result (S.state site.old) (S.state site.new) (λ blocks answer. (IsTrue (is_ok answer)
+    ensures { JudgesBy found.now 1 0 result (S.state site.old) (S.state site.new) (λ blocks answer.
+        (IsTrue (is_ok answer)
         ↔ RecordsFollowBegins (logical_image_of (reading_of found.now blocks) (S.state site.old).image))
         × IfOk answer (λ survey. IsSurveyOf found.now blocks survey)) }
 {

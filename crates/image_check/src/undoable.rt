@@ -3,17 +3,18 @@ ghost use Rattle.std.specs.Prelude.{◌≡◌, ◌↔◌, ◌++◌, ◌∷◌, [
 ghost use Rattle.indexmap.specs.IndexMap.{get};
 ghost use Rattle.log_records.specs.Log.{Entry, is_closed};
 ghost use Rattle.log_records.specs.Sound.{HaveBegunBefore};
-ghost use Rattle.image_check.specs.Unended.{AreLeft};
+ghost use Rattle.log_judge.specs.Unended.{AreLeft};
 ghost use Rattle.image_check.specs.Chaining.{IsUndoing, StandsIn};
-ghost use Rattle.image_check.specs.Judging.{JudgesBy, MayBeJudged, OrMemory, reading_of, records_of};
+ghost use Rattle.image_check.specs.Judging.{JudgesBy, MayBeJudged, reading_of, records_of};
+ghost use Rattle.log_judge.specs.Outcomes.{OrMemory};
 ghost use Rattle.image_form.specs.Verdict.{RecordsFollowBegins, LosersCanBeUndone, logical_image_of};
 
 use crate::chains::Chains;
 use crate::strays::Strays;
-use crate::txns::{closes, txn_of};
-use crate::unfinished::LeftTxns;
+use crate::unfinished::is_left;
 use image_form::{Found, Place, Walk};
 use indexmap::IndexMap;
+use log_judge::{LeftTxns, closes, txn_of};
 use log_records::LogRecord;
 use site::{Site, Stop};
 use std::alloc::Global;
@@ -46,7 +47,7 @@ impl Undoing {
             → IsUndoing log records self.old
             → IsUndoing log (records ++ record { lsn = lsn; rec = rec } ∷ []) self.new) }
     {
-        if left.has(txn_of(lsn, &rec)) {
+        if is_left(left, txn_of(lsn, &rec)) {
             return self.chains.hear(lsn, rec);
         }
         self.strays.hear(lsn, &rec)
@@ -61,7 +62,7 @@ impl Undoing {
     ) -> Result<Undoing, Stop>
         requires { MayBeJudged found.now (S.state site.old) }
 
-        ensures { JudgesBy found.now 1 result (S.state site.old) (S.state site.new) (λ blocks undoing.
+        ensures { JudgesBy found.now 1 0 result (S.state site.old) (S.state site.new) (λ blocks undoing.
             HaveBegunBefore (records_of found.now blocks) → AreLeft (records_of found.now blocks) left.now.left
             → IsUndoing (records_of found.now blocks) (records_of found.now blocks) undoing) }
     {
@@ -84,7 +85,7 @@ fn find_open<S: Site>(
 ) -> Result<Option<Place>, Stop>
     requires { MayBeJudged found.now (S.state site.old) }
 
-    ensures { JudgesBy found.now 1 result (S.state site.old) (S.state site.new) (λ blocks failing.
+    ensures { JudgesBy found.now 1 0 result (S.state site.old) (S.state site.new) (λ blocks failing.
         IsTrue (is_none failing) ↔ ((t : ℕ) → is_some (get nat_eq strays.txns t) ≡ true
         → is_closed (records_of found.now blocks) t ≡ true)) }
 {
@@ -116,7 +117,7 @@ pub fn rule_undoable<S: Site>(
 ) -> Result<Option<Place>, Stop>
     requires { MayBeJudged found.now (S.state site.old) }
 
-    ensures { JudgesBy found.now 2 result (S.state site.old) (S.state site.new) (λ blocks failing.
+    ensures { JudgesBy found.now 2 0 result (S.state site.old) (S.state site.new) (λ blocks failing.
         RecordsFollowBegins (logical_image_of (reading_of found.now blocks) (S.state site.old).image)
         → AreLeft (records_of found.now blocks) left.now.left
         → (IsTrue (is_none failing)

@@ -8,10 +8,12 @@ ghost use Rattle.log_records.specs.Sound.{Pairwise, HoldsOff};
 ghost use Rattle.slotted_page.specs.Layout.{IsSound};
 ghost use Rattle.flash_cache.specs.Representation.{version_on};
 ghost use Rattle.image_meaning.specs.Meaning.{version_in, versions_on};
+ghost use Rattle.image_form.specs.Counted.{ReadsAtMost};
 ghost use Rattle.image_form.specs.Octets.{AreVersions};
 ghost use Rattle.image_form.specs.Findings.{AreFound};
 ghost use Rattle.image_form.specs.Newest.{AreLive};
-ghost use Rattle.image_check.specs.Judging.{Judges, JudgesBy, MayBeJudged, OrMemory, reading_of, records_of};
+ghost use Rattle.image_check.specs.Judging.{JudgesBy, MayBeJudged, reading_of, records_of};
+ghost use Rattle.log_judge.specs.Outcomes.{OrMemory};
 ghost use Rattle.image_check.specs.Showing.{FindsVersions, AreExpected, IsKnownEarly, HasContents};
 ghost use Rattle.image_check.specs.Values.{Hears, ShowsLog};
 ghost use Rattle.image_form.specs.Verdict.{OctetsAreFormed, logical_image_of};
@@ -102,7 +104,7 @@ impl Logged {
     ) -> Result<Result<Logged, Place>, Stop>
         requires { MayBeJudged found.now (S.state site.old) }
 
-        ensures { JudgesBy found.now 1 result (S.state site.old) (S.state site.new) (λ blocks answer.
+        ensures { JudgesBy found.now 1 0 result (S.state site.old) (S.state site.new) (λ blocks answer.
             (IsTrue (is_ok answer)
             ↔ AllByRecursion (IsKnownEarly found.now.master.redo lsns.now) (records_of found.now blocks))
             × IfOk answer (λ logged.
@@ -145,6 +147,7 @@ impl Logged {
             (value_of log (versions_on found.now.log.geometry (S.state site.old).image))
             (range_with_len (32 * page) 32)))) }
         ensures few { IfOk result (λ count. IfSome count (λ count. count ≤ 32)) }
+        ensures looks { ReadsAtMost 0 1 (S.state site.old) (S.state site.new) }
         ensures reads { OnlyReads result (S.state site.old) (S.state site.new) }
     {
         let version = match version_of(site, found, frames, page) {
@@ -180,6 +183,7 @@ impl Logged {
             → AreVersions found.now.log.geometry (S.state site.old).image → AreWritten log log self.now.written
             → IfOk result (λ answer. IfOk answer (λ count. count
             ≡ count_by is_some (table_of log (versions_on found.now.log.geometry (S.state site.old).image)))) }
+        ensures looks { ReadsAtMost 0 found.now.log.geometry.pages (S.state site.old) (S.state site.new) }
         ensures reads { OnlyReads result (S.state site.old) (S.state site.new) }
     {
         let mut count = 0;
@@ -205,7 +209,8 @@ fn show_log<S: Site>(
     requires may { MayBeJudged found.now (S.state site.old) }
     requires live { AreLive found.now.rings frames.now }
 
-    ensures { Judges found.now result (S.state site.old) (S.state site.new) (λ blocks answer.
+    ensures { JudgesBy found.now 1 (2 * found.now.log.geometry.pages) result (S.state site.old) (S.state site.new)
+        (λ blocks answer.
         FindsVersions found.now frames.now (S.state site.old)
         → AreVersions found.now.log.geometry (S.state site.old).image
         → ShowsLog (logical_image_of (reading_of found.now blocks) (S.state site.old).image) answer) }
@@ -241,7 +246,8 @@ pub fn rule_shown<S: Site>(
 ) -> Result<Result<u64, Place>, Stop>
     requires { MayBeJudged found.now (S.state site.old) }
 
-    ensures { Judges found.now result (S.state site.old) (S.state site.new) (λ blocks answer.
+    ensures { JudgesBy found.now 1 (found.now.log.geometry.groups + 2 * found.now.log.geometry.pages) result
+        (S.state site.old) (S.state site.new) (λ blocks answer.
         AreFound found.now.rings (S.state site.old)
         → OctetsAreFormed found.now.log.geometry found.now.master (S.state site.old).image
         → ShowsLog (logical_image_of (reading_of found.now blocks) (S.state site.old).image) answer) }

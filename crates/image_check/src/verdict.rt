@@ -1,10 +1,11 @@
 // The verdict on devices.
-ghost use Rattle.std.specs.Prelude.{◌≡◌, IsTrue, IfOk};
+ghost use Rattle.std.specs.Prelude.{◌≡◌, ◌+◌, ◌*◌, IsTrue, IfOk};
 ghost use Rattle.site.specs.Work.{OnlyReads};
 ghost use Rattle.log_records.specs.Sound.{commit_count};
-ghost use Rattle.image_check.specs.Deciding.{Decides, HoldOr, IsSurveyOf};
+ghost use Rattle.image_check.specs.Deciding.{Decides, HoldOr, IsSurveyOf, log_checked, pages_checked};
 ghost use Rattle.image_check.specs.Judging.{MayBeJudged, reading_of};
 ghost use Rattle.image_check.specs.Judgement.{IsVerdictOn};
+ghost use Rattle.image_form.specs.Counted.{ReadsBySizes};
 ghost use Rattle.image_form.specs.Verdict.{logical_image_of, values_of};
 
 use crate::commits::rule_commits;
@@ -36,7 +37,8 @@ fn failing_on_log<S: Site>(
 ) -> Result<Option<(u8, Place)>, Stop>
     requires { MayBeJudged found.now (S.state site.old) }
 
-    ensures { Decides 4 found.now result (S.state site.old) (S.state site.new) (λ blocks failing.
+    ensures { Decides 4 found.now 3 0 result
+        (S.state site.old) (S.state site.new) (λ blocks failing.
         IsSurveyOf found.now blocks survey.now
         → HoldOr 6 failing (reading_of found.now blocks) (S.state site.old).image) }
 {
@@ -50,14 +52,19 @@ fn failing_on_log<S: Site>(
 }
 
 // The first that fails of the seventh and the eighth rule, and where.
-fn failing_on_flash<S: Site>(site: &mut S, found: &Found) -> Result<Option<(u8, Place)>, Stop>
+fn failing_on_flash<S: Site>(
+    alloc: Global,
+    site: &mut S,
+    found: &Found,
+) -> Result<Option<(u8, Place)>, Stop>
     requires { MayBeJudged found.now (S.state site.old) }
 
-    ensures { Decides 7 found.now result (S.state site.old) (S.state site.new) (λ blocks failing.
+    ensures { Decides 7 found.now 0 (20 * found.now.log.geometry.groups) result
+        (S.state site.old) (S.state site.new) (λ blocks failing.
         HoldOr 9 failing (reading_of found.now blocks) (S.state site.old).image) }
 {
     let geometry = found.log.geometry();
-    if let Some(place) = rule_clean(site, &geometry, &found.rings)? {
+    if let Some(place) = rule_clean(alloc, site, &geometry, &found.rings)? {
         return Ok(Some((7, place)));
     }
     if let Some(place) = rule_following(site, &geometry, &found.rings)? {
@@ -76,7 +83,8 @@ fn judge_room<S: Site>(
 ) -> Result<Verdict, Stop>
     requires { MayBeJudged found.now (S.state site.old) }
 
-    ensures { Decides 12 found.now result (S.state site.old) (S.state site.new) (λ blocks verdict.
+    ensures { Decides 12 found.now 1 (found.now.log.geometry.groups + 2 * found.now.log.geometry.pages) result
+        (S.state site.old) (S.state site.new) (λ blocks verdict.
         IsSurveyOf found.now blocks survey.now
         → counts.0 ≡ values_of (logical_image_of (reading_of found.now blocks) (S.state site.old).image)
         → counts.1 ≡ commit_count (logical_image_of (reading_of found.now blocks) (S.state site.old).image)
@@ -99,7 +107,8 @@ fn judge_counts<S: Site>(
 ) -> Result<Verdict, Stop>
     requires { MayBeJudged found.now (S.state site.old) }
 
-    ensures { Decides 9 found.now result (S.state site.old) (S.state site.new) (λ blocks verdict.
+    ensures { Decides 9 found.now 1 (found.now.log.geometry.groups + 2 * found.now.log.geometry.pages) result
+        (S.state site.old) (S.state site.new) (λ blocks verdict.
         IsSurveyOf found.now blocks survey.now
         → records ≡ values_of (logical_image_of (reading_of found.now blocks) (S.state site.old).image)
         → IsVerdictOn (S.state site.old).image verdict) }
@@ -134,7 +143,8 @@ fn judge_pages<S: Site>(
 ) -> Result<Verdict, Stop>
     requires { MayBeJudged found.now (S.state site.old) }
 
-    ensures { Decides 6 found.now result (S.state site.old) (S.state site.new) (λ blocks verdict.
+    ensures { Decides 6 found.now 2 (22 * found.now.log.geometry.groups + 4 * found.now.log.geometry.pages) result
+        (S.state site.old) (S.state site.new) (λ blocks verdict.
         IsSurveyOf found.now blocks survey.now
         → IsVerdictOn (S.state site.old).image verdict) }
 {
@@ -142,7 +152,7 @@ fn judge_pages<S: Site>(
         Ok(records) => records,
         Err(place) => return Ok(Verdict::Unsound { rule: 6, place }),
     };
-    if let Some((rule, place)) = failing_on_flash(site, found)? {
+    if let Some((rule, place)) = failing_on_flash(alloc, site, found)? {
         return Ok(Verdict::Unsound { rule, place });
     }
     judge_counts(alloc, site, found, survey, records)
@@ -152,7 +162,8 @@ fn judge_pages<S: Site>(
 fn judge_found<S: Site>(alloc: Global, site: &mut S, found: &Found) -> Result<Verdict, Stop>
     requires { MayBeJudged found.now (S.state site.old) }
 
-    ensures { Decides 3 found.now result (S.state site.old) (S.state site.new) (λ blocks verdict.
+    ensures { Decides 3 found.now 6 (22 * found.now.log.geometry.groups + 4 * found.now.log.geometry.pages) result
+        (S.state site.old) (S.state site.new) (λ blocks verdict.
         IsVerdictOn (S.state site.old).image verdict) }
 {
     let survey = match rule_transactions(alloc, site, found)? {
@@ -169,9 +180,10 @@ fn judge_found<S: Site>(alloc: Global, site: &mut S, found: &Found) -> Result<Ve
 pub fn check_image<S: Site>(alloc: Global, site: &mut S) -> Result<Verdict, Stop>
     ensures verdict { IsTrue (S.state site.old).honest
         → IfOk result (λ verdict. IsVerdictOn (S.state site.old).image verdict) }
+    ensures looks { ReadsBySizes log_checked pages_checked (S.state site.old) (S.state site.new) }
     ensures reads { OnlyReads result (S.state site.old) (S.state site.new) }
 {
-    let found = match find_formed(site)? {
+    let found = match find_formed(alloc, site)? {
         Ok(found) => found,
         Err(place) => return Ok(Verdict::Unsound { rule: 1, place }),
     };

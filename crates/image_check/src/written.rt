@@ -6,7 +6,7 @@ ghost use Rattle.indexmap.specs.IndexMap.{get};
 ghost use Rattle.indexmap.specs.IndexSet.{contains};
 ghost use Rattle.log_records.specs.Log.{Entry, Version, slot_at, value_of};
 ghost use Rattle.log_records.specs.Sound.{Pairwise, HoldsOff};
-ghost use Rattle.image_check.specs.Judging.{OrMemory};
+ghost use Rattle.log_judge.specs.Outcomes.{OrMemory};
 ghost use Rattle.image_check.specs.Writing.{AreWritten, before_by};
 
 use indexmap::{IndexMap, IndexSet};

@@ -482,7 +482,7 @@ enum PageRule {
 }
 
 // Whether such a rule holds, where the rings are of the form.
-fn holds_of_pages(site: &mut MemSite, rule: PageRule) -> Result<Option<bool>, Stop> {
+fn holds_of_pages(alloc: Global, site: &mut MemSite, rule: PageRule) -> Result<Option<bool>, Stop> {
     let Some(geometry) = rule_lengths(site) else {
         return Ok(None);
     };
@@ -492,8 +492,8 @@ fn holds_of_pages(site: &mut MemSite, rule: PageRule) -> Result<Option<bool>, St
     let failing = match rule {
         PageRule::Groups => rule_groups(site, &geometry, &rings)?,
         PageRule::Segments => rule_segments(site, &geometry, &rings)?,
-        PageRule::Versions => rule_versions(site, &geometry, &rings)?,
-        PageRule::Clean => rule_clean(site, &geometry, &rings)?,
+        PageRule::Versions => rule_versions(alloc, site, &geometry, &rings)?,
+        PageRule::Clean => rule_clean(alloc, site, &geometry, &rings)?,
         PageRule::Following => rule_following(site, &geometry, &rings)?,
     };
     Ok(Some(failing.is_none()))
@@ -555,7 +555,7 @@ fn is_found(alloc: Global, site: &mut MemSite, found: Finds) -> Result<bool, Sto
             }
             Ok(rule_master(site)? == Some(Master::blank()))
         }
-        Finds::OnPages(rule, holds) => Ok(holds_of_pages(site, rule)? == Some(holds)),
+        Finds::OnPages(rule, holds) => Ok(holds_of_pages(alloc, site, rule)? == Some(holds)),
         Finds::Shown(redo, shown) => Ok(values_after(alloc, site, redo)?.is_some() == shown),
         Finds::Values(redo, count) => Ok(values_after(alloc, site, redo)? == Some(count)),
         Finds::Judged(verdict) => Ok(check_image(alloc, site)? == verdict),

@@ -1,17 +1,9 @@
 -- The records of blocks, block by block and as one log.
-use Rattle.std.proofs.Common.{◌≡◌, ℕ, ◌+◌, ◌*◌, ◌≤◌, List, [], ◌∷◌, ◌++◌, length, take, refl, sym, ◌∙◌, subst, arith}
-use Rattle.std.specs.Prelude.{flat_map}
-use Rattle.std.specs.List.{AllByRecursion}
+use Rattle.image_form.proofs.Names.{◌≡◌, ℕ, ◌+◌, ◌*◌, ◌≤◌, List, [], ◌∷◌, ◌++◌, length, take, refl, sym, ◌∙◌, subst, arith, length-append, AllByRecursion, flat_map, IsOnPage, behind, some_octet, used_is, Entry, Version, entries_from, log_from, spelling, used_by, HasForm, AreBlock, IsBlock, LogRecord}
 use Rattle.std.specs.Int.{from_be_bytes, w16}
-use Rattle.std.proofs.lemmas.List.{length-append}
 use Rattle.std_lemmas.proofs.Lists.{front_same}
-use Rattle.log_records.specs.declared.log_record.LogRecord.{LogRecord}
 use Rattle.log_records.specs.declared.log_record.LogRecord.TheVariants.{Begin, Update, Clr, Commit, End}
-use Rattle.log_records.specs.Spelling.{spelling, used_by, HasForm, AreBlock, IsBlock}
-use Rattle.log_records.specs.Log.{Entry, Version, entries_from, log_from}
 use Rattle.log_records.specs.Sound.{IsInOrder, IsInTable}
-use Rattle.log_records.proofs.Blocks.{behind, some_octet, used_is}
-use Rattle.image_form.specs.Octets.{IsOnPage}
 use Rattle.log_records.proofs.Entries.{in_order_from}
 use Rattle.log_store.proofs.OneLog.{one_list}
 

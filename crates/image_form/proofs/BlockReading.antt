@@ -1,12 +1,6 @@
 -- Walking over the records of a block.
 use Rattle.std.proofs.lemmas.Grind.{common_steps}
-use Rattle.std.proofs.Common.{◌≡◌, ℕ, ◌+◌, ◌≤◌, ◌<◌, List, [], ◌∷◌, ◌++◌, length, drop, refl, sym, ap, ◌∙◌, subst, append_assoc, arith}
-use Rattle.std.specs.Prelude.{flat_map}
-use Rattle.std.proofs.lemmas.List.{length-append, drop-drop, drop_at}
-use Rattle.log_records.specs.declared.log_record.LogRecord.{LogRecord}
-use Rattle.log_records.specs.Spelling.{spelling, used_by, IsBlock, IsSpelledAt}
-use Rattle.image_form.specs.Walking.{IsLeft}
-use Rattle.log_records.proofs.Blocks.{behind, some_octet, one_spelled, spelled_next}
+use Rattle.image_form.proofs.Names.{◌≡◌, ℕ, ◌+◌, ◌≤◌, ◌<◌, List, [], ◌∷◌, ◌++◌, length, drop, refl, sym, ap, ◌∙◌, subst, append_assoc, arith, length-append, drop-drop, drop_at, flat_map, IsLeft, behind, some_octet, one_spelled, spelled_next, spelling, used_by, IsBlock, IsSpelledAt, LogRecord}
 
 -- at first all are left
 pub all_left : (content : List ℕ) (used : ℕ) (records : List LogRecord) → IsBlock content records → used ≡ used_by records → IsLeft content used 2 records

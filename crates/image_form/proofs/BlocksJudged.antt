@@ -1,19 +1,7 @@
 -- What was read of one block, and of all.
 use Rattle.std.proofs.lemmas.Grind.{common_steps}
-use Rattle.std.proofs.Common.{◌≡◌, inl, inr, ℕ, ◌+◌, ◌-◌, ◌≤◌, ◌<◌, List, sym, subst, arith}
-use Rattle.std.proofs.lemmas.Bool.{cases_eq}
-use Rattle.site.specs.State.{State}
-use Rattle.site.specs.Calls.{Preserves}
-use Rattle.site.proofs.Laws.{stays_honest}
-use Rattle.sealed_ring.specs.Ring.{IsLive, hi_of}
-use Rattle.image_changes.specs.Rings.{log_shape}
-use Rattle.log_records.specs.declared.log_record.LogRecord.{LogRecord}
-use Rattle.log_store.specs.declared.store.LogStore.{LogStore}
-use Rattle.log_store.specs.Representation.{Invariant, Finds, block_on}
+use Rattle.image_form.proofs.Names.{◌≡◌, inl, inr, ℕ, ◌+◌, ◌-◌, ◌≤◌, ◌<◌, List, sym, subst, arith, refl, cases_eq, log_shape, IsBlockOn, AreBlocks, LogRecord, Invariant, Finds, block_on, LogStore, usable_later, IsLive, hi_of, stays_honest, Preserves, State}
 use Rattle.log_store.proofs.GoingOn.{goes_on}
-use Rattle.image_form.specs.Octets.{IsBlockOn, AreBlocks}
-use Rattle.std.proofs.Common.{refl}
-use Rattle.sealed_ring.proofs.Stays.{usable_later}
 
 pub finds_later : (store : LogStore) (a b : State) → Preserves a b → b.image ≡ a.image → Finds store a → Finds store b
 finds_later store a b goes same finds = grind (arith, common_steps, stays_honest)

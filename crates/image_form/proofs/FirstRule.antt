@@ -1,18 +1,8 @@
 -- What was found, after calls that only read, and the first rule of it.
 use Rattle.std.proofs.lemmas.Grind.{common_steps}
-use Rattle.std.proofs.Common.{◌≡◌, ◌↔◌, true, false, true≢false, Bool, IsTrue, sym, ap, ◌∙◌, subst, arith}
-use Rattle.std.specs.Prelude.{Option, Some, None, is_none, Result, Ok, Err, IfOk}
-use Rattle.site.specs.declared.geometry.Geometry.{Geometry}
-use Rattle.site.specs.declared.outside.Stop.{Stop}
-use Rattle.site.specs.State.{State, Image}
-use Rattle.site.specs.Calls.{Preserves}
-use Rattle.site.specs.Work.{OnlyReads}
+use Rattle.image_form.proofs.Names.{◌≡◌, ◌↔◌, true, false, true≢false, Bool, IsTrue, sym, ap, ◌∙◌, subst, arith, Option, Some, is_none, Result, Ok, Err, IfOk, MayBeRead, IsThere, HasSizes, OctetsAreFormed, FailsFirst, Found, Place, Preserves, State, Image, OnlyReads, Geometry, Stop}
+use Rattle.std.specs.Prelude.{None}
 use Rattle.checkpoint.specs.Laws.{OneNewest}
-use Rattle.image_form.specs.declared.formed.Found.{Found}
-use Rattle.image_form.specs.declared.place.Place.{Place}
-use Rattle.image_form.specs.Octets.{HasSizes}
-use Rattle.image_form.specs.Formed.{MayBeRead, IsThere}
-use Rattle.image_form.specs.Verdict.{OctetsAreFormed, FailsFirst}
 use Rattle.image_form.proofs.Lasting.{may_read_later, found_later}
 use Rattle.image_form.proofs.BlocksJudged.{finds_later, going_later}
 

@@ -1,20 +1,6 @@
 -- A group read frame by frame.
 use Rattle.std.proofs.lemmas.Grind.{common_steps}
-use Rattle.std.proofs.Common.{◌≡◌, ℕ, ◌+◌, ◌-◌, ◌*◌, ◌<◌, ◌≤◌, true, List, [], ◌∷◌, ◌++◌, length, get_or, map, take, drop, replicate, refl, sym, ap, subst, ◌∙◌, arith}
-use Rattle.std.specs.List.{AllByRecursion}
-use Rattle.std.proofs.lemmas.List.{take_all, take_more, length-append, length-map, get_or_append_left, get_or-map}
-use Rattle.std_lemmas.proofs.AllOf.{all_at, all_push}
-use Rattle.site.specs.declared.geometry.Geometry.{Geometry}
-use Rattle.byte_fields.specs.declared.frame_head.FrameHead.{FrameHead}
-use Rattle.byte_fields.specs.FrameHeads.{blank, present_in_front, AreGroupHeads}
-use Rattle.frame_group.specs.declared.group.TheConstants.{PAGE_LEN, HEADS_LEN}
-use Rattle.frame_group.specs.Groups.{Frame, head_of, frame_of, heads_of, group, IsFrame, IsGroup}
-use Rattle.frame_group.proofs.Pages.{pages_stand}
-use Rattle.flash_cache.proofs.Given.{same_lsn}
-use Rattle.image_meaning.specs.Meaning.{IsFrameOf}
-use Rattle.image_form.specs.Octets.{IsGroupOn}
-use Rattle.image_form.specs.Framing.{IsFrameBy}
-use Rattle.frame_group.proofs.Front.{front_present}
+use Rattle.image_form.proofs.Names.{◌≡◌, ℕ, ◌+◌, ◌-◌, ◌*◌, ◌<◌, ◌≤◌, true, List, [], ◌∷◌, ◌++◌, length, get_or, map, take, drop, replicate, refl, sym, ap, subst, ◌∙◌, arith, take_all, take_more, length-append, length-map, get_or_append_left, get_or-map, AllByRecursion, blank, present_in_front, AreGroupHeads, FrameHead, same_lsn, front_present, pages_stand, Frame, head_of, frame_of, heads_of, group, IsFrame, IsGroup, PAGE_LEN, HEADS_LEN, IsFrameBy, IsGroupOn, IsFrameOf, Geometry, all_at, all_push}
 
 -- the first frames of a content were put into another one
 pub record Put (content again : List ℕ) (pages n : ℕ) : Type 0 where

@@ -1,21 +1,7 @@
 -- What was found of sizes and rings holds after calls that only read.
-use Rattle.std.proofs.Common.{arith}
 use Rattle.std.proofs.lemmas.Grind.{common_steps}
-use Rattle.std.proofs.Common.{◌≡◌, sym, ◌∙◌, ap, subst}
-use Rattle.std.specs.Prelude.{Option, Some, IfSome}
-use Rattle.site.specs.declared.outside.Dev.TheVariants.{Log, Flash, Disk}
-use Rattle.site.specs.declared.geometry.Geometry.{Geometry}
-use Rattle.site.specs.State.{State, Image, content_of}
-use Rattle.site.specs.Calls.{Preserves}
-use Rattle.sealed_ring.specs.declared.slots.Shape.{Shape}
-use Rattle.sealed_ring.specs.declared.ring.Ring.{Ring}
-use Rattle.sealed_ring.specs.Ring.{IsRing, hi_of}
-use Rattle.sealed_ring.specs.Ready.{region, IsUsable, Matches}
+use Rattle.image_form.proofs.Names.{arith, ◌≡◌, sym, ◌∙◌, ap, subst, Option, Some, IfSome, MayRead, AreFound, HasSizes, Rings, usable_later, region, IsUsable, Matches, IsRing, hi_of, Ring, Shape, Preserves, State, Image, content_of, Geometry, Log, Flash, Disk}
 use Rattle.sealed_ring.specs.Judged.{IsJudged}
-use Rattle.image_form.specs.declared.rings.Rings.{Rings}
-use Rattle.image_form.specs.Octets.{HasSizes}
-use Rattle.image_form.specs.Findings.{MayRead, AreFound}
-use Rattle.sealed_ring.proofs.Stays.{usable_later}
 
 pub fits_later : (ring : Ring) (a b : State) → b.image ≡ a.image → Matches ring a → Matches ring b
 fits_later ring a b same fits = fits ∙ ap (λ (image : Image). hi_of ring.shape (content_of ring.shape.dev image)) (sym same)

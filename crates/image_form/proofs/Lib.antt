@@ -1,3 +1,4 @@
+mod Names
 pub mod BlocksJudged
 pub mod Lasting
 pub mod LiveUnits
@@ -8,7 +9,7 @@ pub mod SavedHeads
 pub mod UnitsJudged
 pub mod Walks
 pub mod GroupsRead
-pub mod LastOnes
 pub mod CleanOnes
+pub mod Counts
 pub mod NewestRead
 pub mod FirstRule

@@ -1,15 +1,6 @@
 -- The live units of a ring, one by one and as a list.
 use Rattle.std.proofs.lemmas.Grind.{common_steps}
-use Rattle.std.proofs.Common.{◌≡◌, ℕ, zero, suc, ◌+◌, ◌-◌, ◌%◌, ◌≤◌, ◌<◌, min, List, refl, subst, arith}
-use Rattle.std.specs.List.{AllByRecursion}
-use Rattle.std_lemmas.proofs.AllOf.{all_at}
-use Rattle.site.specs.State.{Image}
-use Rattle.sealed_ring.specs.declared.slots.Shape.{Shape}
-use Rattle.sealed_ring.specs.Ring.{IsLive, hi_of, content_at, units_from, unit_at}
-use Rattle.sealed_ring.proofs.Heads.{unit_is}
-use Rattle.sealed_ring.proofs.Units.{live_count}
-use Rattle.image_changes.specs.Rings.{octets_of, units_on}
-use Rattle.image_form.specs.Octets.{OfLive}
+use Rattle.image_form.proofs.Names.{◌≡◌, ℕ, zero, suc, ◌+◌, ◌-◌, ◌%◌, ◌≤◌, ◌<◌, min, List, refl, subst, arith, AllByRecursion, octets_of, units_on, OfLive, unit_is, live_count, IsLive, hi_of, content_at, units_from, unit_at, Shape, Image, all_at}
 
 pub all_from : (P : List ℕ → Type 0) (s : Shape) (c : List ℕ) (first k : ℕ) → ((i : ℕ) → i < k → P (content_at s c ((first + i) % s.slots))) → AllByRecursion P (units_from s c first k)
 all_from P s c first zero each = tt

@@ -1,35 +1,15 @@
 -- The queue of the live groups' frames, and the versions that it leads to.
 use Rattle.std.proofs.lemmas.Grind.{common_steps}
-use Rattle.std.proofs.Common.{◌≡◌, ◌≢◌, ℕ, zero, suc, ◌+◌, ◌-◌, ◌*◌, ◌%◌, ◌≤◌, ◌<◌, Bool, true, false, List, [], ◌∷◌, ◌++◌, length, get_or, map, take, drop, Option, Some, None, option_map, refl, sym, ap, subst, ◌∙◌, arith}
-use Rattle.std.proofs.lemmas.List.{length-map, length-append, map-append, get_or-map}
-use Rattle.std.proofs.lemmas.Option.{none-some}
-use Rattle.site.specs.declared.geometry.Geometry.{Geometry}
-use Rattle.site.specs.declared.outside.Dev.{Dev}
-use Rattle.site.specs.declared.outside.Dev.TheVariants.{Disk, Log}
-use Rattle.site.specs.State.{State, Image, reads_of}
-use Rattle.sealed_ring.specs.declared.slots.Shape.{Shape}
-use Rattle.sealed_ring.specs.Ring.{IsLive, hi_of, content_at, units_from}
-use Rattle.sealed_ring.proofs.Heads.{unit_is}
-use Rattle.sealed_ring.proofs.Units.{live_count}
-use Rattle.image_changes.specs.Rings.{group_shape, units_on}
-use Rattle.byte_fields.specs.declared.frame_head.FrameHead.{FrameHead}
-use Rattle.byte_fields.specs.FrameHeads.{AreGroupHeads}
-use Rattle.std.specs.Prelude.{IfSome, All}
-use Rattle.frame_group.specs.Groups.{Frame, heads_of, frames_in, IsGroup}
+use Rattle.image_form.proofs.Names.{◌≡◌, ℕ, zero, suc, ◌+◌, ◌-◌, ◌*◌, ◌%◌, ◌≤◌, ◌<◌, List, [], ◌∷◌, ◌++◌, length, get_or, map, take, drop, None, option_map, refl, sym, ap, subst, ◌∙◌, arith, length-map, length-append, map-append, get_or-map, none-some, IfSome, AreGroupHeads, FrameHead, AllTogether, Shows, disk_on, groups_on, frames_on, version_on, last_place, newest, known_in, frames_are_in, pages_stand, Frame, heads_of, frames_in, IsGroup, group_shape, units_on, ShowsFrames, AreGroups, unit_is, live_count, IsLive, hi_of, content_at, units_from, Queue, Image, Geometry, group_on}
+use Rattle.std.proofs.Common.{Option, Some}
+use Rattle.std.specs.Prelude.{All}
 use Rattle.frame_group.specs.Versions.{frames_of, last_frame, version_by}
-use Rattle.frame_group.proofs.Contents.{frames_are_in}
-use Rattle.frame_group.proofs.Pages.{pages_stand}
-use Rattle.second_chance.specs.Queue.{Queue}
 use Rattle.flash_directory.specs.declared.place.Place.{Place}
-use Rattle.flash_directory.specs.Heads.{last_place, newest, frames_in as known_in}
 use Rattle.flash_directory.proofs.Newest.{placed, last_among-place}
-use Rattle.flash_cache.specs.Representation.{AllTogether, Shows, disk_on, groups_on, frames_on, version_on}
 use Rattle.flash_cache.proofs.Fetching.{newest_at}
 use Rattle.flash_cache.proofs.Queues.{joined, last_of_groups, together_length, together_at}
 use Rattle.flash_cache.proofs.Standing.{known_groups, all_shown}
-use Rattle.tail_rebuild.specs.Standing.{group_on}
-use Rattle.image_form.specs.Octets.{AreGroups}
-use Rattle.image_form.specs.Newest.{ShowsFrames}
+use Rattle.image_form.proofs.GroupsRead.{no_frame}
 use Rattle.sealed_ring.proofs.Alters.{units_push}
 
 -- The heads of all groups, one after the other.
@@ -70,10 +50,10 @@ pub all_groups : (g : Geometry) (image : Image) (first : ℕ) (list : List (List
     first + length list ≡ hi_of (group_shape g) image.flash → AreHeadsFrom g image first list → frames ≡ record { first = first; groups = map known_in list } → ShowsFrames g image frames
 all_groups g image first list frames slots at end are is = grind (arith, common_steps, length-map, known_groups)
 
--- The version of a page.
+pub shown_some : (g : Geometry) (image : Image) (o : Option Queue) (frames : Queue) → o ≡ Some frames → IfSome o (λ found. ShowsFrames g image found) → ShowsFrames g image frames
+shown_some g image o frames is shown = subst (λ (x : Option Queue). IfSome x (λ found. ShowsFrames g image found)) is shown
 
-no_frame : Frame
-no_frame = record { page = 0; dirty = false; octets = [] }
+-- The version of a page.
 
 frames_joined : (contents : List (List ℕ)) → frames_of contents ≡ joined (map frames_in contents)
 frames_joined [] = refl
@@ -90,12 +70,20 @@ module _ (g : Geometry) (image : Image) (queue : Queue) (page : ℕ) (slots : 3 
   last_is = ap (last_frame page) (frames_joined (units_on (group_shape g) image).live) ∙ last_of_groups queue.groups (groups_on g image) page no_frame known
 
   -- a page without a frame
-  pub disk_version : None ≡ newest queue page → disk_on image page ≡ version_on g image page
-  disk_version none = grind (arith, common_steps, last_among-place, option_map, placed, last_is, get_or, no_frame, none-some)
+  pub no_newest : None ≡ newest queue page → last_frame page (frames_on g image) ≡ None
+  no_newest none = grind (arith, common_steps, last_among-place, option_map, placed, last_is, none-some)
 
-  -- and one with a frame
-  pub frame_version : (place : Place) → Some place ≡ newest queue page → take 4096 (drop (128 + 4096 * place.index) (group_on g image place.group)) ≡ version_on g image page
-  frame_version place is =
+  pub disk_version : None ≡ newest queue page → disk_on image page ≡ version_on g image page
+  disk_version none = ap (λ (o : Option Frame). version_by o (disk_on image page)) (sym (no_newest none))
+
+  -- one with a frame: where the last one stands
+  pub record StandsNewest (place : Place) : Type 0 where
+    pub live : IsLive (group_shape g) (hi_of (group_shape g) image.flash) place.group
+    pub within : place.index < length (frames_in (group_on g image place.group))
+    pub last : last_frame page (frames_on g image) ≡ Some (get_or (frames_in (group_on g image place.group)) place.index no_frame)
+
+  pub stands_newest : (place : Place) → Some place ≡ newest queue page → StandsNewest place
+  stands_newest place is =
       let s = group_shape g in
       let hi : ℕ = hi_of (group_shape g) image.flash in
       let live_list : List (List ℕ) = (units_on s image).live in
@@ -109,30 +97,25 @@ module _ (g : Geometry) (image : Image) (queue : Queue) (page : ℕ) (slots : 3 
       let low = at.below in
       let same = many in
       let below : k < length live_list = omega (arith, low, same, all) in
-      let live : IsLive s hi place.group = record { below = omega (arith, number, next, low); near = omega (arith, number, next, low, same, all, count, slots) } in
-      let group = are place.group live in
       let index : place.group - (hi - (g.groups - 1)) ≡ k = omega (arith, number, next, same, all, count) in
       let content : group_on g image place.group ≡ get_or live_list k [] = ap (λ (i : ℕ). get_or live_list i []) index in
-      let own : get_or (groups_on g image) k [] ≡ group.0 = get_or-map frames_in live_list k [] [] below ∙ ap frames_in (sym content) ∙ frames_are_in (group_on g image place.group) group.0 group.1.group in
+      let own : get_or (groups_on g image) k [] ≡ frames_in (group_on g image place.group) = get_or-map frames_in live_list k [] [] below ∙ ap frames_in (sym content) in
       let together = together_at (AllTogether Shows) queue.groups (groups_on g image) k [] [] known at.below in
       let long = together_length Shows (get_or queue.groups k []) (get_or (groups_on g image) k []) together in
-      let size : length (get_or (groups_on g image) k []) ≡ length group.0 = ap length own in
-      let within : place.index < length group.0 = let inside = at.within in omega (arith, inside, long, size) in
-      let last : last_frame page (frames_on g image) ≡ Some (get_or group.0 place.index no_frame) =
-      last_is ∙ ap (option_map (λ (p : ℕ × ℕ). get_or (get_or (groups_on g image) p.0 []) p.1 no_frame)) at.found ∙ ap (λ (l : List Frame). Some (get_or l place.index no_frame)) own in
-      pages_stand (group_on g image place.group) group.0 place.index no_frame group.1.group within ∙ sym (ap (λ (o : Option Frame). version_by o (disk_on image page)) last)
+      let size : length (get_or (groups_on g image) k []) ≡ length (frames_in (group_on g image place.group)) = ap length own in
+      let inside = at.within in
+      record {
+        live = record { below = omega (arith, number, next, low); near = omega (arith, number, next, low, same, all, count, slots) };
+        within = omega (arith, inside, long, size);
+        last = last_is ∙ ap (option_map (λ (p : ℕ × ℕ). get_or (get_or (groups_on g image) p.0 []) p.1 no_frame)) at.found ∙ ap (λ (l : List Frame). Some (get_or l place.index no_frame)) own;
+      }
 
--- A read of flash or of the disk leaves the log unread.
-
-abbrev is_log : Dev → Bool
-is_log Log = true
-is_log d = false
-
-pub log_unread : (dev : Dev) (old new : State) → dev ≢ Log → ((d : Dev) → d ≢ dev → reads_of d new ≡ reads_of d old) → new.log_reads ≡ old.log_reads
-log_unread dev old new other others = others Log (λ same. other (sym same))
-
-pub disk_is_not_log : Disk ≢ Log
-disk_is_not_log same = let never : false ≡ true = ap is_log same in absurd (grind arith)
-
-pub groups_off_log : (s : Shape) (g : Geometry) → s ≡ group_shape g → s.dev ≢ Log
-groups_off_log s g is same = let never : false ≡ true = sym (ap (λ (x : Shape). is_log x.dev) is) ∙ ap is_log same in absurd (grind arith)
+  pub frame_version : (place : Place) → Some place ≡ newest queue page → take 4096 (drop (128 + 4096 * place.index) (group_on g image place.group)) ≡ version_on g image page
+  frame_version place is =
+      let stands = stands_newest place is in
+      let group = are place.group stands.live in
+      let within = stands.within in
+      let last = stands.last in
+      let own : frames_in (group_on g image place.group) ≡ group.0 = frames_are_in (group_on g image place.group) group.0 group.1.group in
+      pages_stand (group_on g image place.group) group.0 place.index no_frame group.1.group (subst (λ (l : List Frame). place.index < length l) own within)
+      ∙ ap (λ (l : List Frame). (get_or l place.index no_frame).octets) (sym own) ∙ sym (ap (λ (o : Option Frame). version_by o (disk_on image page)) last)

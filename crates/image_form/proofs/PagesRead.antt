@@ -1,14 +1,6 @@
 -- The records of a block read in order, each on a page of the disk.
-use Rattle.std.proofs.Common.{arith}
 use Rattle.std.proofs.lemmas.Grind.{common_steps}
-use Rattle.std.proofs.Common.{◌≡◌, ℕ, ◌≤◌, ◌<◌, List, [], ◌∷◌, ◌++◌, sym, ap, ◌∙◌, subst, append_assoc}
-use Rattle.std.specs.List.{AllByRecursion}
-use Rattle.std.proofs.lemmas.List.{append-nil}
-use Rattle.std_lemmas.proofs.AllOf.{all_push, all_between}
-use Rattle.log_records.specs.declared.log_record.LogRecord.{LogRecord}
-use Rattle.log_records.specs.Spelling.{used_by, IsBlock, IsSpelledAt}
-use Rattle.image_form.specs.Walking.{IsLeft}
-use Rattle.image_form.specs.Octets.{IsOnPage, IsBlockOn}
+use Rattle.image_form.proofs.Names.{arith, ◌≡◌, ℕ, ◌≤◌, ◌<◌, List, [], ◌∷◌, ◌++◌, sym, ap, ◌∙◌, subst, append_assoc, append-nil, AllByRecursion, IsOnPage, IsBlockOn, IsLeft, used_by, IsBlock, IsSpelledAt, LogRecord, all_push, all_between}
 use Rattle.image_form.proofs.BlockReading.{all_left, none_left, reads_first}
 use Rattle.image_form.proofs.BlockLists.{one_block}
 

@@ -1,31 +1,13 @@
 -- Segments follow groups where the octets of heads are the same.
 use Rattle.std.proofs.lemmas.Grind.{common_steps}
-use Rattle.std.proofs.Common.{◌≡◌, ℕ, zero, suc, ◌+◌, ◌-◌, ◌*◌, ◌/◌, ◌%◌, ◌≤◌, ◌<◌, min, List, [], ◌∷◌, ◌++◌, length, get_or, map, take, drop, refl, sym, ap, ◌∙◌, subst, arith}
-use Rattle.std.specs.List.{AllByRecursion}
-use Rattle.std.proofs.lemmas.List.{take-take, take_all, length-map, get_or-map}
+use Rattle.image_form.proofs.Names.{◌≡◌, ℕ, zero, suc, ◌+◌, ◌-◌, ◌*◌, ◌/◌, ◌%◌, ◌≤◌, ◌<◌, min, List, [], ◌∷◌, ◌++◌, length, get_or, map, take, drop, refl, sym, ap, ◌∙◌, subst, arith, take-take, take_all, length-map, get_or-map, AllByRecursion, have_form, spelling_of_all, FrameHead, groups_on, frames_are_in, begins_with_heads, one_heads, Frame, heads_of, frames_in, HasHeads, IsGroup, group_shape, segment_shape, units_on, AreHeadsSaved, IsSegmentOn, IsFormed, SegmentsFollowGroups, live_count, IsLive, hi_of, Image, Geometry, all_at, HasSegments, segment_on, group_on, PagesExist}
 use Rattle.std.proofs.Math.Seq.{take-append-add, drop-append-add}
-use Rattle.std_lemmas.proofs.AllOf.{all_at}
-use Rattle.site.specs.declared.geometry.Geometry.{Geometry}
-use Rattle.site.specs.State.{Image}
-use Rattle.sealed_ring.specs.Ring.{IsLive, hi_of}
-use Rattle.sealed_ring.proofs.Units.{live_count}
-use Rattle.image_changes.specs.Rings.{group_shape, segment_shape, units_on}
-use Rattle.byte_fields.specs.declared.frame_head.FrameHead.{FrameHead}
-use Rattle.byte_fields.specs.FrameHeads.{spelling, spelling_of_all}
+use Rattle.byte_fields.specs.FrameHeads.{spelling}
 use Rattle.byte_fields.proofs.HeadParts.{length_spelling}
-use Rattle.byte_fields.proofs.GroupHeads.{have_form}
-use Rattle.frame_group.specs.Groups.{heads_of, frames_in, HasHeads}
-use Rattle.frame_group.proofs.Contents.{frames_are_in}
-use Rattle.frame_group.proofs.Front.{begins_with_heads, one_heads}
 use Rattle.meta_segments.specs.Segments.{heads_of_group, IsSegment}
 use Rattle.meta_segments.specs.Following.{IsLive as Live, heads_with}
 use Rattle.checkpoint.specs.declared.master.Master.{Master}
-use Rattle.tail_rebuild.specs.Standing.{HasSegments, segment_on, group_on, PagesExist}
 use Rattle.tail_rebuild.proofs.Saved.{segment_count}
-use Rattle.flash_cache.specs.Representation.{groups_on}
-use Rattle.image_form.specs.Octets.{IsSegmentOn, IsFormed}
-use Rattle.image_form.specs.Findings.{AreHeadsSaved}
-use Rattle.image_form.specs.Verdict.{SegmentsFollowGroups}
 use Rattle.image_form.proofs.LiveUnits.{all_live}
 
 -- A part of the octets of heads.
@@ -204,3 +186,12 @@ module _ (g : Geometry) (m : Master) (image : Image) (formed : IsFormed g m imag
             ∙ ap spelling_of_all (sym (follow.same n live there))
             ∙ sym (part_of (segment_on g image (n / 4)) (heads_with k rule.segments (n / 4)) (n % 4) (omega arith) (segment_of g rule.segments image has (n / 4) segment)),
       )
+
+-- the heads that the front of a group's content has
+pub heads_of_part : (content octets : List ℕ) (frames : List Frame) (heads : List FrameHead) → octets ≡ take 128 (drop 0 content) → IsGroup content frames → HasHeads octets heads → heads ≡ heads_of frames
+heads_of_part content octets frames heads is group has =
+    one_heads octets heads (heads_of frames) has (subst (λ (o : List ℕ). HasHeads o (heads_of frames)) (sym is) (heads_in_front content (heads_of frames) (begins_with_heads content frames group)))
+
+pub no_heads_of_part : (content octets : List ℕ) (frames : List Frame) → octets ≡ take 128 (drop 0 content) → IsGroup content frames → ((heads : List FrameHead) → HasHeads octets heads → ⊥) → ⊥
+no_heads_of_part content octets frames is group none =
+    none (heads_of frames) (subst (λ (o : List ℕ). HasHeads o (heads_of frames)) (sym is) (heads_in_front content (heads_of frames) (begins_with_heads content frames group)))

@@ -1,18 +1,6 @@
 -- What was read of one live unit of a ring, and of all.
 use Rattle.std.proofs.lemmas.Grind.{common_steps}
-use Rattle.std.proofs.Common.{◌≡◌, inl, inr, ℕ, ◌+◌, ◌-◌, ◌≤◌, ◌<◌, IsTrue, List, take, drop, sym, ap, ◌∙◌, subst, arith}
-use Rattle.std.proofs.lemmas.Bool.{cases_eq}
-use Rattle.std.proofs.lemmas.List.{take-take}
-use Rattle.std.specs.Prelude.{Ok}
-use Rattle.site.specs.State.{State, Image}
-use Rattle.site.proofs.Laws.{stays_honest}
-use Rattle.site.specs.Work.{OnlyReads}
-use Rattle.sealed_ring.specs.declared.slots.Shape.{Shape}
-use Rattle.sealed_ring.specs.declared.ring.Ring.{Ring}
-use Rattle.sealed_ring.specs.Ring.{IsLive, hi_of, unit_at}
-use Rattle.sealed_ring.specs.Ready.{region, units_in, Matches}
-use Rattle.sealed_ring.proofs.Heads.{unit_is}
-use Rattle.image_changes.specs.Rings.{units_on}
+use Rattle.image_form.proofs.Names.{◌≡◌, inl, inr, ℕ, ◌+◌, ◌-◌, ◌≤◌, ◌<◌, IsTrue, List, take, drop, sym, ap, ◌∙◌, subst, arith, cases_eq, take-take, Ok, units_on, unit_is, region, units_in, Matches, IsLive, hi_of, unit_at, Ring, Shape, stays_honest, State, Image, OnlyReads}
 use Rattle.image_form.proofs.Lasting.{fits_later}
 
 -- a unit that was read whole, from a ring of this shape

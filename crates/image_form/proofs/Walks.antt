@@ -1,22 +1,10 @@
 -- A walk over the records of a log.
 use Rattle.std.proofs.lemmas.Grind.{common_steps}
-use Rattle.std.proofs.Common.{◌≡◌, ℕ, ◌+◌, ◌-◌, ◌*◌, ◌≤◌, ◌<◌, List, [], ◌∷◌, ◌++◌, length, drop, refl, sym, ap, ◌∙◌, subst, append_assoc, arith}
-use Rattle.std.specs.Prelude.{Option, Some, max, slice_index_or}
-use Rattle.std.proofs.lemmas.List.{append-nil}
-use Rattle.site.specs.declared.geometry.Geometry.{Geometry}
-use Rattle.site.specs.State.{Image}
-use Rattle.sealed_ring.specs.Ring.{hi_of}
-use Rattle.image_changes.specs.Rings.{log_shape}
-use Rattle.log_records.specs.declared.log_record.LogRecord.{LogRecord}
-use Rattle.log_records.specs.Spelling.{spelling, used_by, IsBlock, IsSpelledAt}
-use Rattle.log_records.specs.Log.{Entry, entries_from, log_from}
-use Rattle.log_store.specs.declared.store.LogStore.{LogStore}
+use Rattle.image_form.proofs.Names.{◌≡◌, ℕ, ◌+◌, ◌-◌, ◌*◌, ◌≤◌, ◌<◌, List, [], ◌∷◌, ◌++◌, length, drop, refl, sym, ap, ◌∙◌, subst, append_assoc, arith, append-nil, Option, Some, max, slice_index_or, log_shape, IsLeft, StandsBefore, Gives, Entry, entries_from, log_from, spelling, used_by, IsBlock, IsSpelledAt, LogRecord, HasBlocks, block_on, LogStore, hi_of, Image, Geometry}
 use Rattle.log_store.specs.LogList.{LogList}
-use Rattle.log_store.specs.Representation.{HasBlocks, block_on}
 use Rattle.log_store.proofs.BlockLaws.{blocks_from}
 use Rattle.log_store.proofs.Standing.{stands_there}
 use Rattle.image_form.specs.declared.walk.Walk.{Walk}
-use Rattle.image_form.specs.Walking.{IsLeft, StandsBefore, Gives}
 use Rattle.image_form.proofs.BlockLists.{one_block}
 use Rattle.image_form.proofs.BlockReading.{all_left, none_left, reads_first}
 

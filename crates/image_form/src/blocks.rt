@@ -1,9 +1,10 @@
 // The live blocks of the log.
-ghost use Rattle.std.specs.Prelude.{◌≡◌, ◌↔◌, ◌+◌, ◌-◌, ◌≤◌, List, length, is_none, IsTrue, IfOk};
+ghost use Rattle.std.specs.Prelude.{◌≡◌, ◌↔◌, ◌-◌, min, List, length, is_none, IsTrue, IfOk};
 ghost use Rattle.log_records.specs.declared.log_record.LogRecord.{LogRecord};
 ghost use Rattle.log_records.specs.Spelling.{IsBlock};
 ghost use Rattle.log_store.specs.Representation.{Invariant, Finds};
 ghost use Rattle.site.specs.Work.{OnlyReads};
+ghost use Rattle.image_form.specs.Counted.{ReadsAtMost};
 ghost use Rattle.image_form.specs.Octets.{IsOnPage, IsBlockOn, AreBlocks};
 
 use crate::place::Place;
@@ -50,7 +51,8 @@ pub fn rule_blocks<S: Site>(site: &mut S, log: &LogStore, kept: u64) -> Result<O
 
     ensures blocks { Finds log.now (S.state site.old)
         → IfOk result (λ failing. IsTrue (is_none failing) ↔ AreBlocks log.now.geometry kept (S.state site.old).image) }
-    ensures few { (S.state site.new).log_reads ≤ (S.state site.old).log_reads + (log.now.ring.hi - kept) }
+    ensures looks { ReadsAtMost (min (log.now.ring.hi - kept) (log.now.geometry.blocks - 1)) 0
+        (S.state site.old) (S.state site.new) }
     ensures reads { OnlyReads result (S.state site.old) (S.state site.new) }
 {
     let geometry = log.geometry();

@@ -1,9 +1,10 @@
 // The live segments and the live groups.
-ghost use Rattle.std.specs.Prelude.{◌≡◌, ◌↔◌, ◌/◌, is_none, IsTrue, IfOk};
+ghost use Rattle.std.specs.Prelude.{◌≡◌, ◌↔◌, ◌*◌, ◌/◌, is_none, IsTrue, IfOk};
 ghost use Rattle.sealed_ring.specs.Ring.{IsLive};
 ghost use Rattle.site.specs.Work.{OnlyReads};
 ghost use Rattle.checkpoint.specs.declared.master.Master.{Master};
 ghost use Rattle.site.specs.declared.geometry.Geometry.{Geometry};
+ghost use Rattle.image_form.specs.Counted.{ReadsAtMost};
 ghost use Rattle.image_form.specs.Findings.{MayRead, AreFound, AreHeadsSaved};
 ghost use Rattle.image_form.specs.Verdict.{OctetsAreFormed, SegmentsFollowGroups};
 
@@ -29,6 +30,7 @@ fn are_saved<S: Site>(site: &mut S, rings: &Rings, group: u64) -> Result<bool, S
     ensures saved { (g : Geometry) → MayRead g rings.now (S.state site.old) → IsTrue (S.state site.old).honest
         → AreFound rings.now (S.state site.old)
         → IfOk result (λ same. IsTrue same ↔ AreHeadsSaved g (S.state site.old).image group) }
+    ensures looks { ReadsAtMost 0 2 (S.state site.old) (S.state site.new) }
     ensures reads { OnlyReads result (S.state site.old) (S.state site.new) }
 {
     let mut own = [0u8; HEADS_LEN];
@@ -57,6 +59,7 @@ pub fn rule_following<S: Site>(
         → OctetsAreFormed geometry.now m (S.state site.old).image
         → IfOk result (λ failing. IsTrue (is_none failing)
         ↔ SegmentsFollowGroups geometry.now (S.state site.old).image) }
+    ensures looks { ReadsAtMost 0 (2 * geometry.now.groups) (S.state site.old) (S.state site.new) }
     ensures reads { OnlyReads result (S.state site.old) (S.state site.new) }
 {
     let saved = 4 * rings.segments.hi();

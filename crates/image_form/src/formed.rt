@@ -1,9 +1,11 @@
 // What stands on the devices, and whether it is of the form.
-ghost use Rattle.std.specs.Prelude.{◌≡◌, ◌↔◌, is_none, IsTrue, IfOk, IfSome};
+ghost use Rattle.std.specs.Prelude.{◌≡◌, ◌↔◌, ◌+◌, ◌*◌, is_none, IsTrue, IfOk, IfSome};
 ghost use Rattle.image_changes.specs.Rings.{log_shape};
 ghost use Rattle.sealed_ring.specs.Ring.{IsRing};
 ghost use Rattle.log_store.specs.Representation.{Invariant};
 ghost use Rattle.site.specs.Work.{OnlyReads};
+ghost use Rattle.image_form.specs.Counted.{ReadsAtMost, ReadsBySizes, log_looks, log_to_find, page_looks};
+ghost use Rattle.image_form.specs.Counted.{pages_to_find, segment_slots};
 ghost use Rattle.image_form.specs.Octets.{HasSizes};
 ghost use Rattle.image_form.specs.Formed.{MayBeRead, IsThere, LogIs, IsThereOr, IsFormedOr};
 ghost use Rattle.image_form.specs.Verdict.{OctetsAreFormed};
@@ -19,6 +21,7 @@ use crate::versions::rule_versions;
 use checkpoint::{Master, one_master};
 use log_store::LogStore;
 use site::{Geometry, Site, Stop};
+use std::alloc::Global;
 
 /// The rings, the newest master and the log that were found on devices.
 #[derive(Drop)]
@@ -36,6 +39,7 @@ fn find_log<S: Site>(site: &mut S, geometry: &Geometry) -> Result<Option<LogStor
         → IfOk result (λ log. LogIs log (S.state site.new)) }
     ensures going { IfOk result (λ log. IfSome log (λ log. Invariant log (S.state site.new))) }
     ensures geometry { IfOk result (λ log. IfSome log (λ log. log.geometry ≡ geometry.now)) }
+    ensures looks { ReadsAtMost (geometry.now.blocks + 1) 0 (S.state site.old) (S.state site.new) }
     ensures reads { OnlyReads result (S.state site.old) (S.state site.new) }
 {
     match LogStore::start(site, geometry) {
@@ -50,6 +54,7 @@ fn find<S: Site>(site: &mut S) -> Result<Result<Found, Place>, Stop>
     ensures found { IsTrue (S.state site.old).honest
         → IfOk result (λ found. IsThereOr found (S.state site.new)) }
     ensures may_read { IfOk result (λ found. IfOk found (λ found. MayBeRead found (S.state site.new))) }
+    ensures looks { ReadsBySizes log_to_find pages_to_find (S.state site.old) (S.state site.new) }
     ensures reads { OnlyReads result (S.state site.old) (S.state site.new) }
 {
     let Some(geometry) = rule_lengths(site) else {
@@ -69,12 +74,15 @@ fn find<S: Site>(site: &mut S) -> Result<Result<Found, Place>, Stop>
 }
 
 // Where what stands there fails the first rule, `None` exactly where it doesn't.
-fn find_unformed<S: Site>(site: &mut S, found: &Found) -> Result<Option<Place>, Stop>
+fn find_unformed<S: Site>(alloc: Global, site: &mut S, found: &Found) -> Result<Option<Place>, Stop>
     requires { MayBeRead found.now (S.state site.old) }
 
     ensures formed { IsThere found.now (S.state site.old)
         → IfOk result (λ failing. IsTrue (is_none failing)
         ↔ OctetsAreFormed found.now.log.geometry found.now.master (S.state site.old).image) }
+    ensures looks { ReadsAtMost found.now.log.geometry.blocks (10 * found.now.log.geometry.groups
+        + segment_slots found.now.log.geometry + found.now.log.geometry.pages)
+        (S.state site.old) (S.state site.new) }
     ensures reads { OnlyReads result (S.state site.old) (S.state site.new) }
 {
     let geometry = found.log.geometry();
@@ -87,14 +95,15 @@ fn find_unformed<S: Site>(site: &mut S, found: &Found) -> Result<Option<Place>, 
     if let Some(place) = rule_segments(site, &geometry, &found.rings)? {
         return Ok(Some(place));
     }
-    rule_versions(site, &geometry, &found.rings)
+    rule_versions(alloc, site, &geometry, &found.rings)
 }
 
 /// What stands there and meets the first rule, or where it doesn't, exactly where that rule fails.
-pub fn find_formed<S: Site>(site: &mut S) -> Result<Result<Found, Place>, Stop>
+pub fn find_formed<S: Site>(alloc: Global, site: &mut S) -> Result<Result<Found, Place>, Stop>
     ensures formed { IsTrue (S.state site.old).honest
         → IfOk result (λ found. IsFormedOr found (S.state site.new)) }
     ensures may_read { IfOk result (λ found. IfOk found (λ found. MayBeRead found (S.state site.new))) }
+    ensures looks { ReadsBySizes log_looks page_looks (S.state site.old) (S.state site.new) }
     ensures reads { OnlyReads result (S.state site.old) (S.state site.new) }
 {
     one_master();
@@ -102,7 +111,7 @@ pub fn find_formed<S: Site>(site: &mut S) -> Result<Result<Found, Place>, Stop>
         Ok(found) => found,
         Err(place) => return Ok(Err(place)),
     };
-    if let Some(place) = find_unformed(site, &found)? {
+    if let Some(place) = find_unformed(alloc, site, &found)? {
         return Ok(Err(place));
     }
     Ok(Ok(found))

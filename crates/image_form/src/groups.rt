@@ -1,9 +1,10 @@
 // The live groups.
-ghost use Rattle.std.specs.Prelude.{◌≡◌, ◌↔◌, ◌≤◌, List, length, is_none, IsTrue, IfOk};
+ghost use Rattle.std.specs.Prelude.{◌≡◌, ◌↔◌, ◌*◌, ◌≤◌, List, length, is_none, IsTrue, IfOk};
 ghost use Rattle.site.specs.declared.geometry.Geometry.{Geometry};
 ghost use Rattle.site.specs.Work.{OnlyReads};
 ghost use Rattle.byte_fields.specs.FrameHeads.{present_in_front, AreGroupHeads};
 ghost use Rattle.frame_group.specs.Groups.{Frame};
+ghost use Rattle.image_form.specs.Counted.{ReadsAtMost};
 ghost use Rattle.image_form.specs.Octets.{IsGroupOn, AreGroups};
 ghost use Rattle.image_form.specs.Framing.{IsFrameBy};
 ghost use Rattle.image_form.specs.Findings.{MayRead, AreFound};
@@ -83,6 +84,7 @@ pub fn rule_groups<S: Site>(
 
     ensures groups { IsTrue (S.state site.old).honest → AreFound rings.now (S.state site.old)
         → IfOk result (λ failing. IsTrue (is_none failing) ↔ AreGroups geometry.now (S.state site.old).image) }
+    ensures looks { ReadsAtMost 0 (9 * geometry.now.groups) (S.state site.old) (S.state site.new) }
     ensures reads { OnlyReads result (S.state site.old) (S.state site.new) }
 {
     let ring = &rings.groups;

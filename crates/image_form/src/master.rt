@@ -4,6 +4,7 @@ ghost use Rattle.checkpoint.specs.Actives.{Ascend};
 ghost use Rattle.sealed_ring.specs.Ring.{IsRing};
 ghost use Rattle.image_changes.specs.Rings.{master_shape};
 ghost use Rattle.site.specs.Work.{OnlyReads};
+ghost use Rattle.image_form.specs.Counted.{ReadsAtMost};
 ghost use Rattle.image_form.specs.Findings.{MasterIs};
 
 use checkpoint::{Master, newest};
@@ -17,6 +18,7 @@ pub fn rule_master<S: Site>(site: &mut S) -> Result<Option<Master>, Stop>
         → IfOk result (λ master. MasterIs master (S.state site.old).image) }
     ensures ascend { IfOk result (λ master. IfSome master (λ master. Ascend master.active)) }
     ensures few { IfOk result (λ master. IfSome master (λ master. length master.active ≤ 8)) }
+    ensures looks { ReadsAtMost 5 0 (S.state site.old) (S.state site.new) }
     ensures reads { OnlyReads result (S.state site.old) (S.state site.new) }
 {
     match newest(site) {

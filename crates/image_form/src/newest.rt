@@ -7,6 +7,7 @@ ghost use Rattle.byte_fields.specs.FrameHeads.{AreGroupHeads};
 ghost use Rattle.frame_group.specs.Groups.{Frame, heads_of, IsGroup};
 ghost use Rattle.tail_rebuild.specs.Standing.{group_on};
 ghost use Rattle.flash_cache.specs.Representation.{version_on};
+ghost use Rattle.image_form.specs.Counted.{ReadsAtMost};
 ghost use Rattle.image_form.specs.Octets.{AreGroups};
 ghost use Rattle.image_form.specs.Findings.{MayRead, AreFound};
 ghost use Rattle.image_form.specs.Newest.{AreLive, ShowsFrames};
@@ -19,8 +20,8 @@ use frame_group::{HEADS_LEN, PAGE_LEN, group_heads};
 use site::{Geometry, Site, Stop};
 use std::alloc::Global;
 
-// The heads of a live group, by one read; `None` where they aren't of the form.
-fn heads_at<S: Site>(
+/// The heads of a live group, by one read; `None` where they aren't of the form.
+pub fn heads_at<S: Site>(
     site: &mut S,
     rings: &Rings,
     group: u64,
@@ -33,7 +34,7 @@ fn heads_at<S: Site>(
         → IsGroup (group_on g (S.state site.old).image group) frames
         → IfOk result (λ found. found ≡ Some (heads_of frames)) }
     ensures formed { IfOk result (λ found. IfSome found (λ heads. AreGroupHeads heads)) }
-    ensures log { (S.state site.new).log_reads ≡ (S.state site.old).log_reads }
+    ensures looks { ReadsAtMost 0 1 (S.state site.old) (S.state site.new) }
     ensures reads { OnlyReads result (S.state site.old) (S.state site.new) }
 {
     let mut octets = [0u8; HEADS_LEN];
@@ -62,7 +63,7 @@ pub fn find_frames<S: Site>(
     ensures formed { IsTrue (S.state site.old).honest → AreFound rings.now (S.state site.old)
         → AreGroups geometry.now (S.state site.old).image → IfOk result (λ found. IfNone found ⊥) }
     ensures live { IfOk result (λ found. IfSome found (λ frames. AreLive rings.now frames)) }
-    ensures log { (S.state site.new).log_reads ≡ (S.state site.old).log_reads }
+    ensures looks { ReadsAtMost 0 geometry.now.groups (S.state site.old) (S.state site.new) }
     ensures reads { OnlyReads result (S.state site.old) (S.state site.new) }
 {
     let first = rings.groups.oldest();
@@ -104,7 +105,7 @@ pub fn read_version<S: Site>(
         → AreGroups geometry.now (S.state site.old).image
         → ShowsFrames geometry.now (S.state site.old).image frames.now
         → OnOk result (into.new ≡ version_on geometry.now (S.state site.old).image page) }
-    ensures log { (S.state site.new).log_reads ≡ (S.state site.old).log_reads }
+    ensures looks { ReadsAtMost 0 1 (S.state site.old) (S.state site.new) }
     ensures reads { OnlyReads result (S.state site.old) (S.state site.new) }
 {
     let Some(place) = frames.newest(page) else {

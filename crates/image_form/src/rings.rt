@@ -1,7 +1,8 @@
 // The four rings of the devices.
-ghost use Rattle.std.specs.Prelude.{◌≡◌, IsTrue, IfOk};
+ghost use Rattle.std.specs.Prelude.{◌≡◌, ◌+◌, ◌*◌, IsTrue, IfOk};
 ghost use Rattle.image_changes.specs.Rings.{log_shape, group_shape, segment_shape, master_shape};
 ghost use Rattle.site.specs.Work.{OnlyReads};
+ghost use Rattle.image_form.specs.Counted.{ReadsAtMost, pages_to_find};
 ghost use Rattle.image_form.specs.Octets.{HasSizes};
 ghost use Rattle.image_form.specs.Findings.{RingsAre, MayRead};
 
@@ -69,6 +70,8 @@ pub fn rule_rings<S: Site>(site: &mut S, geometry: &Geometry) -> Result<Result<R
     ensures rings { IsTrue (S.state site.old).honest
         → IfOk result (λ rings. RingsAre geometry.now rings (S.state site.new)) }
     ensures may_read { IfOk result (λ rings. IfOk rings (λ rings. MayRead geometry.now rings (S.state site.new))) }
+    ensures looks { ReadsAtMost (2 * geometry.now.blocks + 6)
+        (pages_to_find geometry.now) (S.state site.old) (S.state site.new) }
     ensures reads { OnlyReads result (S.state site.old) (S.state site.new) }
 {
     let masters = match judge(site, MASTERS) {

@@ -3,6 +3,7 @@ ghost use Rattle.std.specs.Prelude.{◌≡◌, ◌↔◌, List, length, is_none,
 ghost use Rattle.byte_fields.specs.declared.frame_head.FrameHead.{FrameHead};
 ghost use Rattle.flash_cache.specs.Representation.{PagesExist};
 ghost use Rattle.site.specs.Work.{OnlyReads};
+ghost use Rattle.image_form.specs.Counted.{ReadsAtMost, segment_slots};
 ghost use Rattle.image_form.specs.Octets.{IsSegmentOn, SegmentsAreFormed};
 ghost use Rattle.image_form.specs.Findings.{MayRead, AreFound};
 
@@ -47,6 +48,7 @@ pub fn rule_segments<S: Site>(
 
     ensures segments { IsTrue (S.state site.old).honest → AreFound rings.now (S.state site.old)
         → IfOk result (λ failing. IsTrue (is_none failing) ↔ SegmentsAreFormed geometry.now (S.state site.old).image) }
+    ensures looks { ReadsAtMost 0 (segment_slots geometry.now) (S.state site.old) (S.state site.new) }
     ensures reads { OnlyReads result (S.state site.old) (S.state site.new) }
 {
     let ring = &rings.segments;

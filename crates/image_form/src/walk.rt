@@ -5,6 +5,7 @@ ghost use Rattle.log_records.specs.Log.{Entry, log_from};
 ghost use Rattle.log_records.specs.declared.log_record.LogRecord.{LogRecord};
 ghost use Rattle.log_store.specs.Representation.{Invariant, Finds, HasBlocks};
 ghost use Rattle.site.specs.Work.{OnlyReads};
+ghost use Rattle.image_form.specs.Counted.{ReadsAtMost};
 ghost use Rattle.image_form.specs.Walking.{MayWalk, StandsBefore, Gives, to_go, unread};
 
 use log_records::{BLOCK_LEN, LogRecord, read_record};
@@ -57,7 +58,7 @@ impl Walk {
         ensures shorter { IfOk result (λ more. to_go log.now self.new ≤ to_go log.now self.old) }
         ensures few { IfOk result (λ more. IsTrue more → (S.state site.new).log_reads + unread log.now self.new
             ≤ (S.state site.old).log_reads + unread log.now self.old) }
-        ensures ends { (S.state site.new).log_reads ≤ (S.state site.old).log_reads + unread log.now self.old }
+        ensures ends { ReadsAtMost (unread log.now self.old) 0 (S.state site.old) (S.state site.new) }
         ensures reads { OnlyReads result (S.state site.old) (S.state site.new) }
     {
         if self.at < self.used {
@@ -95,7 +96,7 @@ impl Walk {
             < to_go log.now self.old)) }
         ensures few { IfOk result (λ found. IfSome found (λ found. (S.state site.new).log_reads
             + unread log.now self.new ≤ (S.state site.old).log_reads + unread log.now self.old)) }
-        ensures ends { (S.state site.new).log_reads ≤ (S.state site.old).log_reads + unread log.now self.old }
+        ensures ends { ReadsAtMost (unread log.now self.old) 0 (S.state site.old) (S.state site.new) }
         ensures reads { OnlyReads result (S.state site.old) (S.state site.new) }
     {
         let more = match self.fill(site, log) {

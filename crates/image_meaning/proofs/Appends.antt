@@ -1,36 +1,13 @@
 -- A group is appended.
-use Rattle.std.proofs.Common.{◌≡◌, ℕ, ◌<◌, ◌≤◌, List, [], ◌∷◌, ◌++◌, length, take, drop, Some, None, refl, sym, ap, subst, ◌∙◌, arith, take-append-drop}
+use Rattle.image_meaning.proofs.Names.{◌≡◌, ℕ, ◌<◌, ◌≤◌, List, [], ◌∷◌, ◌++◌, length, take, drop, Some, None, refl, sym, ap, subst, ◌∙◌, arith, take-append-drop, length-append, drop-append-le, AllByRecursion, Master, frames_on, disk_on, version_on, IsCleanOn, frames_are_in, frames_more, all_last_frame, Frame, IsGroup, frames_in, frames_of, last_frame, version, CleanAsDisk, AppendsGroup, Makes, Masters, Blocks, group_shape, units_on, leaving, front_on, rest_on, MayAppend, PushedIsSound, PushedMeans, ReplaceAll, logical_image_under, IsFrameOf, AreGroups, IsSoundUnder, versions_on, version_in, Replaces, version_at, Means, LogRecord, blocks_stay, Content, Image, Geometry, all_append, all_right, all_drop}
 use Rattle.std.specs.Prelude.{Option}
-use Rattle.std.specs.List.{AllByRecursion}
-use Rattle.std.proofs.lemmas.List.{length-append, drop-append-le}
 use Rattle.std.proofs.lemmas.Grind.{flat_map-append}
-use Rattle.std_lemmas.proofs.AllOf.{all_append, all_right, all_drop}
-use Rattle.site.specs.declared.geometry.Geometry.{Geometry}
-use Rattle.site.specs.State.{Image}
-use Rattle.record_model.specs.State.{Content}
-use Rattle.log_records.specs.declared.log_record.LogRecord.{LogRecord}
-use Rattle.log_records.specs.Log.{version_at}
-use Rattle.log_records.specs.Sound.{Means}
-use Rattle.log_laws.specs.NewImage.{Replaces}
-use Rattle.slotted_page.specs.Layout as page
-use Rattle.frame_group.specs.Groups.{Frame, IsGroup, frames_in}
-use Rattle.frame_group.specs.Versions.{frames_of, last_frame, version, CleanAsDisk}
-use Rattle.frame_group.proofs.Contents.{frames_are_in, frames_more}
-use Rattle.checkpoint.specs.declared.master.Master.{Master}
-use Rattle.image_changes.specs.Rings.{Masters, Blocks, group_shape, units_on}
-use Rattle.image_changes.specs.Changes.{AppendsGroup, Makes}
-use Rattle.log_store.proofs.BlockLaws.{blocks_stay}
-use Rattle.flash_cache.specs.Representation.{frames_on, disk_on, version_on, IsCleanOn}
-use Rattle.image_meaning.specs.Meaning.{logical_image_under, IsFrameOf, AreGroups, IsSoundUnder, versions_on, version_in}
-use Rattle.image_meaning.specs.LogicalImages.{ReplaceAll}
-use Rattle.image_meaning.specs.Changes.{leaving, front_on, rest_on, MayAppend}
-use Rattle.image_meaning.specs.Laws.{PushedIsSound, PushedMeans}
 use Rattle.image_meaning.proofs.Versions.{length-versions, version_is, disk_stays}
 use Rattle.image_meaning.proofs.OtherVersions.{versions_are_sound, versions_mean, version_replaces_itself}
 use Rattle.image_meaning.proofs.Pushes.{pushed_clean, pushed_version, others_keep_versions}
 use Rattle.image_meaning.proofs.UnchangedImages.{lengths_stay, newest_stays}
 use Rattle.image_meaning.proofs.SegmentLaws.{segments_pushed}
-use Rattle.frame_group.proofs.LastFrames.{all_last_frame}
+use Rattle.slotted_page.specs.Layout as page
 
 -- the frames that leave, and those that stay
 pub frames_before : (g : Geometry) (image : Image) → frames_on g image ≡ front_on g image ++ rest_on g image

@@ -1,28 +1,9 @@
 -- Versions of pages, and records that aren't sealed yet.
-use Rattle.log_laws.specs.NewImage.{Replaces}
-use Rattle.std.proofs.Common.{◌≡◌, ℕ, ◌+◌, ◌*◌, ◌/◌, ◌<◌, ◌≤◌, ◌==◌, ◌||◌, false, List, [], ◌∷◌, ◌++◌, length, Some, None, sym, ap, ◌∙◌, arith, inl, inr}
-use Rattle.std.specs.Prelude.{Option, IsTrue, nat_lt}
-use Rattle.std.specs.List.{AllByRecursion}
-use Rattle.std.specs.Option.{option_or}
-use Rattle.std.proofs.lemmas.Bool.{cases_Bool}
-use Rattle.std.proofs.lemmas.Bool.Decides.{nat_tests}
-use Rattle.std_lemmas.proofs.AllOf.{all_left, all_right, all_both}
-use Rattle.record_model.specs.State.{content_at}
-use Rattle.log_records.specs.declared.log_record.LogRecord.{LogRecord}
-use Rattle.log_records.specs.Log.{Entry, Version, number_of, is_on, last_on, shown}
-use Rattle.log_records.specs.Room.{open_length, put_back, HasOpenRoom}
-use Rattle.log_records.specs.Sound.{LogicalImage, InTurn}
-use Rattle.log_laws.specs.Follow.{Follows, next_entries}
-use Rattle.log_laws.proofs.Lists.{or_is_none}
-use Rattle.log_laws.proofs.Orders.{all_from, none_passes, entries_in_order}
-use Rattle.log_laws.proofs.Rooms.{total_within}
+use Rattle.image_meaning.proofs.Names.{◌≡◌, ℕ, ◌+◌, ◌*◌, ◌/◌, ◌<◌, ◌≤◌, ◌==◌, ◌||◌, false, List, [], ◌∷◌, ◌++◌, length, Some, None, sym, ap, ◌∙◌, arith, inl, inr, cases_Bool, nat_tests, AllByRecursion, option_or, IsTrue, nat_lt, ReplaceAll, with_versions, IsLogged, AreKnown, IsCurrent, ShowsAll, or_is_none, all_from, none_passes, entries_in_order, total_within, is_number-Some, Follows, next_entries, Replaces, last_where-append, Entry, Version, number_of, is_on, last_on, shown, open_length, put_back, HasOpenRoom, LogicalImage, InTurn, LogRecord, content_at, all_left, all_right, all_both}
+use Rattle.std.specs.Prelude.{Option}
 use Rattle.log_laws.specs.Tail.{whole, Carries}
-use Rattle.log_laws.proofs.Values.{is_number-Some}
-use Rattle.image_meaning.specs.LogicalImages.{ReplaceAll, with_versions}
-use Rattle.image_meaning.specs.Redone.{IsLogged, AreKnown, IsCurrent, ShowsAll}
 use Rattle.image_meaning.proofs.OtherVersions.{same_first, slot_same, sound_with}
 use Rattle.image_meaning.proofs.Redos.{page_of_number, current_replaces}
-use Rattle.log_records.proofs.Lists.{last_where-append}
 
 -- The tail.
 

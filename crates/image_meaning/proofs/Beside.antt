@@ -1,20 +1,6 @@
 -- Changes that keep the rings sound.
-use Rattle.std.proofs.Common.{◌≡◌, ℕ, ◌≤◌, List, [], ◌∷◌, ◌++◌, length, drop, Option, sym, ap, subst, ◌∙◌, arith}
-use Rattle.std.specs.List.{AllByRecursion}
-use Rattle.std.proofs.lemmas.List.{length-append, drop-append-le}
-use Rattle.std_lemmas.proofs.AllOf.{all_append, all_right, all_drop}
-use Rattle.site.specs.declared.geometry.Geometry.{Geometry}
-use Rattle.site.specs.State.{Image}
-use Rattle.frame_group.specs.Groups.{Frame, IsGroup, frames_in}
-use Rattle.frame_group.specs.Versions.{frames_of}
-use Rattle.frame_group.proofs.Contents.{frames_are_in, frames_more}
-use Rattle.checkpoint.specs.declared.master.Master.{Master}
-use Rattle.image_changes.specs.Rings.{Masters, Segments, Groups, shape_of, group_shape, units_on, KeepsUnits}
-use Rattle.image_changes.specs.Changes.{Change, SealsBlock, RewritesPages, AppendsGroup, AppendsSegment, AppendsMaster, SameSizes, Makes}
-use Rattle.flash_cache.specs.Representation.{frames_on}
-use Rattle.image_meaning.specs.Meaning.{IsFrameOf, AreGroups}
+use Rattle.image_meaning.proofs.Names.{◌≡◌, ℕ, ◌≤◌, List, [], ◌∷◌, ◌++◌, length, drop, Option, sym, ap, subst, ◌∙◌, arith, length-append, drop-append-le, AllByRecursion, Master, frames_on, frames_are_in, frames_more, Frame, IsGroup, frames_in, frames_of, Change, SealsBlock, RewritesPages, AppendsGroup, AppendsSegment, AppendsMaster, SameSizes, Makes, Masters, Segments, Groups, shape_of, group_shape, units_on, KeepsUnits, leaving, front_on, rest_on, IsFrameOf, AreGroups, Image, Geometry, all_append, all_right, all_drop}
 use Rattle.image_meaning.specs.Beside.{AreRingsSoundUnder, KeepsRings, RingsKeptUnder, RingsSaved}
-use Rattle.image_meaning.specs.Changes.{leaving, front_on, rest_on}
 use Rattle.image_meaning.proofs.UnchangedImages.{lengths_stay, newest_stays, groups_stay, segments_stay}
 use Rattle.image_meaning.proofs.SegmentLaws.{segments_pushed, segments_saved}
 use Rattle.image_meaning.proofs.Saves.{newest_appended}

@@ -1,36 +1,16 @@
 -- Blank devices.
-use Rattle.std.proofs.Common.{◌≡◌, ℕ, suc, ◌-◌, ◌+◌, ◌*◌, ◌/◌, ◌%◌, ◌<◌, List, [], length, map, get_or, take, drop, replicate, None, refl, sym, ap, subst, ◌∙◌, arith}
-use Rattle.std.specs.Prelude.{slice_index}
-use Rattle.std.proofs.Math.Nat.{max-le}
-use Rattle.std.specs.List.{AllByRecursion}
-use Rattle.std.proofs.lemmas.List.{ext_get_or, length-replicate, get_or-replicate, take-replicate, drop-replicate}
-use Rattle.std.proofs.lemmas.Nat.{mod_below}
-use Rattle.site.specs.declared.geometry.Geometry.{Geometry}
-use Rattle.site.specs.Geometry.{HasLimits, HasLengths, log_length, flash_length, disk_length, blank_image}
-use Rattle.sealed_ring.specs.Ring.{IsRing, Units, hi_of}
+use Rattle.image_meaning.proofs.Names.{◌≡◌, ℕ, suc, ◌-◌, ◌+◌, ◌*◌, ◌/◌, ◌%◌, ◌<◌, List, [], length, map, get_or, take, drop, replicate, None, refl, sym, ap, subst, ◌∙◌, arith, max-le, ext_get_or, length-replicate, get_or-replicate, take-replicate, drop-replicate, mod_below, AllByRecursion, slice_index, frames_on, disk_on, version_on, Frame, IsGroup, frames_in, frames_of, version, CleanAsDisk, RingName, Masters, Groups, Segments, shape_of, octets_of, group_shape, segment_shape, units_on, BlankStands, IsUnused, IsFrameOf, AreSegments, AreOctetsSoundUnder, IsSoundUnder, logical_image, versions_on, total_few, page_and_slot, length_table_of, content_of_table, Version, version_at, slot_at, table_of, open_length, FitsLog, HasRoomInPage, Means, redone, Content, content_at, length_of, IsRing, Units, hi_of, HasLimits, HasLengths, log_length, flash_length, disk_length, blank_image, Geometry}
 use Rattle.sealed_ring.specs.Laws.{BlankIsRing}
 use Rattle.sealed_ring.proofs.Examples.{blank_is_ring}
-use Rattle.record_model.specs.State.{Content, content_at, length_of}
-use Rattle.log_records.specs.Log.{Version, version_at, slot_at, table_of}
-use Rattle.log_records.specs.Room.{open_length}
-use Rattle.log_records.specs.Sound.{FitsLog, HasRoomInPage, Means, redone}
-use Rattle.log_records.specs.Sound as lists
 use Rattle.slotted_page.specs.Laws.{IsBlank}
 use Rattle.slotted_page.proofs.Blank.{blank}
-use Rattle.frame_group.specs.Groups.{Frame, IsGroup, frames_in}
-use Rattle.frame_group.specs.Versions.{frames_of, version, CleanAsDisk}
-use Rattle.image_changes.specs.Rings.{RingName, Masters, Groups, Segments, shape_of, octets_of, group_shape, segment_shape, units_on}
 use Rattle.image_changes.proofs.AppendLaws.{ring_fits}
 use Rattle.meta_segments.specs.Following.{Follow}
 use Rattle.meta_segments.proofs.Numbers.{none_follow}
 use Rattle.tail_rebuild.specs.Standing.{HasSaved}
-use Rattle.flash_cache.specs.Representation.{frames_on, disk_on, version_on}
-use Rattle.image_meaning.specs.Meaning.{IsUnused, IsFrameOf, AreSegments, AreOctetsSoundUnder, IsSoundUnder, logical_image, versions_on}
-use Rattle.image_meaning.specs.Laws.{BlankStands}
-use Rattle.log_laws.proofs.Rooms.{total_few}
 use Rattle.image_meaning.proofs.Versions.{length-versions, version_is}
-use Rattle.log_records.proofs.Values.{page_and_slot, length_table_of, content_of_table}
 use Rattle.log_store.proofs.Standing.{blank_has_no_blocks}
+use Rattle.log_records.specs.Sound as lists
 
 pub zero_at : (n p : ℕ) → slice_index (replicate n 0) p ≡ 0
 zero_at (suc n) (suc p) = zero_at n p

@@ -1,19 +1,6 @@
 -- What a crash leaves of a checkpoint.
-use Rattle.image_changes.specs.Reached.{LeavesFront}
-use Rattle.log_records.specs.declared.log_record.LogRecord.{LogRecord}
-use Rattle.record_model.specs.State.{Content}
-use Rattle.site.specs.State.{State}
-use Rattle.site.specs.declared.geometry.Geometry.{Geometry}
+use Rattle.image_meaning.proofs.Names.{ℕ, List, [], ◌∷◌, Option, subst, Master, AppendsMaster, LeavesFront, MaySave, logical_image_under, IsSoundUnder, LeavesFor, Means, LogRecord, Content, in_sequence, Leaves, LeavesOnly, State, Geometry}
 use Rattle.std.specs.Prelude.{◌≡◌}
-use Rattle.std.proofs.Common.{ℕ, List, [], ◌∷◌, Option, subst}
-use Rattle.site.specs.Moments.{Leaves, LeavesOnly}
-use Rattle.site.proofs.Laws.{in_sequence}
-use Rattle.log_records.specs.Sound.{Means}
-use Rattle.checkpoint.specs.declared.master.Master.{Master}
-use Rattle.image_changes.specs.Changes.{AppendsMaster}
-use Rattle.image_meaning.specs.Meaning.{logical_image_under, IsSoundUnder}
-use Rattle.image_meaning.specs.Changes.{MaySave}
-use Rattle.image_meaning.specs.Moments.{LeavesFor}
 use Rattle.image_meaning.proofs.Leaving.{front_stands_for}
 
 -- So they do where all that is known of the moments before the master unit is that the devices stood for it.

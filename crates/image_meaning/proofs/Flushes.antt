@@ -1,19 +1,5 @@
 -- When a checkpoint may be made.
-use Rattle.std.proofs.Common.{◌≡◌, ℕ, ◌*◌, ◌/◌, ◌<◌, ◌≤◌, List, [], ◌∷◌, length, Some, refl, arith}
-use Rattle.std.specs.Prelude.{◌&&◌, not, ◌↔◌}
-use Rattle.std.specs.List.{AllByRecursion}
-use Rattle.std.proofs.lemmas.Nat.{mod_below, div-add-mod'}
-use Rattle.std_lemmas.proofs.AllOf.{all_filter, all_weaker, all_map}
-use Rattle.log_records.specs.Log.{Entry, version_at, number_of, is_closed}
-use Rattle.log_records.specs.Unfinished.{is_begin, losers}
-use Rattle.log_records.specs.Sound.{LogicalImage, IsSound, IsInTable}
-use Rattle.log_laws.specs.NewImage.{MayCheckpoint}
-use Rattle.log_laws.proofs.Listing.{Ascends, losers_ascend, above}
-use Rattle.log_laws.proofs.Orders.{all_from}
-use Rattle.log_laws.proofs.Parts.{all_below}
-use Rattle.image_meaning.specs.Redone.{AreKnown}
-use Rattle.image_meaning.specs.Flushed.{IsFlushed, first_block, oldest_needed}
-use Rattle.log_records.proofs.Values.{page_and_slot}
+use Rattle.image_meaning.proofs.Names.{◌≡◌, ℕ, ◌*◌, ◌/◌, ◌<◌, ◌≤◌, List, [], ◌∷◌, length, Some, refl, arith, mod_below, div-add-mod', AllByRecursion, ◌&&◌, not, ◌↔◌, IsFlushed, first_block, oldest_needed, AreKnown, Ascends, losers_ascend, above, all_from, all_below, MayCheckpoint, page_and_slot, Entry, version_at, number_of, is_closed, LogicalImage, IsSound, IsInTable, is_begin, losers, all_filter, all_weaker, all_map}
 
 -- What holds of the LSN of each record holds of each unfinished transaction.
 of_losers : (P : ℕ → Type 0) (log : List Entry) → AllByRecursion (λ e. P e.lsn) log → AllByRecursion P (losers log)

@@ -1,26 +1,7 @@
 -- What a crash leaves of calls that change images.
-use Rattle.site.specs.Moments.{LeavesOnly}
-use Rattle.std.proofs.Common.{◌≡◌, ◌⊎◌, inl, inr, ℕ, ◌+◌, List, [], ◌∷◌, ◌++◌, length, take, drop, Option, refl, sym, ap, subst, ◌∙◌, arith, append_assoc}
-use Rattle.std.specs.List.{AllByRecursion}
-use Rattle.std_lemmas.proofs.AllOf.{all_left}
-use Rattle.site.specs.declared.geometry.Geometry.{Geometry}
-use Rattle.site.specs.State.{State, Image, Snapshot}
-use Rattle.site.proofs.Laws.{leaves_weaker}
-use Rattle.record_model.specs.State.{Content, table_with}
-use Rattle.log_records.specs.declared.log_record.LogRecord.{LogRecord}
+use Rattle.image_meaning.proofs.Names.{◌≡◌, ◌⊎◌, inl, inr, ℕ, ◌+◌, List, [], ◌∷◌, ◌++◌, length, take, drop, Option, refl, sym, ap, subst, ◌∙◌, arith, append_assoc, AllByRecursion, Master, LeavesPush, Change, SealsBlock, RewritesPages, AppendsGroup, AppendsSegment, AppendsMaster, ReadsAs, Reaches, IsReached, IsFrontOf, Groups, MayMakeAll, SealsNoCommit, SavesNoMaster, newest_after, blocks_after, newest_after_all, blocks_after_all, next_block_lsn, kept_by, logical_image_under, IsSoundUnder, StandsUnder, LeavesTableUnder, LeavesEitherUnder, LeavesFor, LeavesEitherFor, FrontStandsFor, FrontStands, PushStands, CommitStands, writes_in, Entry, log_from, entries_from, LogicalImage, Means, commit_numbers, LogRecord, Content, table_with, leaves_weaker, LeavesOnly, State, Image, Snapshot, Geometry, all_left}
 use Rattle.log_records.specs.declared.log_record.LogRecord.TheVariants.{Commit}
-use Rattle.log_records.specs.Log.{Entry, log_from, entries_from}
-use Rattle.log_records.specs.Sound.{LogicalImage, Means, commit_numbers}
-use Rattle.log_laws.specs.Follow.{writes_in}
-use Rattle.checkpoint.specs.declared.master.Master.{Master}
-use Rattle.image_changes.specs.Rings.{Groups}
-use Rattle.image_changes.specs.Changes.{Change, SealsBlock, RewritesPages, AppendsGroup, AppendsSegment, AppendsMaster, ReadsAs, Reaches}
 use Rattle.image_changes.proofs.Sequence.{changes_add_up, reaches_parts}
-use Rattle.image_changes.specs.Reached.{IsReached, IsFrontOf}
-use Rattle.flash_cache.specs.Pushed.{LeavesPush}
-use Rattle.image_meaning.specs.Meaning.{kept_by, logical_image_under, IsSoundUnder, StandsUnder}
-use Rattle.image_meaning.specs.Changes.{MayMakeAll, SealsNoCommit, SavesNoMaster, newest_after, blocks_after, newest_after_all, blocks_after_all, next_block_lsn}
-use Rattle.image_meaning.specs.Moments.{LeavesTableUnder, LeavesEitherUnder, LeavesFor, LeavesEitherFor, FrontStandsFor, FrontStands, PushStands, CommitStands}
 use Rattle.image_meaning.proofs.Versions.{versions_same, version_stays}
 use Rattle.image_meaning.proofs.UnchangedImages.{same_is_sound, same_means, same_logical_image}
 use Rattle.image_meaning.proofs.Seals.{sealed_image_is_sound, sealed_with_commit}

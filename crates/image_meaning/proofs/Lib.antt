@@ -1,3 +1,4 @@
+mod Names
 pub mod OtherVersions
 pub mod Redos
 pub mod Behind

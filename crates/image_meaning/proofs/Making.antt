@@ -1,34 +1,12 @@
 -- Changes that may be made, one after the other.
-use Rattle.std.proofs.Common.{◌≡◌, ℕ, ◌+◌, List, [], ◌∷◌, length, ap, refl, ◌∙◌}
-use Rattle.std.specs.Prelude.{filter_map}
-use Rattle.std.specs.List.{cons_option}
-use Rattle.log_records.specs.declared.log_record.LogRecord.{LogRecord}
-use Rattle.log_records.specs.Spelling.{spelling}
-use Rattle.log_records.specs.Log.{entries_from}
-use Rattle.log_records.specs.Sound.{commit_number_by, commit_numbers}
-use Rattle.image_changes.specs.Changes.{SealsBlock, RewritesPages, AppendsGroup, AppendsSegment, AppendsMaster}
-use Rattle.image_meaning.specs.Changes.{newest_after, blocks_after}
+use Rattle.image_meaning.proofs.Names.{◌≡◌, ℕ, ◌+◌, List, [], ◌∷◌, length, ap, refl, ◌∙◌, cons_option, AllByRecursion, filter_map, Master, SealsBlock, RewritesPages, AppendsGroup, AppendsSegment, AppendsMaster, Makes, Change, Reaches, newest_after, blocks_after, MayMake, SealsNoCommit, MayMakeAll, blocks_after_all, newest_after_all, IsSoundUnder, logical_image_under, entries_from, commit_number_by, commit_numbers, Means, spelling, LogRecord, Content, Image, Geometry}
 use Rattle.image_meaning.proofs.UnchangedImages.{same_is_sound, same_means}
 use Rattle.image_meaning.proofs.Seals.{sealed_image_is_sound, sealed_without_commit}
 use Rattle.image_meaning.proofs.Stages.{sound_staged, means_staged}
 use Rattle.image_meaning.proofs.Appends.{pushed_is_sound, pushed_means}
 use Rattle.image_meaning.proofs.SegmentLaws.{segment_is_sound, segment_means}
 use Rattle.image_meaning.proofs.Saves.{sound_saved, means_saved}
-use Rattle.site.specs.State.{Image}
-use Rattle.image_changes.specs.Changes.{Makes, Change}
-use Rattle.site.specs.declared.geometry.Geometry.{Geometry}
-use Rattle.checkpoint.specs.declared.master.Master.{Master}
-use Rattle.std.specs.Prelude.{Option}
-use Rattle.image_meaning.specs.Changes.{MayMake}
-use Rattle.image_meaning.specs.Meaning.{IsSoundUnder}
-use Rattle.record_model.specs.State.{Content}
-use Rattle.log_records.specs.Sound.{Means}
-use Rattle.image_meaning.specs.Meaning.{logical_image_under}
-use Rattle.image_meaning.specs.Changes.{SealsNoCommit}
-use Rattle.image_meaning.specs.Changes.{MayMakeAll, blocks_after_all, newest_after_all}
-use Rattle.image_changes.specs.Changes.{Reaches}
-use Rattle.std.specs.Prelude.{◌++◌}
-use Rattle.std.specs.List.{AllByRecursion}
+use Rattle.std.specs.Prelude.{Option, ◌++◌}
 
 -- the commits of a block's records
 numbers_of : (lsn : ℕ) (records : List LogRecord) → commit_numbers (entries_from lsn records) ≡ filter_map commit_number_by records

@@ -1,20 +1,8 @@
 -- The master that names the unfinished transactions of a log.
-use Rattle.std.proofs.Common.{◌≡◌, ℕ, suc, ◌+◌, ◌*◌, ◌<◌, ◌≤◌, ⊎_elim, true, List, [], ◌∷◌, take, map, refl, sym, ap, subst, ◌∙◌, arith}
-use Rattle.std.specs.Prelude.{◌==◌, ◌&&◌, not, slice_index_or}
-use Rattle.std.specs.List.{list_any, AllByRecursion}
-use Rattle.std.proofs.lemmas.Bool.{or_cases, or_left, or_right, eqb-true, eq-eqb}
-use Rattle.std_lemmas.proofs.AllOf.{all_both, all_weaker, all_map}
-use Rattle.std_lemmas.proofs.Lists.{any_map}
-use Rattle.log_records.specs.Log.{Entry, is_loser, is_closed, entries_of}
-use Rattle.log_records.specs.Unfinished.{is_begin, losers}
-use Rattle.log_records.specs.Sound.{Active, LogicalImage, IsSound, last_lsn, active_in}
-use Rattle.log_laws.specs.NewImage.{with_master}
-use Rattle.log_laws.proofs.Listing.{Ascends, losers_ascend, above, listed_is_loser, loser_is_listed}
-use Rattle.checkpoint.specs.declared.master.Master.{Master}
+use Rattle.image_meaning.proofs.Names.{◌≡◌, ℕ, suc, ◌+◌, ◌*◌, ◌<◌, ◌≤◌, ⊎_elim, true, List, [], ◌∷◌, take, map, refl, sym, ap, subst, ◌∙◌, arith, or_cases, or_left, or_right, eqb-true, eq-eqb, list_any, AllByRecursion, ◌&&◌, not, slice_index_or, seen, Master, IsMasterOf, Ascends, losers_ascend, above, listed_is_loser, loser_is_listed, with_master, Entry, is_loser, is_closed, entries_of, Active, LogicalImage, IsSound, last_lsn, active_in, is_begin, losers, all_both, all_weaker, all_map, any_map}
+use Rattle.std.specs.Prelude.{◌==◌}
 use Rattle.checkpoint.specs.declared.pairs.Pair.{Pair}
 use Rattle.checkpoint.specs.Actives.{no_pair, Ascend}
-use Rattle.checkpoint.specs.Newest.{seen}
-use Rattle.image_meaning.specs.Flushed.{IsMasterOf}
 
 -- Lists that ascend.
 

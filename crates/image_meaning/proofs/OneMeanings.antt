@@ -1,22 +1,8 @@
 -- An image stands for one table.
-use Rattle.std.proofs.Common.{◌≡◌, ℕ, zero, suc, false, List, [], replicate, Option, Some, None, refl, sym, ap, subst, ◌∙◌, arith}
-use Rattle.site.specs.declared.geometry.Geometry.{Geometry}
-use Rattle.site.specs.State.{Image}
-use Rattle.sealed_ring.specs.Ring.{live}
-use Rattle.record_model.specs.State.{Content}
-use Rattle.log_records.specs.declared.log_record.LogRecord.{LogRecord}
-use Rattle.log_records.specs.Log.{table_of}
-use Rattle.log_records.specs.Sound.{commit_count}
-use Rattle.checkpoint.specs.declared.master.Master.{Master}
-use Rattle.checkpoint.proofs.Standing.{one_newest}
+use Rattle.image_meaning.proofs.Names.{◌≡◌, ℕ, zero, suc, false, List, [], replicate, Option, Some, None, refl, sym, ap, subst, ◌∙◌, arith, one_newest, newest_of, blank, IsOf, Master, master_shape, log_shape, units_on, OneMeaningFor, OneMasterStands, NewestIsRead, ReadIsNewest, saved_by, kept_by, logical_image_under, HasNewest, IsSoundUnder, StandsUnder, table_of, commit_count, LogRecord, HasBlocks, Represents, Content, live, Image, Geometry}
 use Rattle.log_store.proofs.OneLog.{one_log}
-use Rattle.checkpoint.specs.Newest.{newest_of, blank, IsOf}
-use Rattle.image_changes.specs.Rings.{master_shape, log_shape, units_on}
 use Rattle.log_store.specs.declared.store.LogStore.{LogStore}
 use Rattle.log_store.specs.LogList.{LogList}
-use Rattle.log_store.specs.Representation.{HasBlocks, Represents}
-use Rattle.image_meaning.specs.Meaning.{saved_by, kept_by, logical_image_under, HasNewest, IsSoundUnder, StandsUnder}
-use Rattle.image_meaning.specs.Laws.{OneMeaningFor, OneMasterStands, NewestIsRead, ReadIsNewest}
 
 -- a store that has found no block
 abbrev empty_store : Geometry → LogStore

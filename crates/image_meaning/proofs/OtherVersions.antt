@@ -1,19 +1,7 @@
 -- Other versions of the pages keep a logical image sound, and what it stands for.
-use Rattle.log_laws.specs.NewImage.{Replaces}
-use Rattle.std.proofs.Common.{◌≡◌, ℕ, ◌+◌, ◌*◌, ◌/◌, ◌%◌, ◌<◌, ◌≤◌, List, ◌∷◌, length, None, sym, ap, ◌∙◌, arith}
-use Rattle.std.specs.Prelude.{max}
-use Rattle.std.proofs.Math.Nat.{le-max_right}
-use Rattle.std.proofs.lemmas.Nat.{mod_below}
-use Rattle.std_lemmas.proofs.AllOf.{all_weaker}
-use Rattle.record_model.specs.State.{Content, content_at, length_of}
-use Rattle.log_records.specs.Log.{Version, slot_at, last_on, shown, shown_by, version_at}
-use Rattle.log_records.specs.Room.{longest, open_length, put_back}
-use Rattle.log_records.specs.Sound.{LogicalImage, IsSound, IsInTable, Means, FitsLog, HasRoomInPage, last_known, redone}
-use Rattle.log_laws.proofs.Rooms.{total_within}
+use Rattle.image_meaning.proofs.Names.{◌≡◌, ℕ, ◌+◌, ◌*◌, ◌/◌, ◌%◌, ◌<◌, ◌≤◌, List, ◌∷◌, length, None, sym, ap, ◌∙◌, arith, le-max_right, mod_below, max, with_versions, ReplaceAll, total_within, Replaces, page_and_slot, Version, slot_at, last_on, shown, shown_by, version_at, longest, open_length, put_back, LogicalImage, IsSound, IsInTable, Means, FitsLog, HasRoomInPage, last_known, redone, Content, content_at, length_of, all_weaker}
 use Rattle.image_meaning.proofs.Redos.{none_known, redone_replaces, slot_of_page, version_is_redone}
 use Rattle.log_laws.proofs.Versions.{table_same}
-use Rattle.image_meaning.specs.LogicalImages.{with_versions, ReplaceAll}
-use Rattle.log_records.proofs.Values.{page_and_slot}
 
 -- a slot without records is as it was
 pub slot_same : (p : LogicalImage) (versions : List Version) → ReplaceAll p versions → (number : ℕ) → number < 32 * length p.pages → last_on p.log number ≡ None → slot_at versions number ≡ slot_at p.pages number

@@ -1,13 +1,7 @@
 -- A group of frames pushed behind others.
-use Rattle.std.proofs.Common.{arith}
-use Rattle.frame_group.proofs.LastFrames.{new_version, other_versions, push_keeps_clean, drop_keeps_version, drop_keeps_clean}
-use Rattle.std.specs.Prelude.{ℕ, List, ◌++◌}
-use Rattle.frame_group.specs.Groups.{Frame}
+use Rattle.image_meaning.proofs.Names.{arith, new_version, other_versions, push_keeps_clean, drop_keeps_version, drop_keeps_clean, Frame, CleanAsDisk, last_frame, version}
+use Rattle.std.specs.Prelude.{ℕ, List, ◌++◌, Some, ◌≡◌, None}
 use Rattle.image_meaning.specs.Pushes.{MayPush}
-use Rattle.frame_group.specs.Versions.{CleanAsDisk}
-use Rattle.frame_group.specs.Versions.{last_frame, version}
-use Rattle.std.specs.Prelude.{Some, ◌≡◌}
-use Rattle.std.specs.Prelude.{None}
 
 -- then clean frames equal the disk still
 pub pushed_clean : (disk : ℕ → List ℕ) (front rest new : List Frame) → CleanAsDisk disk (front ++ rest) → MayPush disk front rest new → CleanAsDisk disk (rest ++ new)

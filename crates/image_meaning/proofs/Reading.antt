@@ -1,23 +1,9 @@
 -- The groups that a cache knows of.
-use Rattle.std.proofs.Common.{◌≡◌, ℕ, refl, arith, List, [], ◌∷◌, map, sym, subst}
 use Rattle.std.proofs.lemmas.Grind.{common_steps}
-use Rattle.std.specs.List.{AllByRecursion}
-use Rattle.std.proofs.lemmas.List.{length-map}
-use Rattle.std_lemmas.proofs.AllOf.{all_left, all_right, all_weaker}
+use Rattle.image_meaning.proofs.Names.{◌≡◌, ℕ, refl, arith, List, [], ◌∷◌, map, sym, subst, length-map, AllByRecursion, HasFrames, AreSaved, HasGroups, groups_on, Frame, IsGroup, group, frames_in, frames_of, group_shape, units_on, IsFrameOf, AreGroups, AreSegments, Image, Geometry, all_left, all_right, all_weaker}
 use Rattle.sealed_ring.proofs.Units.{live_count}
-use Rattle.image_changes.specs.Rings.{group_shape, units_on}
-use Rattle.site.specs.declared.geometry.Geometry.{Geometry}
-use Rattle.frame_group.specs.Groups.{Frame, IsGroup, group, frames_in}
-use Rattle.frame_group.specs.Versions.{frames_of}
-use Rattle.flash_cache.specs.Representation.{HasFrames, AreSaved}
-use Rattle.image_meaning.specs.Meaning.{IsFrameOf}
 use Rattle.flash_cache.proofs.Segments.{groups_are}
-use Rattle.site.specs.State.{Image}
-use Rattle.image_meaning.specs.Meaning.{AreGroups}
-use Rattle.flash_cache.specs.Representation.{HasGroups}
-use Rattle.flash_cache.specs.Representation.{groups_on}
 use Rattle.std.specs.Prelude.{length, ◌-◌}
-use Rattle.image_meaning.specs.Meaning.{AreSegments}
 
 pub spelled_again : (contents : List (List ℕ)) → AllByRecursion (λ content. IsGroup content (frames_in content)) contents → contents ≡ map group (map frames_in contents)
 spelled_again [] all = refl

@@ -1,24 +1,7 @@
 -- Versions of a page that know of the log up to an LSN.
-use Rattle.image_meaning.specs.Redone.{IsCurrent}
-use Rattle.log_laws.specs.NewImage.{Replaces}
-use Rattle.std.proofs.Common.{◌≡◌, ℕ, ◌+◌, ◌*◌, ◌/◌, ◌%◌, ◌<◌, ◌≤◌, ◌==◌, ◌&&◌, ◌||◌, Bool, true, false, List, [], ◌∷◌, ◌++◌, Some, None, refl, sym, ap, subst, ◌∙◌, arith, inl, inr}
-use Rattle.std.specs.Prelude.{Option, max, nat_lt, nat_le, IsTrue, if◌then◌else◌, length}
-use Rattle.std.proofs.Math.Nat.{max-le, le-max_left}
-use Rattle.std.specs.List.{AllByRecursion}
-use Rattle.std.specs.Option.{option_or}
-use Rattle.std.proofs.lemmas.Bool.{cases_Bool, le-leb, lt-leb, and_right}
-use Rattle.std.proofs.lemmas.Bool.Decides.{nat_tests}
-use Rattle.std.proofs.lemmas.Option.{none-some}
-use Rattle.std.proofs.lemmas.Nat.{div-mul-add, mod-mul-add}
-use Rattle.std_lemmas.proofs.AllOf.{all_filter, all_weaker}
-use Rattle.record_model.specs.State.{Content, content_at}
-use Rattle.log_records.specs.Log.{Entry, Version, version_at, slot_at, number_of, is_on, last_where, last_on, shown_by}
-use Rattle.log_records.specs.Sound.{LogicalImage, IsSound, IsInOrder, ShowsLast, last_known, before_block, redone}
-use Rattle.log_laws.proofs.Lists.{or_is_none}
-use Rattle.log_laws.proofs.Orders.{all_from, none_passes}
-use Rattle.log_laws.proofs.Values.{is_number-Some}
-use Rattle.image_meaning.specs.Redone.{AreKnown, IsRedone, Redoes}
-use Rattle.log_records.proofs.Lists.{last_where-append}
+use Rattle.image_meaning.proofs.Names.{◌≡◌, ℕ, ◌+◌, ◌*◌, ◌/◌, ◌%◌, ◌<◌, ◌≤◌, ◌==◌, ◌||◌, Bool, true, false, List, [], ◌∷◌, ◌++◌, Some, None, refl, sym, ap, subst, ◌∙◌, arith, inl, inr, max-le, le-max_left, cases_Bool, le-leb, lt-leb, and_right, nat_tests, div-mul-add, mod-mul-add, none-some, AllByRecursion, option_or, max, nat_lt, nat_le, IsTrue, if◌then◌else◌, IsCurrent, AreKnown, IsRedone, Redoes, or_is_none, all_from, none_passes, is_number-Some, Replaces, last_where-append, Entry, Version, version_at, slot_at, number_of, is_on, last_where, last_on, shown_by, LogicalImage, IsSound, IsInOrder, ShowsLast, last_known, before_block, redone, Content, content_at, all_filter, all_weaker}
+use Rattle.std.proofs.Common.{◌&&◌}
+use Rattle.std.specs.Prelude.{Option, length}
 
 -- Numbers.
 

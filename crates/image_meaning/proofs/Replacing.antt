@@ -1,14 +1,5 @@
 -- New versions of the pages of an image.
-use Rattle.std.proofs.Common.{ℕ, ◌<◌, List, Option, subst, arith}
-use Rattle.site.specs.declared.geometry.Geometry.{Geometry}
-use Rattle.site.specs.State.{Image}
-use Rattle.log_records.specs.declared.log_record.LogRecord.{LogRecord}
-use Rattle.log_laws.specs.NewImage.{Replaces}
-use Rattle.checkpoint.specs.declared.master.Master.{Master}
-use Rattle.flash_cache.specs.Representation.{version_on}
-use Rattle.image_meaning.specs.Meaning.{logical_image_under, version_in, versions_on}
-use Rattle.image_meaning.specs.LogicalImages.{ReplaceAll}
-use Rattle.image_meaning.specs.Laws.{ReplacedIsSound, ReplacedMeans, VersionReplaces}
+use Rattle.image_meaning.proofs.Names.{ℕ, ◌<◌, List, Option, subst, arith, Master, version_on, ReplacedIsSound, ReplacedMeans, VersionReplaces, ReplaceAll, logical_image_under, version_in, versions_on, Replaces, LogRecord, Image, Geometry}
 use Rattle.image_meaning.proofs.Versions.{length-versions, version_is}
 use Rattle.image_meaning.proofs.OtherVersions.{versions_are_sound, versions_mean, version_replaces_itself}
 

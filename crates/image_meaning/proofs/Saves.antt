@@ -1,42 +1,15 @@
 -- A master unit is appended.
-use Rattle.image_meaning.specs.Flushed.{IsFlushed, IsMasterOf, oldest_needed}
-use Rattle.std.proofs.Common.{◌≡◌, ◌⊎◌, inl, inr, true, false, ℕ, zero, suc, ◌+◌, ◌-◌, ◌*◌, ◌<◌, ◌≤◌, List, [], ◌∷◌, ◌++◌, length, drop, flat_map, Option, Some, refl, sym, ap, subst, ◌∙◌, arith}
-use Rattle.std.specs.Prelude.{nat_le}
-use Rattle.std.specs.List.{AllByRecursion}
-use Rattle.std.proofs.lemmas.Bool.{le-leb, lt-leb}
-use Rattle.std.proofs.lemmas.List.{length-drop}
+use Rattle.image_meaning.proofs.Names.{◌≡◌, ◌⊎◌, inl, inr, true, false, ℕ, zero, suc, ◌+◌, ◌-◌, ◌*◌, ◌<◌, ◌≤◌, List, [], ◌∷◌, ◌++◌, length, drop, flat_map, Option, Some, refl, sym, ap, subst, ◌∙◌, arith, le-leb, lt-leb, length-drop, AllByRecursion, nat_le, appended_is, seen, Master, AppendsMaster, Makes, Blocks, Groups, Segments, master_shape, units_on, MaySave, IsFlushed, IsMasterOf, oldest_needed, kept_by, next_block_under, logical_image_under, IsNewest, IsSoundUnder, versions_on, filter_none, all_from, entries_in_order, all_below, with_master, MayCheckpoint, entries_from, log_from, LogicalImage, Means, AreOrderly, from_block, spelling, AreBlock, LogRecord, blocks_stay, blocks_from, HasBlocks, Content, Units, Image, Geometry, all_weaker, filter_all}
 use Rattle.std.proofs.lemmas.List.Elements.{filter-append}
-use Rattle.std_lemmas.proofs.AllOf.{all_weaker}
-use Rattle.std_lemmas.proofs.Lists.{filter_all}
-use Rattle.site.specs.declared.geometry.Geometry.{Geometry}
-use Rattle.site.specs.State.{Image}
-use Rattle.sealed_ring.specs.Ring.{Units}
-use Rattle.record_model.specs.State.{Content}
-use Rattle.log_records.specs.declared.log_record.LogRecord.{LogRecord}
-use Rattle.log_records.specs.Spelling.{spelling, AreBlock}
-use Rattle.log_records.specs.Log.{entries_from, log_from}
-use Rattle.log_records.specs.Sound.{LogicalImage, Means, AreOrderly, from_block}
-use Rattle.log_records.specs.Sound as lists
-use Rattle.log_laws.specs.NewImage.{with_master, MayCheckpoint}
-use Rattle.log_laws.proofs.Orders.{filter_none, all_from, entries_in_order}
-use Rattle.log_laws.proofs.Parts.{all_below}
 use Rattle.log_laws.proofs.Masters.{master_is_sound, master_means, master_is_orderly, empty_master_is_sound, empty_master_means, empty_master_is_orderly}
 use Rattle.checkpoint.proofs.UnitParts.{unit_read}
-use Rattle.checkpoint.proofs.Standing.{appended_is}
-use Rattle.checkpoint.specs.declared.master.Master.{Master}
 use Rattle.checkpoint.specs.Units.{IsUnit, master_in}
-use Rattle.checkpoint.specs.Newest.{seen}
-use Rattle.image_changes.specs.Rings.{Blocks, Groups, Segments, master_shape, units_on}
-use Rattle.image_changes.specs.Changes.{AppendsMaster, Makes}
-use Rattle.log_store.specs.Representation.{HasBlocks}
-use Rattle.log_store.proofs.BlockLaws.{blocks_stay, blocks_from}
-use Rattle.image_meaning.specs.Meaning.{kept_by, next_block_under, logical_image_under, IsNewest, IsSoundUnder, versions_on}
-use Rattle.image_meaning.specs.Changes.{MaySave}
 use Rattle.image_meaning.specs.Checkpoints.{blocks_saved, SavedOctets}
 use Rattle.image_meaning.proofs.Flushes.{checkpoint_needs}
 use Rattle.image_meaning.proofs.Naming.{master_is_saved}
 use Rattle.image_meaning.proofs.Versions.{versions_same, version_stays}
 use Rattle.image_meaning.proofs.UnchangedImages.{next_block_is, segments_stay, octets_beside}
+use Rattle.log_records.specs.Sound as lists
 
 -- The records of the blocks from a later one on.
 

@@ -1,23 +1,13 @@
 -- A block that goes on is sealed.
-use Rattle.std.proofs.Common.{◌≡◌, ℕ, ◌+◌, List, [], ◌∷◌, ◌++◌, Option, sym, ap, subst, ◌∙◌, arith, length-append}
-use Rattle.site.specs.declared.geometry.Geometry.{Geometry}
-use Rattle.site.specs.State.{Image}
-use Rattle.record_model.specs.State.{Content, table_with}
-use Rattle.log_records.specs.declared.log_record.LogRecord.{LogRecord}
-use Rattle.log_records.specs.Sound.{LogicalImage, Means}
-use Rattle.log_records.specs.Sound as lists
-use Rattle.log_laws.specs.Follow.{GoesOn, sealed, writes_in}
+use Rattle.image_meaning.proofs.Names.{◌≡◌, ℕ, ◌+◌, List, [], ◌∷◌, ◌++◌, Option, sym, ap, subst, ◌∙◌, arith, Master, SealsBlock, Makes, Masters, Groups, Segments, KeepsUnits, shape_of, logical_image_under, IsSoundUnder, versions_on, GoesOn, sealed, writes_in, LogicalImage, Means, LogRecord, blocks_more, Content, table_with, Image, Geometry}
+use Rattle.std.proofs.Common.{length-append}
 use Rattle.log_laws.proofs.Tails.{log_from-append}
 use Rattle.log_laws.proofs.Seals.{sealed_is_sound}
 use Rattle.log_laws.proofs.Commits.{means_without_commit, means_with_commit}
-use Rattle.checkpoint.specs.declared.master.Master.{Master}
-use Rattle.image_changes.specs.Rings.{Masters, Groups, Segments, KeepsUnits, shape_of}
-use Rattle.image_changes.specs.Changes.{SealsBlock, Makes}
-use Rattle.log_store.proofs.BlockLaws.{blocks_more}
-use Rattle.image_meaning.specs.Meaning.{logical_image_under, IsSoundUnder, versions_on}
-use Rattle.image_meaning.specs.Laws as laws
 use Rattle.image_meaning.proofs.Versions.{versions_same, version_stays}
 use Rattle.image_meaning.proofs.UnchangedImages.{next_block_is, octets_stay, same_logical_image}
+use Rattle.log_records.specs.Sound as lists
+use Rattle.image_meaning.specs.Laws as laws
 
 -- the logical image of an image with one more block
 pub blocks_sealed : (newest : Option Master) (g : Geometry) (image : Image) (blocks : List (List LogRecord)) (records : List LogRecord) →

@@ -1,24 +1,9 @@
 -- Segments that are saved, and groups that are pushed behind them.
-use Rattle.std.proofs.Common.{ℕ, ◌-◌, ◌<◌, List, length, sym, subst}
-use Rattle.std.specs.List.{AllByRecursion}
-use Rattle.std_lemmas.proofs.AllOf.{all_weaker}
-use Rattle.site.specs.declared.geometry.Geometry.{Geometry}
-use Rattle.site.specs.Geometry.{HasLimits}
-use Rattle.site.specs.State.{Image}
-use Rattle.log_records.specs.Sound.{LogicalImage, Means}
-use Rattle.log_records.specs.Sound as lists
-use Rattle.frame_group.specs.Groups.{Frame, IsGroup, group}
-use Rattle.image_changes.specs.Rings.{Masters, Blocks, Groups, Segments, group_shape, units_on}
-use Rattle.image_changes.specs.Changes.{AppendsGroup, AppendsSegment, Appends, Makes}
-use Rattle.log_store.proofs.BlockLaws.{blocks_stay}
-use Rattle.flash_cache.specs.Representation.{HasFrames, groups_on}
-use Rattle.tail_rebuild.proofs.Following.{group_pushed, segment_saved}
-use Rattle.image_meaning.specs.Meaning.{IsFrameOf, AreGroups, AreSegments}
-use Rattle.image_meaning.specs.Changes.{NoSegmentIsDue, MaySaveSegment}
-use Rattle.image_meaning.specs.Laws.{SegmentIsSound, SegmentMeans}
+use Rattle.image_meaning.proofs.Names.{ℕ, ◌-◌, ◌<◌, List, length, sym, subst, AllByRecursion, HasFrames, groups_on, Frame, IsGroup, group, AppendsGroup, AppendsSegment, Appends, Makes, Masters, Blocks, Groups, Segments, group_shape, units_on, NoSegmentIsDue, MaySaveSegment, SegmentIsSound, SegmentMeans, IsFrameOf, AreGroups, AreSegments, LogicalImage, Means, blocks_stay, HasLimits, Image, Geometry, all_weaker, group_pushed, segment_saved}
 use Rattle.image_meaning.proofs.Versions.{versions_same, version_stays}
 use Rattle.image_meaning.proofs.Reading.{groups_are_there, segments_are_read}
 use Rattle.image_meaning.proofs.UnchangedImages.{newest_stays, octets_beside, same_logical_image}
+use Rattle.log_records.specs.Sound as lists
 
 -- the number of the oldest live group
 abbrev oldest : Geometry → Image → ℕ

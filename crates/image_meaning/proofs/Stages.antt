@@ -1,31 +1,11 @@
 -- Valid dirty frames are staged.
-use Rattle.std.proofs.Common.{◌≡◌, inl, inr, ℕ, ◌+◌, ◌*◌, ◌<◌, ◌≤◌, false, true≢false, List, [], take, Option, Some, None, sym, ap, subst, ◌∙◌, arith}
-use Rattle.std.specs.Prelude.{Contains}
-use Rattle.std.proofs.lemmas.Bool.{cases_lt, cases_order}
+use Rattle.image_meaning.proofs.Names.{◌≡◌, inl, inr, ℕ, ◌+◌, ◌*◌, ◌<◌, ◌≤◌, false, true≢false, List, [], take, Option, Some, None, sym, ap, subst, ◌∙◌, arith, cases_lt, cases_order, Contains, Master, page_on, frames_on, disk_on, version_on, IsCleanOn, staging_keeps_versions, staging_keeps_clean, Frame, last_frame, version, CleanAsDisk, RewritesPages, Makes, Masters, Blocks, Groups, Segments, MayStage, logical_image_under, IsSoundUnder, versions_on, LogicalImage, Means, LogRecord, blocks_stay, Content, IsBeside, Image, Geometry, Disk}
 use Rattle.std.proofs.Math.ListN.{drop_of_length-le}
-use Rattle.site.specs.declared.geometry.Geometry.{Geometry}
-use Rattle.site.specs.declared.outside.Dev.TheVariants.{Disk}
-use Rattle.site.specs.State.{Image}
-use Rattle.sealed_ring.specs.Ring.{IsBeside}
-use Rattle.record_model.specs.State.{Content}
-use Rattle.log_records.specs.declared.log_record.LogRecord.{LogRecord}
-use Rattle.log_records.specs.Sound.{LogicalImage, Means}
-use Rattle.log_records.specs.Sound as lists
-use Rattle.slotted_page.specs.Layout as page
-use Rattle.frame_group.specs.Groups.{Frame}
-use Rattle.frame_group.specs.Versions.{last_frame, version, CleanAsDisk}
-use Rattle.frame_group.proofs.LastFrames.{staging_keeps_versions, staging_keeps_clean}
-use Rattle.disk_pages.specs.Pages.{page_on}
 use Rattle.disk_pages.proofs.PageLaws.{page_stays}
-use Rattle.checkpoint.specs.declared.master.Master.{Master}
-use Rattle.image_changes.specs.Rings.{Masters, Blocks, Groups, Segments}
-use Rattle.image_changes.specs.Changes.{RewritesPages, Makes}
-use Rattle.log_store.proofs.BlockLaws.{blocks_stay}
-use Rattle.flash_cache.specs.Representation.{frames_on, disk_on, version_on, IsCleanOn}
-use Rattle.image_meaning.specs.Meaning.{logical_image_under, IsSoundUnder, versions_on}
-use Rattle.image_meaning.specs.Changes.{MayStage}
 use Rattle.image_meaning.proofs.Versions.{versions_same, frames_stay}
 use Rattle.image_meaning.proofs.UnchangedImages.{lengths_stay, newest_stays, groups_stay, segments_stay, same_logical_image}
+use Rattle.log_records.specs.Sound as lists
+use Rattle.slotted_page.specs.Layout as page
 
 -- no octet of a page is one of another page
 apart : (number other place : ℕ) → (number ≡ other → ⊥) → 4096 * number ≤ place → place < 4096 * number + 4096 → IsBeside (4096 * other) 4096 place

@@ -1,28 +1,8 @@
 -- What stays of an image whose groups and disk stay.
-use Rattle.std.proofs.Common.{◌≡◌, ℕ, ◌+◌, List, length, map, refl, arith, Option, Some, None, sym, ap, subst, ◌∙◌}
-use Rattle.site.specs.declared.geometry.Geometry.{Geometry}
-use Rattle.site.specs.declared.outside.Dev.TheVariants.{Log, Flash, Disk}
-use Rattle.site.specs.Geometry.{HasLengths}
-use Rattle.site.specs.State.{Image}
-use Rattle.sealed_ring.specs.Ring.{Units}
-use Rattle.log_records.specs.declared.log_record.LogRecord.{LogRecord}
-use Rattle.log_records.specs.Sound.{LogicalImage, Means}
+use Rattle.image_meaning.proofs.Names.{◌≡◌, ℕ, ◌+◌, List, length, map, refl, arith, Option, Some, None, sym, ap, subst, ◌∙◌, Master, frames_on, groups_on, disk_on, frames_in, CleanAsDisk, SameSizes, ReadsAs, RingName, Masters, Blocks, Groups, Segments, shape_of, group_shape, segment_shape, KeepsUnits, with_versions, kept_by, next_block_under, logical_image_under, IsUnused, HasNewest, AreGroups, AreSegments, AreOctetsSoundUnder, versions_on, IsSoundUnder, LogicalImage, Means, LogRecord, blocks_stay, Content, Units, HasLengths, Image, Geometry, Log, Flash, Disk, saved_again}
+use Rattle.image_meaning.proofs.Versions.{versions_same, version_stays, frames_stay, disk_stays}
 use Rattle.log_records.specs.Sound as lists
 use Rattle.slotted_page.specs.Layout as page
-use Rattle.frame_group.specs.Groups.{frames_in}
-use Rattle.frame_group.specs.Versions.{CleanAsDisk}
-use Rattle.checkpoint.specs.declared.master.Master.{Master}
-use Rattle.image_changes.specs.Rings.{RingName, Masters, Blocks, Groups, Segments, shape_of, group_shape, segment_shape, KeepsUnits}
-use Rattle.image_changes.specs.Changes.{SameSizes}
-use Rattle.log_store.proofs.BlockLaws.{blocks_stay}
-use Rattle.tail_rebuild.proofs.Following.{saved_again}
-use Rattle.flash_cache.specs.Representation.{frames_on, groups_on, disk_on}
-use Rattle.image_meaning.specs.Meaning.{kept_by, next_block_under, logical_image_under, IsUnused, HasNewest, AreGroups, AreSegments, AreOctetsSoundUnder, versions_on}
-use Rattle.image_meaning.specs.LogicalImages.{with_versions}
-use Rattle.image_meaning.proofs.Versions.{versions_same, version_stays, frames_stay, disk_stays}
-use Rattle.image_changes.specs.Changes.{ReadsAs}
-use Rattle.image_meaning.specs.Meaning.{IsSoundUnder}
-use Rattle.record_model.specs.State.{Content}
 
 pub next_block_is : (newest : Option Master) (blocks : List (List LogRecord)) → next_block_under newest blocks ≡ kept_by newest + length blocks
 next_block_is None blocks = omega arith

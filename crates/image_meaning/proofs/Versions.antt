@@ -1,17 +1,6 @@
 -- The versions of an image's pages.
-use Rattle.std.proofs.Common.{◌≡◌, ℕ, ◌<◌, length, map, ap, arith}
-use Rattle.std.specs.List.{range_with_len}
+use Rattle.image_meaning.proofs.Names.{◌≡◌, ℕ, ◌<◌, length, map, ap, arith, range_with_len, page_on, frames_on, disk_on, version_on, version, frames_of, group_shape, KeepsUnits, version_in, versions_on, version_at, blank_version, Units, Image, Geometry}
 use Rattle.std.proofs.lemmas.List.FromFn.{length-map-range_with_len, get_or-map-range_with_len}
-use Rattle.site.specs.declared.geometry.Geometry.{Geometry}
-use Rattle.site.specs.State.{Image}
-use Rattle.log_records.specs.Log.{version_at, blank_version}
-use Rattle.frame_group.specs.Versions.{version}
-use Rattle.image_changes.specs.Rings.{group_shape, KeepsUnits}
-use Rattle.sealed_ring.specs.Ring.{Units}
-use Rattle.frame_group.specs.Versions.{frames_of}
-use Rattle.disk_pages.specs.Pages.{page_on}
-use Rattle.flash_cache.specs.Representation.{frames_on, disk_on, version_on}
-use Rattle.image_meaning.specs.Meaning.{version_in, versions_on}
 
 pub length-versions : (g : Geometry) (image : Image) → length (versions_on g image) ≡ g.pages
 length-versions g image = length-map-range_with_len (λ number. version_in (version_on g image number)) 0 g.pages

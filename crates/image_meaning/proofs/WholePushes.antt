@@ -1,35 +1,11 @@
 -- Pages are staged, then a group is appended.
-use Rattle.std.proofs.Common.{◌≡◌, ◌⊎◌, inl, inr, ℕ, ◌+◌, ◌-◌, ◌*◌, ◌<◌, List, [], ◌∷◌, ◌++◌, length, take, drop, Option, Some, None, sym, ap, subst, ◌∙◌, arith}
-use Rattle.std.specs.Prelude.{Contains, slice_index}
-use Rattle.std.proofs.lemmas.List.{get_or_default}
-use Rattle.std.proofs.lemmas.Option.{same_Some}
-use Rattle.site.specs.declared.geometry.Geometry.{Geometry}
-use Rattle.site.specs.State.{Image}
-use Rattle.sealed_ring.specs.Ring.{Units, hi_of}
-use Rattle.record_model.specs.State.{Content}
-use Rattle.log_records.specs.declared.log_record.LogRecord.{LogRecord}
-use Rattle.log_records.specs.Sound.{LogicalImage, Means}
-use Rattle.log_laws.specs.NewImage.{Replaces}
-use Rattle.frame_group.specs.Groups.{Frame, IsGroup}
-use Rattle.frame_group.specs.Versions.{frames_of, last_frame}
+use Rattle.image_meaning.proofs.Names.{◌≡◌, ◌⊎◌, inl, inr, ℕ, ◌+◌, ◌-◌, ◌*◌, ◌<◌, List, [], ◌∷◌, ◌++◌, length, take, drop, Option, Some, None, sym, ap, subst, ◌∙◌, arith, get_or_default, same_Some, Contains, slice_index, Master, page_on, changes_of_push, LeavesPush, frames_on, disk_on, last_of_both, Frame, IsGroup, frames_of, last_frame, Change, RewritesPages, AppendsGroup, ReadsAs, Rewrites, Makes, Reaches, IsFrontOf, Groups, Segments, group_shape, segment_shape, front_on, rest_on, MayStage, MayAppend, logical_image_under, IsSoundUnder, version_in, Replaces, LogicalImage, Means, LogRecord, Content, Units, hi_of, Image, Snapshot, State, Geometry}
 use Rattle.frame_group.specs.Laws.{IsStaged}
-use Rattle.frame_group.proofs.LastFrames.{last_of_both}
-use Rattle.disk_pages.specs.Pages.{page_on}
-use Rattle.checkpoint.specs.declared.master.Master.{Master}
-use Rattle.image_changes.specs.Rings.{Groups, Segments, group_shape, segment_shape}
-use Rattle.image_changes.specs.Changes.{Change, RewritesPages, AppendsGroup, ReadsAs, Rewrites, Makes, Reaches}
-use Rattle.image_changes.specs.Reached.{IsFrontOf}
 use Rattle.stage_out.specs.Staged.{HasStaged, changes_of}
-use Rattle.flash_cache.specs.Representation.{frames_on, disk_on}
-use Rattle.flash_cache.specs.Pushed.{changes_of_push}
-use Rattle.image_meaning.specs.Meaning.{logical_image_under, IsSoundUnder, version_in}
-use Rattle.image_meaning.specs.Changes.{front_on, rest_on, MayStage, MayAppend}
 use Rattle.image_meaning.specs.PushLaws.{MayPushGroup}
 use Rattle.image_meaning.proofs.UnchangedImages.{same_is_sound, same_means, same_logical_image}
 use Rattle.image_meaning.proofs.Stages.{sound_staged, means_staged, page_kept, same_versions}
 use Rattle.image_meaning.proofs.Appends.{pushed_is_sound, pushed_means, frames_before}
-use Rattle.site.specs.State.{Snapshot, State}
-use Rattle.flash_cache.specs.Pushed.{LeavesPush}
 pub use Rattle.image_changes.proofs.Sequence.{reaches_parts}
 
 -- what staging makes of an image, whatever pages there are

@@ -1,26 +1,13 @@
 -- One unfinished transaction after one record more.
-use Rattle.std.proofs.Common.{◌≡◌, ℕ, ◌-◌, ◌<◌, Bool, true, false, true≢false, List, [], ◌∷◌, ◌++◌, length, get_or, map, take, drop, refl, sym, ap, ◌∙◌, arith}
-use Rattle.std.specs.Prelude.{reverse, ◌↔◌, IsTrue}
-use Rattle.std.specs.List.{AllByRecursion}
-use Rattle.std.proofs.lemmas.List.{length-append, reverse-append, reverse-reverse, take_at}
-use Rattle.std.proofs.Math.Seq.{get_or-append_seam}
-use Rattle.log_records.specs.declared.log_record.LogRecord.{LogRecord}
-use Rattle.log_records.specs.declared.log_record.LogRecord.TheVariants.{Begin, Update, Clr, Commit, End}
-use Rattle.log_records.specs.Log.{Entry, is_update}
-use Rattle.log_records.specs.Unfinished.{is_clr, open_by, open_updates}
-use Rattle.log_records.specs.Sound.{Compensates, Undoes, last_number}
-use Rattle.log_laws.proofs.Orders.{InTurn-append}
-use Rattle.log_judge.specs.declared.chain.Pending.{Pending}
-use Rattle.log_judge.specs.Chaining.{IsKept, Kept, begin_at, pending_of}
-use Rattle.log_judge.specs.Rules.{Links}
+use Rattle.log_judge.proofs.Names.{◌≡◌, ℕ, ◌-◌, ◌<◌, Bool, true, false, true≢false, List, [], ◌∷◌, ◌++◌, length, get_or, map, take, drop, refl, sym, ap, ◌∙◌, arith, get_or-append_seam, length-append, reverse-append, reverse-reverse, take_at, AllByRecursion, reverse, ◌↔◌, IsTrue, IsKept, Kept, begin_at, pending_of, Links, Pending, InTurn-append, Entry, is_update, Compensates, Undoes, last_number, is_clr, open_by, open_updates, LogRecord, Begin, Update, Clr, Commit, End}
 
 -- One record more.
 
-open_push : (us rest : List Entry) (e : Entry) → open_updates us (rest ++ e ∷ []) ≡ open_by (open_updates us rest) e e.rec
+pub open_push : (us rest : List Entry) (e : Entry) → open_updates us (rest ++ e ∷ []) ≡ open_by (open_updates us rest) e e.rec
 open_push us [] e = refl
 open_push us (x ∷ rest) e = open_push (open_by us x x.rec) rest e
 
-last_push : (n : ℕ) (rest : List Entry) (e : Entry) → last_number n (map (λ (x : Entry). x.lsn) (rest ++ e ∷ [])) ≡ e.lsn
+pub last_push : (n : ℕ) (rest : List Entry) (e : Entry) → last_number n (map (λ (x : Entry). x.lsn) (rest ++ e ∷ [])) ≡ e.lsn
 last_push n [] e = refl
 last_push n (x ∷ rest) e = last_push x.lsn rest e
 

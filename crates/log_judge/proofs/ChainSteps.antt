@@ -1,25 +1,9 @@
 -- All unfinished transactions after one record more.
-use Rattle.std.proofs.Common.{◌≡◌, ℕ, Bool, true, false, true≢false, not, ◌&&◌, ◌||◌, cond, nat_eq, List, [], ◌∷◌, ◌++◌, length, drop, Option, Some, None, refl, sym, ap, subst, ◌∙◌, arith}
-use Rattle.std.specs.Prelude.{◌==◌, reverse}
-use Rattle.std.specs.List.{list_any}
-use Rattle.std.proofs.lemmas.Bool.{eqb-true, eq-eqb, and_right}
-use Rattle.std.proofs.lemmas.List.Folds.{list_any-append}
-use Rattle.std.proofs.lemmas.Option.{none-some}
-use Rattle.std_lemmas.proofs.Bools.{or_without_last}
-use Rattle.indexmap.specs.IndexSet.{IndexSet, contains, index_set_len}
-use Rattle.log_records.specs.declared.log_record.LogRecord.{LogRecord}
-use Rattle.log_records.specs.declared.log_record.LogRecord.TheVariants.{Begin, Update, Clr, Commit, End}
-use Rattle.log_records.specs.Log.{Entry, txn_of, is_of, is_closing, is_closed, entries_of}
-use Rattle.log_records.specs.Unfinished.{is_begin}
-use Rattle.log_records.specs.Sound.{InTurn, is_known}
-use Rattle.log_laws.specs.Follow.{IsFresh}
-use Rattle.log_laws.proofs.Values.{closed_push, closed_same}
-use Rattle.log_laws.proofs.Appends.{fresh_open, fresh_entries}
+use Rattle.log_judge.proofs.Names.{◌≡◌, ℕ, Bool, true, false, true≢false, ◌&&◌, ◌||◌, cond, nat_eq, List, [], ◌∷◌, ◌++◌, length, drop, Option, Some, None, refl, sym, ap, subst, ◌∙◌, arith, eqb-true, eq-eqb, and_right, list_any-append, none-some, list_any, reverse, IndexSet, contains, index_set_len, AreChains, Kept, Knows, IsKept, begin_at, kept_of, Links, IsLinked, LosersAreLinked, is_unfinished, fresh_open, fresh_entries, InTurn-right, closed_push, closed_same, IsFresh, Entry, txn_of, is_of, is_closing, is_closed, entries_of, InTurn, is_known, is_begin, LogRecord, Begin, Update, Clr, Commit, End, or_without_last}
+use Rattle.std.proofs.Common.{not}
+use Rattle.std.specs.Prelude.{◌==◌}
 use Rattle.log_laws.proofs.Losers.{entries_other, entries_own}
-use Rattle.log_laws.proofs.Parts.{InTurn-right}
 use Rattle.log_judge.specs.declared.chains.Chains.{Chains}
-use Rattle.log_judge.specs.Chaining.{AreChains, Kept, Knows, IsKept, begin_at, kept_of}
-use Rattle.log_judge.specs.Rules.{Links, IsLinked, LosersAreLinked, is_unfinished}
 
 abbrev with : List Entry → Entry → List Entry
 with records e = records ++ e ∷ []

@@ -1,22 +1,6 @@
 -- What the rules say of one record more, and of all of them.
-use Rattle.std.proofs.Common.{◌≡◌, ℕ, ◌+◌, ◌*◌, ◌^◌, ◌<◌, ◌≤◌, Bool, false, cond, nat_lt, List, [], ◌∷◌, ◌++◌, length, Option, Some, None, refl, sym, ap, subst, ◌∙◌, append_assoc, arith}
-use Rattle.std.specs.Prelude.{filter, IfSome, IfNone, IsTrue, ◌↔◌}
-use Rattle.std.specs.List.{AllByRecursion}
-use Rattle.std.proofs.lemmas.Bool.Decides.{nat_tests}
-use Rattle.std.proofs.lemmas.List.{append-nil}
-use Rattle.std.proofs.lemmas.List.Elements.{filter-append}
-use Rattle.std.proofs.lemmas.Option.{same_Some}
-use Rattle.std_lemmas.proofs.AllOf.{all_right}
-use Rattle.log_records.specs.Log.{Entry, Version, txn_of}
-use Rattle.log_records.specs.Sound.{LogicalImage, InTurn, IsInOrder, IsInTable, IsOfOpenTransaction, before_block, commit_numbers}
-use Rattle.log_laws.proofs.Orders.{InTurn-weaker, InTurn-all}
+use Rattle.log_judge.proofs.Names.{◌≡◌, ℕ, ◌+◌, ◌*◌, ◌^◌, ◌<◌, ◌≤◌, Bool, false, cond, nat_lt, List, [], ◌∷◌, ◌++◌, length, Option, Some, None, refl, sym, ap, subst, ◌∙◌, append_assoc, arith, nat_tests, append-nil, filter-append, same_Some, AllByRecursion, filter, IfSome, IfNone, IsTrue, ◌↔◌, Heard, NumbersAre, MayStand, IsJudged, Comes, Numbers, InTurn-weaker, InTurn-all, InTurn-right, all_below, Entry, Version, txn_of, LogicalImage, InTurn, IsInOrder, IsInTable, IsOfOpenTransaction, before_block, commit_numbers, all_right}
 use Rattle.log_laws.proofs.Orderly.{fresh_of}
-use Rattle.log_laws.proofs.Parts.{InTurn-right, all_below}
-use Rattle.log_judge.specs.declared.commits.Numbers.{Numbers}
-use Rattle.log_judge.specs.Counting.{Heard, NumbersAre}
-use Rattle.log_judge.specs.Opening.{MayStand}
-use Rattle.log_judge.specs.Rules.{IsJudged}
-use Rattle.log_judge.specs.Unended.{Comes}
 
 -- The next record.
 

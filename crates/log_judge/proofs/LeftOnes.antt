@@ -1,35 +1,14 @@
 -- Which transactions are unfinished after one record more.
-use Rattle.std.proofs.Common.{◌≡◌, ℕ, ◌+◌, ◌*◌, ◌<◌, ◌≤◌, Bool, true, false, true≢false, not, ◌&&◌, ◌||◌, cond, List, [], ◌∷◌, ◌++◌, length, map, drop, get_or, Option, Some, None, refl, sym, ap, subst, ◌∙◌, arith, nat_lt, add-one}
-use Rattle.std.specs.Prelude.{filter, slice_get, ◌==◌, ◌↔◌}
-use Rattle.std.proofs.Math.Seq.{drop-cons}
-use Rattle.std.specs.BTreeMap.{BTreeMap, insert_entry, is_at}
+use Rattle.std.proofs.lemmas.Grind.{common_steps}
+use Rattle.log_judge.proofs.Names.{◌≡◌, ℕ, ◌+◌, ◌*◌, ◌<◌, ◌≤◌, Bool, true, false, ◌&&◌, cond, List, [], ◌∷◌, ◌++◌, length, map, drop, get_or, Option, Some, None, refl, sym, ap, ◌∙◌, arith, nat_lt, add-one, drop-cons, eqb-true, lt-ltb, append-nil, map-append, filter-append, none-some, get_or_from_slice_get, BTreeMap, insert_entry, is_at, AllByRecursion, lookup, remove_entry, set_value, nat_cmp, filter, slice_get, ◌↔◌, Pair, AreLeft, entry_of, left_of, Left, all_below, all_made, filter_same, closed_push, IsFresh, closing_is_no_begin, Entry, txn_of, is_of, is_closing, is_closed, entries_of, Active, IsInOrder, last_lsn, before_block, active_in, is_begin, losers, open_by, open_updates, LogRecord, all_weaker, map_same}
+use Rattle.std.proofs.Common.{not}
+use Rattle.std.specs.Prelude.{◌==◌}
 use Rattle.std.specs.Cmp.{unsigned_tied}
-use Rattle.std.specs.List.{AllByRecursion}
-use Rattle.std.specs.Map.{lookup, remove_entry, set_value}
-use Rattle.std.specs.Ordering.{nat_cmp}
-use Rattle.std.proofs.lemmas.Bool.{eqb-true, lt-ltb}
-use Rattle.std.proofs.lemmas.List.{append-nil, map-append}
-use Rattle.std.proofs.lemmas.List.Elements.{filter-append}
 use Rattle.std.proofs.lemmas.List.Sums.{count_by-le-length, length-filter}
 use Rattle.std.proofs.lemmas.Map.{NonePasses, none_passes_from_lookup}
-use Rattle.std.proofs.lemmas.Option.{none-some, get_or_from_slice_get}
-use Rattle.std_lemmas.proofs.AllOf.{all_weaker}
 use Rattle.std_lemmas.proofs.Entries.{AreBelow, insert_last}
-use Rattle.std_lemmas.proofs.Lists.{map_same}
-use Rattle.log_records.proofs.Entries.{closing_is_no_begin}
-use Rattle.log_records.specs.declared.log_record.LogRecord.{LogRecord}
-use Rattle.log_records.specs.declared.log_record.LogRecord.TheVariants.{Begin, Update, Clr, Commit, End}
-use Rattle.log_records.specs.Log.{Entry, txn_of, is_of, is_closing, is_closed, entries_of}
-use Rattle.log_records.specs.Unfinished.{is_begin, losers, open_by, open_updates}
-use Rattle.log_records.specs.Sound.{Active, IsInOrder, last_lsn, before_block, active_in}
 use Rattle.log_laws.specs.Analysis.{Summary, unfinished_at, unfinished_in, remaining_by, after_record}
-use Rattle.log_laws.specs.Follow.{IsFresh}
-use Rattle.log_laws.proofs.Parts.{all_below, all_made, filter_same}
-use Rattle.log_laws.proofs.Values.{closed_push}
 use Rattle.log_laws.proofs.Analysing.{unfinished_begin, unfinished_more, unfinished_closed, unfinished_there}
-use Rattle.checkpoint.specs.declared.pairs.Pair.{Pair}
-use Rattle.log_judge.specs.declared.unfinished.Left.{Left}
-use Rattle.log_judge.specs.Unended.{AreLeft, entry_of, left_of}
 use Rattle.log_judge.proofs.OpenOnes.{begin_only}
 
 -- A record of a transaction that isn't in the list.
@@ -38,14 +17,7 @@ abbrev is_listed : List Entry → Entry → Bool
 is_listed log x = is_begin x.rec && not (is_closed log x.lsn)
 
 listed_same : (log : List Entry) (e x : Entry) → (is_listed log x ≡ true → (txn_of e == x.lsn) ≡ false) → is_listed (log ++ e ∷ []) x ≡ is_listed log x
-listed_same log e x other =
-    ap (λ (b : Bool). is_begin x.rec && not b) (closed_push log e x.lsn) ∙ by (is_begin x.rec) (is_closed log x.lsn) (txn_of e == x.lsn) (is_closing e.rec) other
-  where
-    by : (b c q k : Bool) → ((b && not c) ≡ true → q ≡ false) → (b && not (c || ((q && k) || false))) ≡ (b && not c)
-    by false c q k h = refl
-    by true true q k h = refl
-    by true false true k h = absurd (true≢false (h refl))
-    by true false false k h = refl
+listed_same log e x other = grind (arith, common_steps, closed_push)
 
 losers_same : (log : List Entry) (e : Entry) → is_begin e.rec ≡ false → AllByRecursion (λ n. (txn_of e == n) ≡ false) (losers log) → losers (log ++ e ∷ []) ≡ losers log
 losers_same log e old others =
@@ -60,26 +32,16 @@ losers_same log e old others =
 
 -- a record of another transaction changes nothing of one
 at_other : (log : List Entry) (e : Entry) (t : ℕ) → is_of t e ≡ false → unfinished_at (log ++ e ∷ []) t ≡ unfinished_at log t
-at_other log e t other =
-    ap (λ (own : List Entry). record { txn = t; last = last_lsn own; remaining = length (open_updates [] own) })
-    (filter-append (is_of t) log (e ∷ []) ∙ ap (λ (b : Bool). entries_of t log ++ cond b (e ∷ []) []) other ∙ append-nil (entries_of t log))
+at_other log e t other = grind (arith, common_steps, filter-append, append-nil)
 
 pub unfinished_same : (log : List Entry) (e : Entry) → is_begin e.rec ≡ false → AllByRecursion (λ n. (txn_of e == n) ≡ false) (losers log) → unfinished_in (log ++ e ∷ []) ≡ unfinished_in log
-unfinished_same log e old others =
-    ap (map (unfinished_at (log ++ e ∷ []))) (losers_same log e old others)
-    ∙ map_same (unfinished_at (log ++ e ∷ [])) (unfinished_at log) (losers log)
-    (all_weaker (λ n. (txn_of e == n) ≡ false) (λ n. unfinished_at (log ++ e ∷ []) n ≡ unfinished_at log n) (λ n other. at_other log e n other) (losers log) others)
+unfinished_same log e old others = grind (arith, common_steps, losers_same, map_same, all_weaker, at_other)
 
 -- Where one stands in the list.
 
 absent : (log : List Entry) (t : ℕ) (ns : List ℕ) → lookup (is_at (nat_cmp t)) (map entry_of (map (unfinished_at log) ns)) ≡ None → AllByRecursion (λ n. (t == n) ≡ false) ns
-absent log t [] none = tt
-absent log t (n ∷ ns) none = by (t == n) refl (ap (λ (b : Bool). cond b (Some (left_of (unfinished_at log n))) (lookup (is_at (nat_cmp t)) (map entry_of (map (unfinished_at log) ns)))) (sym (unsigned_tied t n)) ∙ none) (absent log t ns)
-  where
-    by : (b : Bool) → (t == n) ≡ b → cond b (Some (left_of (unfinished_at log n))) (lookup (is_at (nat_cmp t)) (map entry_of (map (unfinished_at log) ns))) ≡ None →
-        (lookup (is_at (nat_cmp t)) (map entry_of (map (unfinished_at log) ns)) ≡ None → AllByRecursion (λ m. (t == m) ≡ false) ns) → ((t == n) ≡ false) × AllByRecursion (λ m. (t == m) ≡ false) ns
-    by true is found rest = absurd (none-some (left_of (unfinished_at log n)) (sym found))
-    by false is none rest = (is, rest none)
+absent log t [] none = grind (arith, common_steps)
+absent log t (n ∷ ns) none = grind (arith, common_steps, none-some, (absent log t ns))
 
 record Split (us : List Summary) (t : ℕ) (v : Left) : Type 0 where
   pub front : List Summary
@@ -133,28 +95,11 @@ remove_none test (e ∷ es) none = ap (λ (b : Bool). cond b es (e ∷ remove_en
 -- How many Updates remain at most.
 
 open_few : (updates entries : List Entry) → length (open_updates updates entries) ≤ length updates + length entries
-open_few updates [] = omega arith
-open_few updates (e ∷ entries) =
-    let rest = open_few (open_by updates e e.rec) entries in
-    let here = one updates e e.rec in
-    omega (arith, rest, here)
-  where
-    less : (us : List Entry) → length (drop 1 us) ≤ length us
-    less [] = omega arith
-    less (u ∷ us) = omega arith
-
-    one : (us : List Entry) (x : Entry) (rec : LogRecord) → length (open_by us x rec) ≤ length us + 1
-    one us x Begin = omega arith
-    one us x (Update txn prev page slot before after) = omega arith
-    one us x (Clr txn prev undo_next page slot after) = let l = less us in omega (arith, l)
-    one us x (Commit txn number) = omega arith
-    one us x (End txn) = omega arith
+open_few updates [] = grind (arith, common_steps)
+open_few updates (e ∷ entries) = grind (arith, common_steps, (open_few (open_by updates e e.rec) entries))
 
 passed_few : (test : Entry → Bool) (xs : List Entry) → length (filter test xs) ≤ length xs
-passed_few test xs =
-    let count = length-filter test xs in
-    let few = count_by-le-length test xs in
-    omega (arith, count, few)
+passed_few test xs = grind (arith, common_steps, length-filter, count_by-le-length)
 
 remaining_few : (log : List Entry) (front : List Summary) (x : Summary) (back : List Summary) → unfinished_in log ≡ front ++ x ∷ back → x.remaining ≤ length log
 remaining_few log front x back is =
@@ -166,31 +111,15 @@ remaining_few log front x back is =
 -- One record more.
 
 listed_below : (records : List Entry) (test : Entry → Bool) (to : ℕ) (log : List Entry) → AllByRecursion (λ e. e.lsn < to) log → AreBelow to (map entry_of (map (unfinished_at records) (map (λ (x : Entry). x.lsn) (filter test log))))
-listed_below records test to [] all = tt
-listed_below records test to (e ∷ log) all = by (test e) (listed_below records test to log all.1)
-  where
-    ends : Bool → List (ℕ × Left)
-    ends b = map entry_of (map (unfinished_at records) (map (λ (x : Entry). x.lsn) (cond b (e ∷ filter test log) (filter test log))))
-
-    by : (b : Bool) → AreBelow to (ends false) → AreBelow to (ends b)
-    by true rest = (all.0, rest)
-    by false rest = rest
+listed_below records test to [] all = grind (arith, common_steps)
+listed_below records test to (e ∷ log) all = grind (arith, common_steps, AreBelow, (listed_below records test to log all.1))
 
 pub left_begins : (records : List Entry) (from lsn : ℕ) (rec : LogRecord) (old new : BTreeMap ℕ Left) → is_begin rec ≡ true → IsInOrder from records lsn → IsFresh lsn records → AreLeft records old →
     new.entries ≡ insert_entry nat_cmp old.entries lsn (record { last = lsn; remaining = 0 }) → AreLeft (records ++ record { lsn = lsn; rec = rec } ∷ []) new
-left_begins records from lsn rec old new begins order fresh is put =
-    let first : Left = record { last = lsn; remaining = 0 } in
-    subst (λ (r : LogRecord). AreLeft (records ++ record { lsn = lsn; rec = r } ∷ []) new) (sym (begin_only rec begins)) (record {
-      are = put ∙ ap (λ (l : List (ℕ × Left)). insert_entry nat_cmp l lsn first) is.are
-          ∙ insert_last lsn first (map entry_of (unfinished_in records)) (listed_below records (is_listed records) lsn records (all_below from records lsn order))
-          ∙ sym (map-append entry_of (unfinished_in records) (record { txn = lsn; last = lsn; remaining = 0 } ∷ []))
-          ∙ ap (map entry_of) (sym (unfinished_begin records lsn fresh));
-    })
+left_begins records from lsn rec old new begins order fresh is put = grind (arith, common_steps, begin_only, insert_last, listed_below, all_below, map-append, unfinished_begin)
 
 pub left_same : (records : List Entry) (e : Entry) (left : BTreeMap ℕ Left) → is_begin e.rec ≡ false → AreLeft records left → lookup (is_at (nat_cmp (txn_of e))) left.entries ≡ None → AreLeft (records ++ e ∷ []) left
-left_same records e left old is none = record {
-  are = is.are ∙ ap (map entry_of) (sym (unfinished_same records e old (absent records (txn_of e) (losers records) (ap (lookup (is_at (nat_cmp (txn_of e)))) (sym is.are) ∙ none))));
-}
+left_same records e left old is none = grind (arith, common_steps, unfinished_same, absent)
 
 module _ (records : List Entry) (e : Entry) (left : BTreeMap ℕ Left) (from to : ℕ) (order : IsInOrder from records to) (is : AreLeft records left) where
   module _ (v : Left) (found : lookup (is_at (nat_cmp (txn_of e))) left.entries ≡ Some v) where
@@ -198,16 +127,10 @@ module _ (records : List Entry) (e : Entry) (left : BTreeMap ℕ Left) (from to 
     parts = split (unfinished_in records) (txn_of e) v (ap (lookup (is_at (nat_cmp (txn_of e)))) (sym is.are) ∙ found)
 
     closed_there : (new : BTreeMap ℕ Left) → is_closing e.rec ≡ true → new.entries ≡ remove_entry (is_at (nat_cmp (txn_of e))) left.entries → AreLeft (records ++ e ∷ []) new
-    closed_there new closing taken = record {
-      are = taken ∙ ap (remove_entry (is_at (nat_cmp (txn_of e)))) is.are ∙ parts.removed
-          ∙ ap (map entry_of) (sym (unfinished_closed from to records e parts.front parts.x parts.back order closing parts.is parts.own));
-    }
+    closed_there new closing taken = grind (arith, common_steps, parts, unfinished_closed)
 
     pub left_few : v.remaining ≤ length records
-    left_few =
-        let few = remaining_few records parts.front parts.x parts.back parts.is in
-        let same = ap (λ (x : Left). x.remaining) parts.read in
-        omega (arith, few, same)
+    left_few = grind (arith, common_steps, remaining_few, parts)
 
     pub left_more : (new : BTreeMap ℕ Left) → is_begin e.rec ≡ false → is_closing e.rec ≡ false →
         new.entries ≡ set_value (is_at (nat_cmp (txn_of e))) left.entries (record { last = e.lsn; remaining = remaining_by v.remaining e.rec }) → AreLeft (records ++ e ∷ []) new
@@ -240,10 +163,7 @@ module _ (rest new all : List (ℕ × Left)) (e : ℕ × Left) (active : List Pa
       ∙ (λ i. get_or_from_slice_get active place a a there i ∷ drop (sym (add-one place) i) active)
 
   pub named_more : pair_of e ≡ a → (map pair_of new ≡ drop (place + 1) active) ↔ (map pair_of all ≡ active)
-  named_more named = (
-    λ later. same.0 (ap (map pair_of) is ∙ (λ i. named i ∷ later i) ∙ sym dropped),
-    λ whole. ap (drop 1) (sym (ap (map pair_of) is) ∙ same.1 whole ∙ dropped),
-  )
+  named_more named = grind (arith, common_steps, dropped)
 
   pub named_not : (pair_of e ≡ a → ⊥) → map pair_of all ≡ active → ⊥
   named_not other whole = other (ap (λ (l : List Pair). get_or l 0 a) (sym (ap (map pair_of) is) ∙ same.1 whole ∙ dropped))
@@ -254,9 +174,7 @@ pub early_least : (redo : ℕ) (records : List Entry) → length (before_block r
 early_least redo records = passed_few (λ x. nat_lt x.lsn (512 * redo)) records
 
 pub early_more : (redo : ℕ) (records : List Entry) (e : Entry) → e.lsn < 512 * redo → before_block redo (records ++ e ∷ []) ≡ before_block redo records ++ e ∷ []
-early_more redo records e less =
-    filter-append (λ x. nat_lt x.lsn (512 * redo)) records (e ∷ [])
-    ∙ ap (λ (b : Bool). before_block redo records ++ cond b (e ∷ []) []) (lt-ltb e.lsn (512 * redo) less)
+early_more redo records e less = grind (arith, common_steps, filter-append, nat_lt, lt-ltb)
 
 -- What undoing makes, and what a master names.
 

@@ -1,21 +1,10 @@
 -- The numbers of the commits, record by record.
-use Rattle.std.proofs.Common.{◌≡◌, ◌⊎◌, inl, inr, ℕ, ◌+◌, ◌-◌, ◌*◌, ◌/◌, ◌<◌, ◌≤◌, Bool, true, false, true≢false, List, [], ◌∷◌, ◌++◌, length, filter, get_or, refl, sym, ap, ◌∙◌, arith}
-use Rattle.std.specs.Prelude.{Option, Some, None, nat_lt, nat_le, not, if◌then◌else◌}
-use Rattle.std.specs.List.{range_with_len, cons_option}
-use Rattle.std.proofs.lemmas.Bool.{cases_lt, cases_eq}
-use Rattle.std.proofs.lemmas.Bool.Decides.{nat_tests}
-use Rattle.std.proofs.lemmas.List.{length-append, append-nil}
-use Rattle.std.proofs.lemmas.List.Elements.{filter-append, filter_map-append}
+use Rattle.std.proofs.lemmas.Grind.{common_steps}
+use Rattle.log_judge.proofs.Names.{◌≡◌, ◌⊎◌, inl, inr, ℕ, ◌+◌, ◌*◌, ◌/◌, ◌≤◌, Bool, true, false, true≢false, List, [], ◌∷◌, ◌++◌, length, get_or, refl, sym, ap, ◌∙◌, arith, get_or-append_seam, cases_lt, cases_eq, nat_tests, length-append, append-nil, filter-append, filter_map-append, range_with_len, cons_option, nat_le, not, if◌then◌else◌, Heard, Counts, Fit, Numbers, Entry, LogicalImage, AreNumbered, commit_count, commit_number, commit_number_by, commit_numbers, before_block, from_block, LogRecord, Begin, Update, Clr, Commit, End, range_push}
+use Rattle.std.proofs.Common.{filter}
+use Rattle.std.specs.Prelude.{Option, Some, None, nat_lt}
 use Rattle.std.proofs.lemmas.List.FromFn.{get_or-range_with_len, length-range_with_len}
 use Rattle.std.proofs.Math.ListN.{get_or-append}
-use Rattle.std.proofs.Math.Seq.{get_or-append_seam}
-use Rattle.std_lemmas.proofs.Lists.{range_push}
-use Rattle.log_records.specs.declared.log_record.LogRecord.{LogRecord}
-use Rattle.log_records.specs.declared.log_record.LogRecord.TheVariants.{Begin, Update, Clr, Commit, End}
-use Rattle.log_records.specs.Log.{Entry}
-use Rattle.log_records.specs.Sound.{LogicalImage, AreNumbered, commit_count, commit_number, commit_number_by, commit_numbers, before_block, from_block}
-use Rattle.log_judge.specs.declared.commits.Numbers.{Numbers}
-use Rattle.log_judge.specs.Counting.{Heard, Counts, Fit}
 
 -- a Commit's number, or none
 abbrev listed : Option ℕ → List ℕ
@@ -35,24 +24,14 @@ all_numbers records lsn rec = filter_map-append commit_number records (record { 
 -- those that pass a test
 passed : (p : Entry → Bool) (records : List Entry) (lsn : ℕ) (rec : LogRecord) (b : Bool) → p (record { lsn = lsn; rec = rec }) ≡ b →
     commit_numbers (filter p (records ++ record { lsn = lsn; rec = rec } ∷ [])) ≡ commit_numbers (filter p records) ++ (if b then listed (commit_number_by rec) else [])
-passed p records lsn rec b is =
-    let e : Entry = record { lsn = lsn; rec = rec } in
-    ap commit_numbers (filter-append p records (e ∷ []))
-    ∙ filter_map-append commit_number (filter p records) (filter p (e ∷ []))
-    ∙ ap (λ (l : List ℕ). commit_numbers (filter p records) ++ l) (ap (λ (t : Bool). commit_numbers (if t then e ∷ [] else [])) is ∙ by_cases b)
-  where
-    by_cases : (t : Bool) → commit_numbers (if t then record { lsn = lsn; rec = rec } ∷ [] else []) ≡ (if t then listed (commit_number_by rec) else [])
-    by_cases true = one lsn rec
-    by_cases false = refl
+passed p records lsn rec b is = grind (arith, common_steps, filter-append, filter_map-append, one)
 
 nothing : (b : Bool) (o : Option ℕ) → o ≡ None → (if b then listed o else []) ≡ []
 nothing true o none = ap listed none
 nothing false o none = refl
 
 still : (p : Entry → Bool) (records : List Entry) (lsn : ℕ) (rec : LogRecord) → commit_number_by rec ≡ None → commit_numbers (filter p (records ++ record { lsn = lsn; rec = rec } ∷ [])) ≡ commit_numbers (filter p records)
-still p records lsn rec none =
-    let b : Bool = p (record { lsn = lsn; rec = rec }) in
-    passed p records lsn rec b refl ∙ ap (λ (l : List ℕ). commit_numbers (filter p records) ++ l) (nothing b (commit_number_by rec) none) ∙ append-nil (commit_numbers (filter p records))
+still p records lsn rec none = grind (arith, common_steps, passed, nothing, append-nil)
 
 -- there are no more numbers than records
 pub heard_few : (redo : ℕ) (n : Numbers) (records : List Entry) → Heard redo n records → n.early + n.late ≤ length records
@@ -74,11 +53,7 @@ heard_few redo n records heard =
 
 -- a record that is no Commit
 pub heard_other : (redo : ℕ) (n : Numbers) (records : List Entry) (lsn : ℕ) (rec : LogRecord) → commit_number_by rec ≡ None → Heard redo n records → Heard redo n (records ++ record { lsn = lsn; rec = rec } ∷ [])
-heard_other redo n records lsn rec none heard = record {
-  early = heard.early ∙ ap length (sym (still (λ e. nat_lt e.lsn (512 * redo)) records lsn rec none));
-  late = heard.late ∙ ap length (sym (still (λ e. nat_le (512 * redo) e.lsn) records lsn rec none));
-  run_on = all_numbers records lsn rec ∙ ap (λ (o : Option ℕ). commit_numbers records ++ listed o) none ∙ append-nil (commit_numbers records) ∙ heard.run_on;
-}
+heard_other redo n records lsn rec none heard = grind (arith, common_steps, still, all_numbers, append-nil)
 
 pub not_commit : (rec : LogRecord) → ((txn number : ℕ) → rec ≡ Commit txn number → ⊥) → commit_number_by rec ≡ None
 not_commit Begin other = refl
@@ -107,17 +82,11 @@ uncounted false false number is = absurd (true≢false (sym is))
 
 -- a record stands before a place, or from it on
 one_side : (lsn k : ℕ) → nat_le k lsn ≡ not (nat_lt lsn k)
-one_side lsn k = elim (cases_lt lsn k) [
-  | inl less ↦ let yes : nat_lt lsn k ≡ true = grind (arith, nat_tests) in let no : nat_le k lsn ≡ false = grind (arith, nat_tests) in no ∙ sym (ap not yes)
-  | inr other ↦ let no : nat_lt lsn k ≡ false = grind (arith, nat_tests) in let yes : nat_le k lsn ≡ true = grind (arith, nat_tests) in yes ∙ sym (ap not no)
-]
+one_side lsn k = grind (arith, common_steps, cases_lt, nat_tests)
 
 -- and that by its block
 pub early_block : (lsn redo : ℕ) → nat_lt (lsn / 512) redo ≡ nat_lt lsn (512 * redo)
-early_block lsn redo = elim (cases_lt lsn (512 * redo)) [
-  | inl less ↦ let below : lsn / 512 < redo = omega (arith, less) in grind (arith, nat_tests, below, less)
-  | inr other ↦ let above : redo ≤ lsn / 512 = omega (arith, other) in grind (arith, nat_tests, above, other)
-]
+early_block lsn redo = grind (arith, common_steps, cases_lt, nat_tests)
 
 -- one Commit more
 pub heard_commit : (redo : ℕ) (n new : Numbers) (records : List Entry) (lsn txn number : ℕ) → Heard redo n records → ((n.early + n.late ≡ 0) ⊎ (number ≡ n.first + (n.early + n.late))) → Counts n number (nat_lt lsn (512 * redo)) new →
@@ -185,25 +154,11 @@ heard_wrong redo n records rest lsn txn number a m heard off all =
 -- at the end
 
 pub numbered : (p : LogicalImage) (n : Numbers) → Heard p.master.redo n p.log → Fit n.first n.early n.late p.master.commits p.hi → AreNumbered p
-numbered p n heard fit =
-    let k : ℕ = n.early + n.late in
-    let before : ℕ = length (commit_numbers (before_block p.master.redo p.log)) in
-    let early = heard.early in
-    let late = heard.late in
-    let room = fit.room in
-    let size : length (commit_numbers p.log) ≡ k = ap length heard.run_on ∙ length-range_with_len n.first k in
-    elim fit.run_on [
-      | inl none ↦ record {
-        before_redo = omega (arith, early, none);
-        run_on = heard.run_on ∙ ap (range_with_len n.first) none ∙ ap (range_with_len (p.master.commits + 1 - before)) (sym (size ∙ none));
-        fit = omega (arith, late, room);
-      }
-      | inr some ↦ record {
-        before_redo = omega (arith, early, some);
-        run_on = heard.run_on ∙ ap (λ (a : ℕ). range_with_len a k) (first_is some) ∙ ap (range_with_len (p.master.commits + 1 - before)) (sym size);
-        fit = omega (arith, late, room);
-      }
-    ]
-  where
-    first_is : n.first + n.early ≡ p.master.commits + 1 → n.first ≡ p.master.commits + 1 - length (commit_numbers (before_block p.master.redo p.log))
-    first_is some = let early = heard.early in omega (arith, early, some)
+numbered p n heard fit = grind (arith, common_steps, length-range_with_len)
+
+pub fits : (p : LogicalImage) (n : Numbers) → Heard p.master.redo n p.log → AreNumbered p → Fit n.first n.early n.late p.master.commits p.hi
+fits p n heard are = grind (arith, common_steps, length-range_with_len, get_or-range_with_len, get_or)
+
+-- and so many were made
+pub counted_all : (p : LogicalImage) (n : Numbers) → Heard p.master.redo n p.log → p.master.commits + n.late ≡ commit_count p
+counted_all p n heard = ap (λ (k : ℕ). p.master.commits + k) heard.late

@@ -1,96 +1,33 @@
 -- Which transactions are open after one record more.
-use Rattle.std.proofs.Common.{◌≡◌, ℕ, ◌*◌, Bool, true, false, true≢false, not, ◌&&◌, ◌||◌, cond, List, [], ◌∷◌, ◌++◌, refl, sym, ap, ◌∙◌}
-use Rattle.std.specs.Prelude.{map, nat_le, ◌==◌}
-use Rattle.std.specs.List.{list_any}
-use Rattle.std.proofs.lemmas.List.Elements.{filter-append}
-use Rattle.std.proofs.lemmas.List.Folds.{list_any-append}
-use Rattle.std.proofs.lemmas.Bool.{and_right, eqb-true}
-use Rattle.std_lemmas.proofs.Bools.{or_without_last, or_without, or_assoc}
-use Rattle.log_records.specs.declared.log_record.LogRecord.{LogRecord}
-use Rattle.log_records.specs.declared.log_record.LogRecord.TheVariants.{Begin, Update, Clr, Commit, End}
-use Rattle.log_records.specs.Log.{Entry, txn_of, is_of, is_closing, is_closed}
-use Rattle.log_records.specs.Unfinished.{is_begin}
-use Rattle.log_records.specs.Sound.{Active, Master, is_known, from_block}
-use Rattle.log_laws.specs.Follow.{IsFresh}
-use Rattle.log_laws.proofs.Values.{closed_push}
-use Rattle.log_laws.proofs.Appends.{fresh_open}
-use Rattle.checkpoint.specs.declared.pairs.Pair.{Pair}
-use Rattle.lsn_set.specs.Held.{has}
+use Rattle.std.proofs.lemmas.Grind.{common_steps}
+use Rattle.log_judge.proofs.Names.{arith, ◌≡◌, ℕ, ◌*◌, Bool, true, false, true≢false, ◌&&◌, ◌||◌, cond, List, [], ◌∷◌, ◌++◌, refl, sym, ap, ◌∙◌, and_right, eqb-true, filter-append, list_any-append, list_any, nat_le, Pair, AreOpen, MayStand, fresh_open, InTurn-weaker, InTurn-all, InTurn-right, closed_push, IsFresh, Entry, txn_of, is_closing, Active, Master, LogicalImage, InTurn, is_known, from_block, is_begin, LogRecord, Begin, Update, Clr, Commit, End, has, all_right, or_without_last, or_without, or_assoc}
+use Rattle.std.specs.Prelude.{map, ◌==◌}
 use Rattle.lsn_set.specs.declared.lsn_set.LsnSet.{LsnSet}
-use Rattle.log_judge.specs.Opening.{AreOpen}
 
 -- Which transactions are known.
 
 passes_one : {X : Type 0} (p : X → Bool) (b : Bool) (x : X) → list_any p (cond b (x ∷ []) []) ≡ (b && p x)
-passes_one p true x = by (p x)
-  where
-    by : (q : Bool) → (q || false) ≡ q
-    by true = refl
-    by false = refl
-passes_one p false x = refl
+passes_one p true x = grind (arith, common_steps)
+passes_one p false x = grind (arith, common_steps)
 
 abbrev is_new : ℕ → Entry → ℕ → Bool
 is_new redo e t = nat_le (512 * redo) e.lsn && (is_begin e.rec && (e.lsn == t))
 
 known_push : (active : List Active) (redo : ℕ) (records : List Entry) (e : Entry) (t : ℕ) →
     is_known active (from_block redo (records ++ e ∷ [])) t ≡ (is_known active (from_block redo records) t || is_new redo e t)
-known_push active redo records e t =
-    let p : Entry → Bool = λ x. is_begin x.rec && (x.lsn == t) in
-    let late : Bool = nat_le (512 * redo) e.lsn in
-    let named : Bool = list_any (λ (a : Active). a.begin == t) active in
-    ap (λ (l : List Entry). named || list_any p l) (filter-append (λ x. nat_le (512 * redo) x.lsn) records (e ∷ []))
-    ∙ ap (λ (b : Bool). named || b) (list_any-append p (from_block redo records) (cond late (e ∷ []) []) ∙ ap (λ (b : Bool). list_any p (from_block redo records) || b) (passes_one p late e))
-    ∙ sym (or_assoc named (list_any p (from_block redo records)) (is_new redo e t))
+known_push active redo records e t = grind (arith, common_steps, filter-append, list_any-append, passes_one, or_assoc)
 
 -- Which are open.
 
 -- a transaction begins from the redo block on
 pub open_more : (m : Master) (records : List Entry) (e : Entry) (old new : LsnSet) → is_closing e.rec ≡ false → is_begin e.rec ≡ true → nat_le (512 * m.redo) e.lsn ≡ true → IsFresh e.lsn records →
     ((t : ℕ) → has new t ≡ cond (e.lsn == t) true (has old t)) → AreOpen m records old → AreOpen m (records ++ e ∷ []) new
-open_more m records e old new goes_on begins late fresh updates is = record {
-  are = λ t.
-      let k : Bool = is_known m.active (from_block m.redo records) t in
-      let begun : is_new m.redo e t ≡ (e.lsn == t) = (λ i. late i && (begins i && (e.lsn == t))) in
-      let known = known_push m.active m.redo records e t ∙ ap (λ (b : Bool). k || b) begun in
-      let closed = closed_push records e t ∙ or_without_last (is_closed records t) (is_of t e && is_closing e.rec) (ap (λ (b : Bool). is_of t e && b) goes_on ∙ and_right (is_of t e) false refl) in
-      updates t
-      ∙ ap (λ (b : Bool). cond (e.lsn == t) true b) (is.are t)
-      ∙ by k (is_closed records t) (e.lsn == t) (λ same. ap (is_closed records) (sym (eqb-true e.lsn t same)) ∙ fresh_open e.lsn records fresh)
-      ∙ sym (λ i. known i && not (closed i));
-}
-  where
-    by : (k c q : Bool) → (q ≡ true → c ≡ false) → cond q true (k && not c) ≡ ((k || q) && not c)
-    by true true true h = absurd (true≢false (h refl))
-    by true true false h = refl
-    by true false true h = refl
-    by true false false h = refl
-    by false true true h = absurd (true≢false (h refl))
-    by false true false h = refl
-    by false false true h = refl
-    by false false false h = refl
+open_more m records e old new goes_on begins late fresh updates is = grind (arith, common_steps, known_push, closed_push, or_without_last, and_right, eqb-true, fresh_open)
 
 -- a transaction is closed
 pub open_without : (m : Master) (records : List Entry) (e : Entry) (old new : LsnSet) → is_closing e.rec ≡ true → is_begin e.rec ≡ false →
     ((t : ℕ) → has new t ≡ cond (txn_of e == t) false (has old t)) → AreOpen m records old → AreOpen m (records ++ e ∷ []) new
-open_without m records e old new closing no_begin updates is = record {
-  are = λ t.
-      let k : Bool = is_known m.active (from_block m.redo records) t in
-      let begun : is_new m.redo e t ≡ false = ap (λ (b : Bool). nat_le (512 * m.redo) e.lsn && (b && (e.lsn == t))) no_begin ∙ and_right (nat_le (512 * m.redo) e.lsn) false refl in
-      let known = known_push m.active m.redo records e t ∙ or_without k (is_new m.redo e t) begun in
-      let closed = closed_push records e t ∙ ap (λ (b : Bool). is_closed records t || ((is_of t e && b) || false)) closing in
-      updates t
-      ∙ ap (λ (b : Bool). cond (txn_of e == t) false b) (is.are t)
-      ∙ by k (is_closed records t) (txn_of e == t)
-      ∙ sym (λ i. known i && not (closed i));
-}
-  where
-    by : (k c q : Bool) → cond q false (k && not c) ≡ (k && not (c || ((q && true) || false)))
-    by true true true = refl
-    by true true false = refl
-    by true false true = refl
-    by true false false = refl
-    by false c true = refl
-    by false c false = refl
+open_without m records e old new closing no_begin updates is = grind (arith, common_steps, and_right, known_push, or_without, closed_push)
 
 -- before the first record
 pub open_first : (m : Master) (pairs : List Pair) (txns : LsnSet) → m.active ≡ map (λ pair. record { begin = pair.begin; last = pair.last }) pairs →

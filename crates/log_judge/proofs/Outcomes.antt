@@ -1,5 +1,5 @@
 -- How calls end that want memory.
-use Rattle.std.specs.Prelude.{Result, Ok, Err}
+use Rattle.log_judge.proofs.Names.{Result, Ok, Err}
 use Rattle.site.specs.declared.outside.Stop.{Stop}
 use Rattle.log_judge.specs.Outcomes.{OrMemory}
 

@@ -1,12 +1,6 @@
 -- What is judged is a part of what sound images keep.
-use Rattle.std.proofs.Common.{ℕ, List, [], drop}
-use Rattle.std.specs.Prelude.{not}
-use Rattle.std.proofs.lemmas.Bool.{and_parts, not-true}
-use Rattle.log_records.specs.Log.{Entry, is_closed, entries_of}
-use Rattle.log_records.specs.Sound.{LogicalImage, IsSound, IsLoserChain, Continues, is_known}
-use Rattle.log_laws.proofs.Orders.{InTurn-weaker}
+use Rattle.log_judge.proofs.Names.{ℕ, List, [], drop, and_parts, not-true, not, Links, IsLinked, IsJudged, InTurn-weaker, Entry, is_closed, entries_of, LogicalImage, IsSound, IsLoserChain, Continues, is_known}
 use Rattle.log_laws.proofs.Listing.{listed_is_loser, begun_is_listed}
-use Rattle.log_judge.specs.Rules.{Links, IsLinked, IsJudged}
 
 linked_by : (t : ℕ) (entries : List Entry) → IsLoserChain t entries → IsLinked t entries
 linked_by t entries chain = record {

@@ -14,5 +14,5 @@ pub use chains::Chains;
 pub use commits::Numbers;
 pub use judge::{Judge, Sizes};
 pub use laws::sound_is_judged;
-pub use txns::OpenTxns;
+pub use txns::{OpenTxns, begins, closes, txn_of};
 pub use unfinished::{Left, LeftTxns};

@@ -1,19 +1,6 @@
 -- What analysis keeps of each unfinished transaction.
 use Rattle.std.proofs.lemmas.Grind.{common_steps}
-use Rattle.std.proofs.Common.{◌≡◌, ℕ, ◌+◌, ◌-◌, ◌≤◌, true, false, List, [], ◌∷◌, ◌++◌, length, map, drop, refl, sym, ap, subst, ◌∙◌, arith}
-use Rattle.std.specs.Prelude.{IsTrue}
-use Rattle.std.specs.List.{AllByRecursion, list_any}
-use Rattle.std.proofs.lemmas.List.{map-append}
-use Rattle.std.proofs.lemmas.Bool.{and_parts, or_from, eq-eqb, ne_eqb}
-use Rattle.std_lemmas.proofs.AllOf.{all_right, all_weaker, all_map}
-use Rattle.std_lemmas.proofs.Lists.{map_same}
-use Rattle.log_records.specs.declared.log_record.LogRecord.{LogRecord}
-use Rattle.log_records.specs.declared.log_record.LogRecord.TheVariants.{Begin, Clr}
-use Rattle.log_records.specs.Log.{Entry, txn_of, is_of, is_closing, is_loser}
-use Rattle.log_records.specs.Unfinished.{is_begin, losers, open_by, open_updates}
-use Rattle.log_records.specs.Sound.{IsInOrder, last_lsn}
-use Rattle.log_laws.specs.Follow.{IsFresh}
-use Rattle.log_laws.specs.Analysis.{Summary, unfinished_at, unfinished_in, remaining_by, after_record}
+use Rattle.log_laws.proofs.Names.{◌≡◌, ℕ, ◌+◌, ◌-◌, ◌≤◌, true, false, List, [], ◌∷◌, ◌++◌, length, map, drop, refl, sym, ap, subst, ◌∙◌, arith, and_parts, or_from, eq-eqb, ne_eqb, map-append, AllByRecursion, list_any, IsTrue, Summary, unfinished_at, unfinished_in, remaining_by, after_record, IsFresh, Entry, txn_of, is_of, is_closing, is_loser, IsInOrder, last_lsn, is_begin, losers, open_by, open_updates, LogRecord, Begin, all_right, all_weaker, all_map, map_same}
 use Rattle.log_laws.proofs.Values.{with}
 use Rattle.log_laws.proofs.Parts.{are_losers}
 use Rattle.log_laws.proofs.Appends.{fresh_entries}
@@ -27,12 +14,10 @@ at_other : (log : List Entry) (e : Entry) (t : ℕ) → is_of t e ≡ false → 
 at_other log e t h = grind (arith, common_steps)
 
 less_one : (us : List Entry) → length (drop 1 us) ≡ length us - 1
-less_one [] = refl
-less_one (u ∷ us) = omega arith
+less_one x0 = grind (arith, common_steps)
 
 remaining_is : (us : List Entry) (e : Entry) (rec : LogRecord) → length (open_by us e rec) ≡ remaining_by (length us) rec
-remaining_is us e (Clr txn prev undo_next page slot after) = less_one us
-remaining_is us e _ = grind arith
+remaining_is us e x2 = grind (arith, common_steps, less_one)
 
 pub at_own : (log : List Entry) (e : Entry) (t : ℕ) → is_of t e ≡ true → unfinished_at (with log e) t ≡ after_record (unfinished_at log t) e
 at_own log e t h = grind (arith, last_more, left_push, remaining_is)

@@ -1,19 +1,6 @@
 -- Which records may stand behind a log.
 use Rattle.std.proofs.lemmas.Grind.{common_steps}
-use Rattle.std.proofs.Common.{◌≡◌, ℕ, ◌+◌, ◌*◌, ◌/◌, ◌<◌, Bool, true, false, cond, List, [], ◌∷◌, ◌++◌, length, Some, refl, sym, ap, subst, ◌∙◌, arith}
-use Rattle.std.specs.Prelude.{filter, filter_map, ◌==◌}
-use Rattle.std.specs.List.{AllByRecursion, list_any}
-use Rattle.std.proofs.lemmas.List.Elements.{filter-append}
-use Rattle.std.proofs.lemmas.Bool.{or_left, or_right, eq-eqb, eqb-true}
-use Rattle.std.proofs.lemmas.Option.{same_Some}
-use Rattle.std_lemmas.proofs.AllOf.{all_weaker}
-use Rattle.record_model.specs.State.{Content, Write}
-use Rattle.log_records.specs.declared.log_record.LogRecord.TheVariants.{Begin, Update, Clr, Commit, End}
-use Rattle.log_records.specs.Log.{Entry, Version, txn_of, is_of, is_on, is_number, number_of, is_closing, is_closed, entries_of, last_on, shown}
-use Rattle.log_records.specs.Unfinished.{left_open}
-use Rattle.log_records.specs.Room.{HasOpenRoom}
-use Rattle.log_records.specs.Sound.{Master, IsOpen, IsLoserChain, Undoes, Continues, Compensates, HoldsOff, ShowsLast, last_lsn}
-use Rattle.log_laws.specs.Follow.{Follows, CanBeUndone, IsUndoable, IsUndone, IsFresh, IsFreeFor, has_written, write_of}
+use Rattle.log_laws.proofs.Names.{◌≡◌, ℕ, ◌+◌, ◌*◌, ◌/◌, ◌<◌, Bool, true, false, cond, List, [], ◌∷◌, ◌++◌, length, Some, refl, sym, ap, subst, ◌∙◌, arith, or_left, or_right, eq-eqb, eqb-true, filter-append, same_Some, AllByRecursion, list_any, filter, filter_map, ◌==◌, Follows, CanBeUndone, IsUndoable, IsUndone, IsFresh, IsFreeFor, has_written, write_of, Entry, Version, txn_of, is_of, is_on, is_number, number_of, is_closing, is_closed, entries_of, last_on, shown, HasOpenRoom, Master, IsOpen, IsLoserChain, Undoes, Continues, Compensates, HoldsOff, ShowsLast, last_lsn, left_open, Begin, Update, Clr, Commit, End, Content, Write, all_weaker}
 use Rattle.log_laws.proofs.Values.{with, shown_begins}
 use Rattle.log_laws.proofs.Orders.{filter_none, InTurn-append}
 

@@ -1,11 +1,5 @@
 -- The records of a block, read one after the other.
-use Rattle.log_records.proofs.Blocks.{some_octet, spelled_next}
-use Rattle.std.proofs.Common.{◌≡◌, ℕ, ◌+◌, ◌*◌, ◌≤◌, ◌<◌, List, [], ◌∷◌, ◌++◌, length, drop, replicate, ◌-◌, refl, sym, ap, subst, ◌∙◌, append_assoc, arith}
-use Rattle.std.specs.Prelude.{flat_map}
-use Rattle.std.specs.List.{AllByRecursion}
-use Rattle.std.proofs.lemmas.List.{length-append, append-nil, drop-drop, drop_at}
-use Rattle.log_records.specs.declared.log_record.LogRecord.{LogRecord}
-use Rattle.log_records.specs.Log.{Entry, entries_from}
+use Rattle.log_laws.proofs.Names.{◌≡◌, ℕ, ◌+◌, ◌*◌, ◌≤◌, ◌<◌, List, [], ◌∷◌, ◌++◌, length, drop, replicate, ◌-◌, refl, sym, ap, subst, ◌∙◌, append_assoc, arith, length-append, append-nil, drop-drop, drop_at, AllByRecursion, flat_map, some_octet, spelled_next, Entry, entries_from, LogRecord}
 use Rattle.log_records.specs.Laws.{OneSpelled}
 use Rattle.log_records.specs.Spelling.{spelling, block, block_len, used_by, HasForm, FitsFields, IsBlock, IsSpelledAt}
 

@@ -1,30 +1,14 @@
 -- What an unfinished transaction has on a record of the table.
 use Rattle.std.proofs.lemmas.Grind.{common_steps}
-use Rattle.std.proofs.Common.{◌≡◌, ℕ, ◌+◌, ◌⊎◌, ⊎_elim, Bool, true, false, true≢false, cond, ◌||◌, List, [], ◌∷◌, ◌++◌, length, drop, Some, None, refl, sym, ap, subst, ◌∙◌, append_assoc, arith}
-use Rattle.std.specs.Prelude.{Option, option_map, unwrap_or, find, IsTrue, ⊤}
-use Rattle.std.specs.List.{list_any}
-use Rattle.std.specs.Option.{option_or}
-use Rattle.std.proofs.lemmas.List.{append-nil}
-use Rattle.std.proofs.lemmas.List.Elements.{filter-append}
-use Rattle.std.proofs.lemmas.List.Folds.{list_any-append, find-append}
-use Rattle.std.proofs.lemmas.Bool.{or_left, or_right, or_cases, or_parts, eqb-true}
-use Rattle.std_lemmas.proofs.Options.{option_or_none}
-use Rattle.record_model.specs.State.{Content}
-use Rattle.log_records.specs.declared.log_record.LogRecord.{LogRecord}
-use Rattle.log_records.specs.declared.log_record.LogRecord.TheVariants.{Begin, Update, Clr}
-use Rattle.log_records.specs.Log.{Entry, is_on, number_of, is_update, updates_in, last_where, last_on, before_of, before_first, after_of}
-use Rattle.log_records.specs.Unfinished.{clrs_in, open_by, open_updates}
-use Rattle.log_records.specs.Sound.{Compensates, Undoes, Continues, IsLoserChain, InTurn, ShowsLast}
+use Rattle.log_laws.proofs.Names.{◌≡◌, ℕ, ◌+◌, ◌⊎◌, Bool, true, false, true≢false, cond, List, [], ◌∷◌, ◌++◌, length, drop, Some, None, refl, sym, ap, subst, ◌∙◌, append_assoc, arith, or_left, or_right, or_cases, or_parts, eqb-true, append-nil, filter-append, list_any-append, find-append, list_any, option_or, Option, option_map, unwrap_or, find, ⊤, one, last_where-append, Entry, is_on, number_of, updates_in, last_where, before_of, before_first, after_of, Compensates, Continues, IsLoserChain, InTurn, ShowsLast, clrs_in, open_by, open_updates, LogRecord, Begin, Content, option_or_none}
 use Rattle.log_laws.proofs.Lists.{or_is_none, last_any, any_find}
-use Rattle.log_records.proofs.Lists.{one, last_where-append}
 
 -- a CLR and its Update are on one record, and the CLR leaves what stood before
 same_number : (c u : LogRecord) → Compensates c u → number_of c ≡ number_of u
 same_number _ _ h = grind arith
 
 puts_back : (c u : LogRecord) → Compensates c u → after_of c ≡ before_of u
-puts_back (Clr t prev undo_next page slot after) (Update t' prev' page' slot' before after') h = h.2
-puts_back _ _ h = absurd h
+puts_back x0 x1 h = grind (arith, common_steps)
 
 abbrev pub with_entry : List Entry → Entry → List Entry
 with_entry entries e = entries ++ e ∷ []
@@ -47,11 +31,7 @@ here_updates number earlier e c on = grind (arith, common_steps, filter-append, 
 
 any_of_chain : (number : ℕ) (earlier entries : List Entry) → InTurn Continues earlier entries → list_any (is_on number) entries ≡ true → list_any (is_on number) (updates_in (earlier ++ entries)) ≡ true
 any_of_chain number earlier [] c h = absurd (grind arith)
-any_of_chain number earlier (e ∷ entries) c h =
-    ap (λ (l : List Entry). list_any (is_on number) (updates_in l)) (sym (append_assoc earlier (e ∷ []) entries))
-    ∙ ⊎_elim (λ a. any_updates (is_on number) (with_entry earlier e) entries (here_updates number earlier e c.0 a))
-    (λ b. any_of_chain number (with_entry earlier e) entries c.1 b)
-    (or_cases (is_on number e) (list_any (is_on number) entries) h)
+any_of_chain number earlier (e ∷ entries) c h = grind (arith, common_steps, append_assoc, any_updates, here_updates, or_cases, (any_of_chain number (with_entry earlier e) entries c.1))
 
 -- an unfinished transaction that has something on a record has an Update there
 pub update_of_chain : (number t : ℕ) (entries : List Entry) (x : Entry) → IsLoserChain t entries → last_where (is_on number) entries ≡ Some x → (u : Entry) × (find (is_on number) (updates_in entries) ≡ Some u)
@@ -89,10 +69,7 @@ RunsFrom number first (u ∷ us) = (is_on number u ≡ true → before_of u.rec 
 
 pub none_on : (number : ℕ) (first : Content) (us : List Entry) → list_any (is_on number) us ≡ false → (top_on number first us ≡ first) × RunsFrom number first us
 none_on number first [] none = (refl, tt)
-none_on number first (u ∷ us) none =
-    let parts = or_parts (is_on number u) (list_any (is_on number) us) none in
-    let rest = none_on number first us parts.1 in
-    (ap (λ (b : Bool). unwrap_or (option_map (λ (u : Entry). after_of u.rec) (cond b (Some u) (find (is_on number) us))) first) parts.0 ∙ rest.0, ((λ on. absurd (true≢false (sym on ∙ parts.0))), rest.1))
+none_on number first (u ∷ us) none = grind (arith, common_steps, or_parts, true≢false, (none_on number first us))
 
 -- The first Update on a number, the last record there, and the Updates that are left to be undone: these begin with what
 -- stood before the first one, and the last record leaves what they leave.
@@ -116,32 +93,10 @@ clr_step number x1 x2 e u us b on p h = grind (arith, or_parts, top_more)
 
 pub none_any : (test : Entry → Bool) (xs : List Entry) → last_where test xs ≡ None → list_any test xs ≡ false
 none_any test [] h = refl
-none_any test (x ∷ xs) h =
-    let parts = or_is_none (last_where test xs) (one test x) h in
-    by_test (test x) parts.1 ∙ none_any test xs parts.0
-  where
-    by_test : (b : Bool) → cond b (Some x) None ≡ None → (b || list_any test xs) ≡ list_any test xs
-    by_test true h = absurd (grind arith)
-    by_test false h = refl
+none_any test (x ∷ xs) h = grind (arith, common_steps, or_is_none, one, (none_any test xs))
 
 runs_more : (number : ℕ) (earlier : List Entry) (e : Entry) → Continues earlier e → RunsAt number earlier → RunsAt number (with_entry earlier e)
-runs_more number earlier e c h =
-    subst (λ (us : List Entry). Runs number (find (is_on number) (updates_in (with_entry earlier e))) (last_where (is_on number) (with_entry earlier e)) us) (sym (open_append [] earlier (e ∷ [])))
-    (by_rec e.lsn e.rec (open_updates [] earlier) c.undoes c.begins_there h)
-  where
-    first : List Entry → Option Entry
-    first entries = find (is_on number) (updates_in entries)
-
-    last : List Entry → Option Entry
-    last entries = last_where (is_on number) entries
-
-    by_rec : (lsn : ℕ) (rec : LogRecord) (us : List Entry) → Undoes us rec →
-        ((n : ℕ) → IsTrue (is_update rec) → number_of rec ≡ Some n → ShowsLast (before_of rec) (last_on earlier n)) →
-        Runs number (first earlier) (last earlier) us →
-        Runs number (first (earlier ++ record { lsn = lsn; rec = rec } ∷ [])) (last (earlier ++ record { lsn = lsn; rec = rec } ∷ [])) (open_by us (record { lsn = lsn; rec = rec }) rec)
-    by_rec lsn (Update txn prev page slot before after) us u begins k = grind (arith, common_steps, last_where-append, one, filter-append, find-append, update_step, eqb-true)
-    by_rec lsn (Clr txn prev undo_next page slot after) (v ∷ us) u begins k = grind (arith, common_steps, last_where-append, one, filter-append, find-append, clr_step, puts_back, same_number, option_or_none)
-    by_rec lsn _ _ u begins k = absurd u
+runs_more number earlier e c h = grind (arith, open_append, last_where-append, one, filter-append, find-append, update_step, eqb-true, clr_step, puts_back, same_number, option_or_none)
 
 runs_all : (number : ℕ) (earlier entries : List Entry) → InTurn Continues earlier entries → RunsAt number earlier → RunsAt number (earlier ++ entries)
 runs_all number earlier [] c h = subst (RunsAt number) (sym (append-nil earlier)) h

@@ -1,13 +1,6 @@
 -- What a block with no Commit, or with one, changes.
-use Rattle.std.proofs.Common.{◌≡◌, ℕ, ◌+◌, List, [], ◌∷◌, ◌++◌, length, refl, sym, ap, ◌∙◌, append_assoc, arith}
-use Rattle.std.proofs.lemmas.List.{append-nil, length-append}
-use Rattle.std.proofs.lemmas.List.Elements.{filter_map-append}
-use Rattle.record_model.specs.State.{Content, table_with}
-use Rattle.log_records.specs.declared.log_record.LogRecord.{LogRecord}
-use Rattle.log_records.specs.declared.log_record.LogRecord.TheVariants.{Commit}
-use Rattle.log_records.specs.Log.{Entry}
-use Rattle.log_records.specs.Sound.{LogicalImage, IsSound, Means, commit_number, commit_numbers}
-use Rattle.log_laws.specs.Follow.{GoesOn, sealed, next_entries, table_after, table_after_all, writes_in}
+use Rattle.std.proofs.lemmas.Grind.{common_steps}
+use Rattle.log_laws.proofs.Names.{◌≡◌, ℕ, ◌+◌, List, [], ◌∷◌, ◌++◌, length, refl, sym, ap, ◌∙◌, append_assoc, arith, append-nil, length-append, filter_map-append, GoesOn, sealed, next_entries, table_after, table_after_all, writes_in, Entry, LogicalImage, IsSound, Means, commit_number, commit_numbers, LogRecord, Commit, Content, table_with}
 use Rattle.log_laws.proofs.Seals.{sealed_means}
 
 no_commit : (table : List Content) (log : List Entry) (e : Entry) (entries : List Entry) → commit_numbers (e ∷ entries) ≡ [] → (commit_numbers entries ≡ []) × (table_after table log e.rec ≡ table)
@@ -15,9 +8,7 @@ no_commit table log e entries h = grind arith
 
 pub table_none : (table : List Content) (log entries : List Entry) → commit_numbers entries ≡ [] → table_after_all table log entries ≡ table
 table_none table log [] h = refl
-table_none table log (e ∷ entries) h =
-    let both = no_commit table log e entries h in
-    ap (λ (t : List Content). table_after_all t (log ++ e ∷ []) entries) both.1 ∙ table_none table (log ++ e ∷ []) entries both.0
+table_none table log (e ∷ entries) h = grind (arith, common_steps, no_commit, (table_none table (log ++ e ∷ []) entries))
 
 pub table_append : (table : List Content) (log entries more : List Entry) → table_after_all table log (entries ++ more) ≡ table_after_all (table_after_all table log entries) (log ++ entries) more
 table_append table log [] more = grind (arith, append-nil)

@@ -1,26 +1,9 @@
 -- The table behind one more record.
 use Rattle.std.proofs.lemmas.Grind.{common_steps}
-use Rattle.std.proofs.Common.{◌≡◌, ℕ, ◌*◌, true, false, cond, ◌&&◌, List, [], ◌∷◌, ◌++◌, length, map, Some, None, refl, sym, ap, ◌∙◌, arith}
-use Rattle.std.specs.Prelude.{Option, option_map, unwrap_or, ◌==◌}
-use Rattle.std.specs.List.{AllByRecursion, range_with_len}
-use Rattle.std.specs.Option.{option_or}
-use Rattle.std.proofs.lemmas.List.Folds.{list_any-append}
-use Rattle.std.proofs.lemmas.List.Elements.{filter-append}
-use Rattle.std.proofs.lemmas.List.{append-nil}
-use Rattle.std.proofs.lemmas.Bool.{and_from, and_parts, and_left, and_right, cases_Bool, eqb-true, eq-eqb, ne_eqb}
-use Rattle.std.proofs.lemmas.Option.{cond_some}
-use Rattle.std_lemmas.proofs.AllOf.{all_push, all_weaker}
-use Rattle.std_lemmas.proofs.Bools.{or_without_last}
-use Rattle.record_model.specs.State.{Content}
-use Rattle.log_records.specs.declared.log_record.LogRecord.{LogRecord}
-use Rattle.log_records.specs.declared.log_record.LogRecord.TheVariants.{Begin, Update, Clr, Commit, End}
-use Rattle.log_records.specs.Log.{Entry, Version, slot_at, txn_of, is_of, is_on, number_of, is_update, is_loser, is_closed, is_closing, entries_of, last_where, last_on, first_update, before_of, before_first, after_of, value_after, value_of, table_of}
-use Rattle.log_records.specs.Sound.{Master, Pairwise}
-use Rattle.log_laws.specs.Follow.{Follows, IsUndoable, IsUndone, table_after}
+use Rattle.log_laws.proofs.Names.{◌≡◌, ℕ, ◌*◌, true, false, cond, ◌&&◌, List, [], ◌∷◌, ◌++◌, length, map, Some, None, refl, sym, ap, ◌∙◌, arith, and_from, and_parts, and_left, and_right, cases_Bool, eqb-true, eq-eqb, ne_eqb, append-nil, filter-append, list_any-append, cond_some, AllByRecursion, range_with_len, option_or, Option, option_map, unwrap_or, ◌==◌, Follows, IsUndoable, IsUndone, table_after, one, Entry, Version, slot_at, txn_of, is_of, is_on, number_of, is_update, is_loser, is_closed, is_closing, entries_of, last_where, last_on, first_update, before_of, before_first, after_of, value_after, value_of, table_of, Master, Pairwise, LogRecord, Begin, Update, Clr, Commit, End, Content, all_push, all_weaker, or_without_last}
 use Rattle.log_laws.proofs.Tables.{table_written}
 use Rattle.log_laws.proofs.Chains.{undone_by_chain}
 use Rattle.log_laws.proofs.Values.{with, closed_same, closed_by, open_before, first_push, first_same, last_same, last_new, last_of_own, value_same, value_open, value_closed, is_loser_with, update_of, last_is_own, value_held, value_free, updates_there, is_number-Some}
-use Rattle.log_records.proofs.Lists.{one}
 
 module _ (m : Master) (pages : List Version) (log : List Entry) (undoable : IsUndoable log) where
   -- a record that closes nothing leaves the value where it isn't on it

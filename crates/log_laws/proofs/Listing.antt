@@ -1,23 +1,11 @@
 -- The list of the unfinished transactions.
 use Rattle.std.proofs.lemmas.Grind.{common_steps}
-use Rattle.std.proofs.Common.{◌≡◌, ℕ, ◌+◌, ◌≤◌, ⊎_elim, Bool, true, false, cond, not, ◌&&◌, ◌||◌, List, [], ◌∷◌, ◌++◌, map, drop, refl, ap, subst, ◌∙◌, arith}
-use Rattle.std.specs.Prelude.{filter, ◌==◌}
-use Rattle.std.specs.List.{AllByRecursion, list_any}
-use Rattle.std.proofs.lemmas.List.{append-nil}
-use Rattle.std.proofs.lemmas.Bool.{and_from, and_parts, and_right, eqb-true, eq-eqb, ne_eqb, or_cases, or_left, or_right}
-use Rattle.std_lemmas.proofs.AllOf.{all_right, all_weaker}
-use Rattle.std_lemmas.proofs.Lists.{filter_all}
-use Rattle.log_records.specs.declared.log_record.LogRecord.TheVariants.{Begin}
-use Rattle.log_records.specs.Log.{Entry, txn_of, is_of, is_closing, is_closed, is_loser, entries_of}
-use Rattle.log_records.specs.Unfinished.{is_begin, losers}
-use Rattle.log_records.specs.Sound.{IsInOrder}
-use Rattle.log_laws.specs.Follow.{IsUndoable, IsFresh}
+use Rattle.log_laws.proofs.Names.{◌≡◌, ℕ, ◌+◌, ◌≤◌, Bool, true, false, cond, not, ◌&&◌, ◌||◌, List, [], ◌∷◌, ◌++◌, map, drop, refl, ap, subst, ◌∙◌, arith, and_from, and_parts, and_right, eqb-true, eq-eqb, ne_eqb, or_cases, or_left, or_right, append-nil, AllByRecursion, list_any, filter, ◌==◌, IsUndoable, IsFresh, closing_is_no_begin, Entry, txn_of, is_of, is_closing, is_closed, is_loser, entries_of, IsInOrder, is_begin, losers, Begin, all_right, all_weaker, filter_all}
 use Rattle.log_laws.proofs.Lists.{any_find, all_find, find_passes}
 use Rattle.log_laws.proofs.Values.{with, closed_push, closed_same}
 use Rattle.log_laws.proofs.Parts.{are_losers}
 use Rattle.log_laws.proofs.Appends.{fresh_open}
 use Rattle.log_laws.proofs.Losers.{any_of_those, loser_is_not_closed}
-use Rattle.log_records.proofs.Entries.{closing_is_no_begin}
 
 abbrev pub is_listed : List Entry → Entry → Bool
 is_listed log x = is_begin x.rec && not (is_closed log x.lsn)
@@ -37,8 +25,7 @@ losers_stay log e b c = grind (arith, common_steps)
 -- A transaction is taken out.
 
 two_tests : (g a b : Bool) → (g && not (a || ((b && true) || false))) ≡ ((g && not a) && not b)
-two_tests true true b = grind arith
-two_tests _ _ _ = grind arith
+two_tests x0 x1 b = grind (arith, common_steps)
 
 listed_twice : (log : List Entry) (t : ℕ) (test : Entry → Bool) → ((x : Entry) → test x ≡ (is_listed log x && not (t == x.lsn))) → (xs : List Entry) →
     map (λ (x : Entry). x.lsn) (filter test xs) ≡ filter (λ s. not (t == s)) (map (λ (x : Entry). x.lsn) (filter (is_listed log) xs))
@@ -89,18 +76,7 @@ listed_is_loser log t h = grind (arith, any_find, eqb-true, find_passes, all_fin
 
 pub begun_is_listed : (log : List Entry) (t : ℕ) → is_closed log t ≡ false → (xs : List Entry) → list_any (λ x. is_begin x.rec && (x.lsn == t)) xs ≡ true → list_any (λ s. s == t) (map (λ (x : Entry). x.lsn) (filter (is_listed log) xs)) ≡ true
 begun_is_listed log t lives [] h = absurd (grind arith)
-begun_is_listed log t lives (x ∷ xs) h = ⊎_elim
-    (λ here.
-    let both = and_parts (is_begin x.rec) (x.lsn == t) here in
-    let listed = and_from (is_begin x.rec) (not (is_closed log x.lsn)) both.0 (ap (λ s. not (is_closed log s)) (eqb-true x.lsn t both.1) ∙ ap not lives) in
-    ap (λ b. list_any (λ s. s == t) (map (λ (y : Entry). y.lsn) (cond b (x ∷ filter (is_listed log) xs) (filter (is_listed log) xs)))) listed
-    ∙ or_left (x.lsn == t) (list_any (λ s. s == t) (map (λ (y : Entry). y.lsn) (filter (is_listed log) xs))) both.1)
-    (λ there. by_test (is_listed log x) (begun_is_listed log t lives xs there))
-    (or_cases (is_begin x.rec && (x.lsn == t)) (list_any (λ y. is_begin y.rec && (y.lsn == t)) xs) h)
-  where
-    by_test : (b : Bool) → list_any (λ s. s == t) (map (λ (y : Entry). y.lsn) (filter (is_listed log) xs)) ≡ true → list_any (λ s. s == t) (map (λ (y : Entry). y.lsn) (cond b (x ∷ filter (is_listed log) xs) (filter (is_listed log) xs))) ≡ true
-    by_test true k = or_right (x.lsn == t) (list_any (λ s. s == t) (map (λ (y : Entry). y.lsn) (filter (is_listed log) xs))) k
-    by_test false k = k
+begun_is_listed log t lives (x ∷ xs) h = grind (arith, common_steps, and_parts, and_from, eqb-true, or_left, or_cases, or_right, (begun_is_listed log t lives xs))
 
 pub loser_is_listed : (log : List Entry) (t : ℕ) → IsUndoable log → is_loser log t ≡ true → list_any (λ s. s == t) (losers log) ≡ true
 loser_is_listed log t undoable loser =

@@ -1,9 +1,5 @@
 -- The log block by block.
-use Rattle.std.proofs.Common.{◌≡◌, ℕ, zero, suc, ◌+◌, ◌*◌, ◌<◌, List, [], ◌∷◌, ◌++◌, length, take, drop, ap, append_assoc, arith}
-use Rattle.std.specs.Prelude.{slice_index_or}
-use Rattle.std.proofs.lemmas.List.{append-nil}
-use Rattle.log_records.specs.declared.log_record.LogRecord.{LogRecord}
-use Rattle.log_records.specs.Log.{entries_from, log_from}
+use Rattle.log_laws.proofs.Names.{◌≡◌, ℕ, zero, suc, ◌+◌, ◌*◌, ◌<◌, List, [], ◌∷◌, ◌++◌, length, take, drop, ap, append_assoc, arith, append-nil, slice_index_or, entries_from, log_from, LogRecord}
 
 abbrev pub block_of : List (List LogRecord) → ℕ → List LogRecord
 block_of blocks n = slice_index_or blocks n []

@@ -1,25 +1,6 @@
 -- Transactions at work, and transactions that are undone.
 use Rattle.std.proofs.lemmas.Grind.{common_steps}
-use Rattle.std.proofs.Common.{◌≡◌, ℕ, ◌+◌, ◌*◌, ◌/◌, ◌<◌, ◌≤◌, ⊎_elim, Bool, true, false, cond, not, ◌&&◌, ◌||◌, List, [], ◌∷◌, ◌++◌, length, map, drop, Some, refl, sym, ap, subst, ◌∙◌, arith}
-use Rattle.std.specs.Prelude.{filter, IsTrue, ◌==◌, nat_lt}
-use Rattle.std.specs.List.{AllByRecursion, list_any}
-use Rattle.std.proofs.lemmas.List.{append-nil}
-use Rattle.std.proofs.lemmas.List.Elements.{filter-append}
-use Rattle.std.proofs.lemmas.List.Folds.{list_any-append}
-use Rattle.std.proofs.lemmas.Bool.{and_from, and_parts, and_left, and_right, or_left, or_right, or_parts, or_cases, cases_Bool, eqb-true, eq-eqb, le-leb, le-ltb, not-true, not_from_false}
-use Rattle.std.proofs.lemmas.Option.{same_Some}
-use Rattle.std_lemmas.proofs.Lists.{any_map}
-use Rattle.std_lemmas.proofs.Bools.{or_without_last}
-use Rattle.std_lemmas.proofs.AllOf.{all_filter, all_weaker, all_passed, all_drop}
-use Rattle.record_model.specs.State.{Content, Write}
-use Rattle.log_records.specs.declared.log_record.LogRecord.{LogRecord}
-use Rattle.log_records.specs.declared.log_record.LogRecord.TheVariants.{Begin, Update, Clr}
-use Rattle.log_records.specs.Log.{Entry, Version, txn_of, is_of, is_on, is_update, is_closing, is_closed, is_loser, entries_of, updates_in, first_update, shown}
-use Rattle.log_records.specs.Unfinished.{is_begin, open_by, open_updates, left_open, losers, owed_by}
-use Rattle.log_records.specs.Room.{HasOpenRoom}
-use Rattle.log_records.specs.Sound.{Active, Master, LogicalImage, IsOpen, IsInTable, is_known, before_block, from_block, last_lsn, last_number}
-use Rattle.log_laws.specs.Follow.{Follows, CanBeUndone, IsActive, IsFresh, IsFreeFor, IsUndoable, next_entries}
-use Rattle.log_laws.specs.Tail.{Carries, whole, next_lsn}
+use Rattle.log_laws.proofs.Names.{◌≡◌, ℕ, ◌+◌, ◌*◌, ◌/◌, ◌<◌, ◌≤◌, ⊎_elim, Bool, true, false, cond, not, ◌&&◌, ◌||◌, List, [], ◌∷◌, ◌++◌, length, map, drop, Some, refl, sym, ap, subst, ◌∙◌, arith, and_from, and_parts, and_left, and_right, or_left, or_right, or_parts, or_cases, cases_Bool, eqb-true, eq-eqb, le-leb, le-ltb, not-true, not_from_false, append-nil, filter-append, list_any-append, same_Some, AllByRecursion, list_any, filter, IsTrue, ◌==◌, nat_lt, Follows, CanBeUndone, IsActive, IsFresh, IsFreeFor, IsUndoable, next_entries, Carries, whole, next_lsn, Entry, Version, txn_of, is_of, is_on, is_update, is_closing, is_closed, is_loser, entries_of, updates_in, first_update, shown, HasOpenRoom, Active, Master, LogicalImage, IsOpen, IsInTable, is_known, before_block, from_block, last_lsn, last_number, is_begin, open_by, open_updates, left_open, losers, owed_by, LogRecord, Begin, Update, Clr, Content, Write, all_filter, all_weaker, all_passed, all_drop, or_without_last, any_map}
 use Rattle.log_laws.proofs.Lists.{any_find, some_or_none}
 use Rattle.log_laws.proofs.Values.{with, closed_same, closed_by, last_is_own, update_of}
 use Rattle.log_laws.proofs.Chains.{any_open, none_any}
@@ -103,19 +84,7 @@ any_of_those test other (x ∷ xs) h = grind (arith, or_left, or_right, or_cases
 begin_is_listed : (closed : ℕ → Bool) (t : ℕ) (xs : List Entry) → closed t ≡ false → list_any (λ x. is_begin x.rec && (x.lsn == t)) xs ≡ true →
     list_any (λ s. s == t) (map (λ (x : Entry). x.lsn) (filter (λ x. is_begin x.rec && not (closed x.lsn)) xs)) ≡ true
 begin_is_listed closed t [] lives h = h
-begin_is_listed closed t (x ∷ xs) lives h =
-    ⊎_elim here (λ rest. by_test (is_begin x.rec && not (closed x.lsn)) (begin_is_listed closed t xs lives rest)) (or_cases (is_begin x.rec && (x.lsn == t)) (list_any (λ y. is_begin y.rec && (y.lsn == t)) xs) h)
-  where
-    listed : List Entry → Bool
-    listed ys = list_any (λ s. s == t) (map (λ (y : Entry). y.lsn) ys)
-
-    here : (is_begin x.rec && (x.lsn == t)) ≡ true → listed (filter (λ y. is_begin y.rec && not (closed y.lsn)) (x ∷ xs)) ≡ true
-    here both = grind (arith, and_parts, and_from, not_from_false, eqb-true, or_left)
-
-    by_test : (b : Bool) → listed (filter (λ y. is_begin y.rec && not (closed y.lsn)) xs) ≡ true →
-        listed (cond b (x ∷ filter (λ y. is_begin y.rec && not (closed y.lsn)) xs) (filter (λ y. is_begin y.rec && not (closed y.lsn)) xs)) ≡ true
-    by_test true k = or_right (x.lsn == t) (listed (filter (λ y. is_begin y.rec && not (closed y.lsn)) xs)) k
-    by_test false k = k
+begin_is_listed closed t (x ∷ xs) lives h = grind (arith, common_steps, or_cases, and_parts, and_from, not_from_false, eqb-true, or_left, or_right, (begin_is_listed closed t xs lives))
 
 -- An unfinished transaction is open: its Begin stands from the redo block on, or it was active there.
 module _ (p : LogicalImage) (tail : List LogRecord) (t : ℕ) (c : Carries p tail) (loser : is_loser (whole p tail) t ≡ true) where
@@ -144,8 +113,7 @@ module _ (p : LogicalImage) (tail : List LogRecord) (t : ℕ) (c : Carries p tai
   not_closed = loser_is_not_closed (whole p tail) t loser
 
   open_before : is_closed (before_block p.master.redo p.log) t ≡ false
-  open_before =
-      (or_parts (is_closed old t) (is_closed new t) (sym (list_any-append (λ e. is_of t e && is_closing e.rec) old new) ∙ ap (λ (l : List Entry). is_closed l t) (sym parts) ∙ not_closed)).0
+  open_before = grind (arith, or_parts, list_any-append, parts, not_closed)
 
   begun : (begins_there old || begins_there new) ≡ true
   begun =

@@ -1,21 +1,7 @@
 -- A new master keeps a logical image sound, and what it means.
 use Rattle.std.proofs.lemmas.Grind.{common_steps}
-use Rattle.std.proofs.Common.{◌≡◌, ℕ, ◌+◌, ◌-◌, ◌*◌, ◌/◌, ◌%◌, ◌<◌, ◌≤◌, ⊎_elim, Bool, true, false, cond, not, ◌&&◌, ◌||◌, List, [], ◌∷◌, ◌++◌, length, map, drop, Some, None, refl, sym, ap, subst, ◌∙◌, append_assoc, arith}
-use Rattle.std.specs.Prelude.{Option, filter, find, IsTrue, nat_lt, nat_le}
-use Rattle.std.specs.List.{AllByRecursion, list_any, range_with_len}
-use Rattle.std.specs.Option.{option_or}
-use Rattle.std.proofs.lemmas.List.{append-nil, length-append, drop_at}
-use Rattle.std.proofs.lemmas.List.Folds.{list_any-append}
-use Rattle.std.proofs.lemmas.List.Elements.{filter-append, filter_map-append}
-use Rattle.std.proofs.lemmas.Bool.{or_left, or_right, or_parts, and_from, and_parts, cases_Bool, eqb-true, leb-true, ltb-true, lt-ltb, le-leb, lt-leb}
+use Rattle.log_laws.proofs.Names.{◌≡◌, ℕ, ◌+◌, ◌-◌, ◌*◌, ◌/◌, ◌%◌, ◌<◌, ◌≤◌, ⊎_elim, Bool, true, false, cond, not, ◌&&◌, ◌||◌, List, [], ◌∷◌, ◌++◌, length, map, drop, Some, None, refl, sym, ap, subst, ◌∙◌, append_assoc, arith, or_left, or_right, or_parts, and_from, and_parts, cases_Bool, eqb-true, leb-true, ltb-true, lt-ltb, le-leb, lt-leb, append-nil, length-append, drop_at, filter-append, filter_map-append, list_any-append, AllByRecursion, list_any, range_with_len, option_or, Option, filter, find, IsTrue, nat_lt, nat_le, last_where-append, all_last, page_and_slot, Entry, Version, version_at, slot_at, txn_of, is_of, is_on, is_loser, is_closed, is_closing, entries_of, updates_in, last_where, last_on, first_update, number_of, before_first, after_of, value_after, value_of, shown, longest, open_length, put_back, LogicalImage, IsSound, Means, InTurn, IsOfOpenTransaction, IsOrderly, AreOrderly, IsLoserChain, Pairwise, HoldsOff, FitsLog, ShowsLast, IsInTable, HasRoomInPage, before_block, from_block, last_known, redone, active_in, commit_number, commit_numbers, commit_count, is_begin, losers, owed, Content, content_at, length_of, all_left, all_right, all_both, all_filter, all_weaker, all_passed, map_same, filter_all}
 use Rattle.std.proofs.lemmas.Nat.{mod_below}
-use Rattle.std_lemmas.proofs.AllOf.{all_left, all_right, all_both, all_filter, all_weaker, all_passed}
-use Rattle.std_lemmas.proofs.Lists.{map_same, filter_all}
-use Rattle.record_model.specs.State.{Content, content_at, length_of}
-use Rattle.log_records.specs.Log.{Entry, Version, version_at, slot_at, txn_of, is_of, is_on, is_loser, is_closed, is_closing, entries_of, updates_in, last_where, last_on, first_update, number_of, before_first, after_of, value_after, value_of, shown}
-use Rattle.log_records.specs.Unfinished.{is_begin, losers, owed}
-use Rattle.log_records.specs.Room.{longest, open_length, put_back}
-use Rattle.log_records.specs.Sound.{LogicalImage, IsSound, Means, InTurn, IsOfOpenTransaction, IsOrderly, AreOrderly, IsLoserChain, Pairwise, HoldsOff, FitsLog, ShowsLast, IsInTable, HasRoomInPage, before_block, from_block, last_known, redone, active_in, commit_number, commit_numbers, commit_count}
 use Rattle.log_laws.specs.NewImage.{with_master, MayCheckpoint}
 use Rattle.log_laws.proofs.Lists.{all_find, any_find, find_passes, last_passes}
 use Rattle.log_laws.proofs.Values.{closed_push, value_same, value_closed, last_of_own, is_loser_with, is_number-Some}
@@ -23,8 +9,6 @@ use Rattle.log_laws.proofs.Orders.{filter_none}
 use Rattle.log_laws.proofs.Parts.{begin_is, are_losers, commits_parts, all_made, filter_same, sum_same, pairwise_right, pairwise_within, InTurn-right, parts_at, all_below, in_order_filter, in_order_raise, last_of_both', drop_range}
 use Rattle.log_laws.proofs.Rooms.{flat_same, known_on, shows_itself, total_within}
 use Rattle.log_laws.proofs.Versions.{table_same}
-use Rattle.log_records.proofs.Values.{page_and_slot}
-use Rattle.log_records.proofs.Lists.{last_where-append, all_last}
 
 abbrev first_lsn : List Entry → ℕ
 first_lsn [] = 0
@@ -112,8 +96,7 @@ module _ (p : LogicalImage) (kept : ℕ) (sound : IsSound p) (may : MayCheckpoin
   -- The unfinished transactions are the same, with the same records.
 
   and_same : (a b c : Bool) → (a ≡ true → b ≡ c) → (a && b) ≡ (a && c)
-  and_same true b c h = h refl
-  and_same false b c h = refl
+  and_same x0 b c h = grind (arith, common_steps)
 
   losers_same : losers p.log ≡ losers (from_block kept p.log)
   losers_same =

@@ -1,14 +1,8 @@
 -- The Updates of a transaction that no CLR compensates, as CLR after CLR takes the last of them off.
 use Rattle.std.proofs.lemmas.Grind.{common_steps}
+use Rattle.log_laws.proofs.Names.{◌≡◌, ℕ, ◌+◌, ◌≤◌, ◌<◌, true, List, [], ◌∷◌, ◌++◌, arith, AllByRecursion, ⊤, Entry, txn_of, is_of, entries_of, IsInOrder, is_clr, open_by, open_updates, left_open, LogRecord, Clr}
 use Rattle.log_laws.proofs.Parts.{in_order_filter}
-use Rattle.std.proofs.Common.{◌≡◌, ℕ, ◌+◌, ◌≤◌, ◌<◌, true, List, [], ◌∷◌, ◌++◌, arith}
-use Rattle.std.specs.Prelude.{drop, ⊤}
-use Rattle.std.specs.List.{AllByRecursion}
-use Rattle.log_records.specs.declared.log_record.LogRecord.{LogRecord}
-use Rattle.log_records.specs.declared.log_record.LogRecord.TheVariants.{Clr}
-use Rattle.log_records.specs.Log.{Entry, txn_of, is_of, entries_of}
-use Rattle.log_records.specs.Unfinished.{is_clr, open_by, open_updates, left_open}
-use Rattle.log_records.specs.Sound.{IsInOrder}
+use Rattle.std.specs.Prelude.{drop}
 use Rattle.log_laws.proofs.Owing.{left_push}
 
 -- What a CLR takes off.
@@ -31,8 +25,7 @@ record AreBelow (high : ℕ) (updates : List Entry) : Type 0 where
   fall : Fall updates
 
 dropped : (high : ℕ) (updates : List Entry) → AreBelow high updates → AreBelow high (drop 1 updates)
-dropped high [] are = are
-dropped high (u ∷ updates) are = record { below = are.below.1; fall = are.fall.1 }
+dropped high x1 are = grind (arith, common_steps)
 
 opens_below : (updates : List Entry) (e : Entry) (rec : LogRecord) (from : ℕ) → from ≤ e.lsn → AreBelow from updates → AreBelow (e.lsn + 1) (open_by updates e rec)
 opens_below updates e (Clr txn prev undo_next page slot after) from less are = grind (arith, dropped, below_more)

@@ -1,18 +1,9 @@
 -- A sound log whose redo block is the first is orderly.
-use Rattle.std.proofs.Common.{◌≡◌, ℕ, ◌+◌, ◌*◌, ◌<◌, ◌≤◌, ⊎_elim, true, false, ◌&&◌, List, [], ◌∷◌, ◌++◌, not, sym, subst, arith}
-use Rattle.std.specs.Prelude.{filter, IsTrue, nat_lt, ◌==◌}
-use Rattle.std.specs.List.{AllByRecursion, list_any}
-use Rattle.std.proofs.lemmas.Bool.{and_parts, or_cases, cases_Bool, eqb-true, ne_eqb}
-use Rattle.std_lemmas.proofs.AllOf.{all_append, all_push, all_both, all_filter, all_weaker, all_map}
-use Rattle.log_records.specs.Log.{Entry, txn_of, is_closed, entries_of}
-use Rattle.log_records.specs.Unfinished.{is_begin, losers}
-use Rattle.log_records.specs.Sound.{Master, IsOpen, IsSound, LogicalImage, InTurn, IsInOrder, IsOrderly, AreOrderly, HaveBegunBefore, before_block, from_block, is_known, last_lsn}
-use Rattle.log_laws.specs.Follow.{Follows, IsFresh}
+use Rattle.log_laws.proofs.Names.{◌≡◌, ℕ, ◌+◌, ◌*◌, ◌<◌, ◌≤◌, ⊎_elim, true, false, ◌&&◌, List, [], ◌∷◌, ◌++◌, not, sym, subst, arith, ap, ◌∙◌, and_parts, or_cases, cases_Bool, eqb-true, ne_eqb, AllByRecursion, list_any, filter, IsTrue, nat_lt, ◌==◌, Follows, IsFresh, Entry, txn_of, is_closed, entries_of, Master, IsOpen, IsSound, LogicalImage, InTurn, IsInOrder, IsOrderly, AreOrderly, HaveBegunBefore, before_block, from_block, is_known, last_lsn, is_begin, losers, all_append, all_push, all_both, all_filter, all_weaker, all_map}
 use Rattle.log_laws.proofs.Lists.{all_find, any_find, find_passes}
 use Rattle.log_laws.proofs.Orders.{InTurn-all, InTurn-weaker, InTurn-append_all}
 use Rattle.log_laws.proofs.Parts.{begin_is, all_below}
 use Rattle.log_laws.proofs.Appends.{fresh_open}
-use Rattle.std.proofs.Common.{ap, ◌∙◌}
 
 -- a Begin among records that all come before an LSN does so too
 begun_before : (t to : ℕ) (entries : List Entry) → AllByRecursion (λ e. e.lsn < to) entries → list_any (λ e. is_begin e.rec && (e.lsn == t)) entries ≡ true → t < to

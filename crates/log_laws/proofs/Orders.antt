@@ -1,16 +1,8 @@
 -- Logs in order, and the parts of a log.
-use Rattle.std.proofs.Common.{◌≡◌, ℕ, ◌+◌, ◌≤◌, Bool, false, cond, List, [], ◌∷◌, ◌++◌, length, None, refl, sym, ap, subst, ◌∙◌, append_assoc, arith}
-use Rattle.std.specs.Prelude.{filter, flat_map}
-use Rattle.std.specs.List.{AllByRecursion}
-use Rattle.std.proofs.lemmas.List.{append-nil, length-append}
-pub use Rattle.std_lemmas.proofs.Lists.{filter_all}
-use Rattle.log_records.specs.declared.log_record.LogRecord.{LogRecord}
+use Rattle.log_laws.proofs.Names.{◌≡◌, ℕ, ◌+◌, ◌≤◌, Bool, false, cond, List, [], ◌∷◌, ◌++◌, length, None, refl, sym, ap, subst, ◌∙◌, append_assoc, arith, append-nil, length-append, AllByRecursion, filter, flat_map, some_octet, in_order_from, Entry, entries_from, last_where, InTurn, IsInOrder, LogRecord}
 use Rattle.log_records.specs.Spelling.{spelling}
-use Rattle.log_records.specs.Log.{Entry, entries_from, last_where}
-use Rattle.log_records.specs.Sound.{InTurn, IsInOrder}
 use Rattle.log_laws.proofs.Lists.{one_false}
-use Rattle.log_records.proofs.Blocks.{some_octet}
-use Rattle.log_records.proofs.Entries.{in_order_from}
+pub use Rattle.std_lemmas.proofs.Lists.{filter_all}
 
 pub in_order_to : (from : ℕ) (log : List Entry) (to to' : ℕ) → to ≤ to' → IsInOrder from log to → IsInOrder from log to'
 in_order_to from [] to to' l h = omega arith

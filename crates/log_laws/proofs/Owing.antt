@@ -1,25 +1,12 @@
 -- What undo may take, record by record.
 use Rattle.std.proofs.lemmas.Grind.{common_steps}
-use Rattle.std.proofs.Common.{◌≡◌, ℕ, ◌+◌, ◌<◌, Bool, true, false, cond, not, ◌&&◌, List, [], ◌∷◌, length, refl, sym, ap, subst, ◌∙◌, arith}
-use Rattle.std.specs.Prelude.{drop, sum_by, IsTrue, ◌==◌}
-use Rattle.std.specs.List.{AllByRecursion}
-use Rattle.std.proofs.lemmas.List.Elements.{filter-append}
-use Rattle.std.proofs.lemmas.Bool.{and_from, and_left, and_right, eqb-true, eq-eqb, ne_eqb}
-use Rattle.std.proofs.lemmas.List.Sums.{sum_by-cons, sum_by-append}
-use Rattle.std_lemmas.proofs.Sums.{sum_both, sum_made, sum_pointwise, sum_within, sum_zero}
-use Rattle.log_records.specs.declared.log_record.LogRecord.{LogRecord}
-use Rattle.log_records.specs.declared.log_record.LogRecord.TheVariants.{Begin, Update, Clr, Commit, End}
-use Rattle.log_records.specs.Log.{Entry, txn_of, is_of, is_update, is_closing, is_closed, entries_of}
-use Rattle.log_records.specs.Unfinished.{left_open, open_by, open_updates, is_begin, is_clr, owed, owed_by}
-use Rattle.log_records.specs.Sound.{IsLoserChain, Undoes, Continues}
+use Rattle.log_laws.proofs.Names.{◌≡◌, ℕ, ◌+◌, ◌<◌, Bool, true, false, cond, not, ◌&&◌, List, [], ◌∷◌, length, refl, sym, ap, subst, ◌∙◌, arith, and_from, and_left, and_right, eqb-true, eq-eqb, ne_eqb, filter-append, sum_by-cons, sum_by-append, AllByRecursion, sum_by, IsTrue, ◌==◌, IsFresh, Entry, txn_of, is_of, is_update, is_closing, is_closed, entries_of, is_loser, IsLoserChain, Undoes, Continues, left_open, open_by, open_updates, is_begin, is_clr, owed, owed_by, losers, LogRecord, Begin, Update, Clr, Commit, End, sum_both, sum_made, sum_pointwise, sum_within, sum_zero}
+use Rattle.std.specs.Prelude.{drop}
 use Rattle.log_laws.proofs.Chains.{open_append}
 use Rattle.log_laws.proofs.Values.{with, closed_same, closed_by}
 use Rattle.log_laws.proofs.Orders.{InTurn-all}
-use Rattle.log_laws.specs.Follow.{IsFresh}
 use Rattle.log_laws.proofs.Appends.{fresh_entries, fresh_open}
 use Rattle.log_laws.proofs.Parts.{are_losers}
-use Rattle.log_records.specs.Log.{is_loser}
-use Rattle.log_records.specs.Unfinished.{losers}
 
 -- An unfinished transaction has one Begin.
 

@@ -1,19 +1,7 @@
 -- Lists in two parts.
-use Rattle.std.proofs.Common.{◌≡◌, ℕ, zero, suc, ◌+◌, ◌-◌, ◌<◌, ◌≤◌, Bool, true, not, ◌&&◌, List, [], ◌∷◌, ◌++◌, length, map, drop, Some, refl, ap, subst, ◌∙◌, append_assoc, arith}
-use Rattle.std.specs.Prelude.{IsTrue, filter, fold, sum_by}
-use Rattle.std.specs.List.{AllByRecursion, list_any, range_with_len}
-use Rattle.std.proofs.lemmas.List.{append-nil, length-append}
-use Rattle.std.proofs.lemmas.List.Elements.{filter_map-append}
-use Rattle.std.proofs.lemmas.Bool.{and_from, and_parts, cases_lt, lt-ltb, le-ltb, le-leb, lt-leb, or_left, or_right, eq-eqb}
-use Rattle.std_lemmas.proofs.AllOf.{all_both, all_filter, all_weaker, all_passed, all_map}
-use Rattle.std_lemmas.proofs.Lists.{filter_all}
-use Rattle.log_records.specs.Log.{is_loser, is_closed, Entry, is_of, txn_of, last_where}
-use Rattle.log_records.specs.Unfinished.{is_begin, losers}
-use Rattle.log_records.specs.Sound.{commit_number, commit_numbers, InTurn, IsInOrder, Pairwise, before_block, from_block}
+use Rattle.log_laws.proofs.Names.{◌≡◌, ℕ, zero, suc, ◌+◌, ◌-◌, ◌<◌, ◌≤◌, Bool, true, not, ◌&&◌, List, [], ◌∷◌, ◌++◌, length, map, drop, Some, refl, ap, subst, ◌∙◌, append_assoc, arith, false, and_from, and_parts, cases_lt, lt-ltb, le-ltb, le-leb, lt-leb, or_left, or_right, eq-eqb, append-nil, length-append, filter_map-append, AllByRecursion, list_any, range_with_len, IsTrue, filter, fold, sum_by, in_order_from, is_loser, is_closed, Entry, is_of, txn_of, last_where, commit_number, commit_numbers, InTurn, IsInOrder, Pairwise, before_block, from_block, is_begin, losers, all_both, all_filter, all_weaker, all_passed, all_map, filter_all}
 use Rattle.log_laws.proofs.Lists.{last_of_both}
 use Rattle.log_laws.proofs.Orders.{all_from, filter_none}
-use Rattle.log_records.proofs.Entries.{in_order_from}
-use Rattle.std.proofs.Common.{false}
 
 -- what holds of what a function makes of those that pass
 pub all_made : {X Y : Type 0} (P : Y → Type 0) (f : X → Y) (test : X → Bool) (xs : List X) → AllByRecursion P (map f (filter test xs)) → AllByRecursion (λ x. test x ≡ true → P (f x)) xs

@@ -1,15 +1,7 @@
 -- No more Updates wait to be undone than undo owes blocks.
 use Rattle.std.proofs.lemmas.Grind.{common_steps}
-use Rattle.std.proofs.Common.{◌≡◌, ℕ, ◌+◌, ◌<◌, ◌≤◌, ◌==◌, Bool, true, false, cond, not, ◌&&◌, ◌||◌, List, [], ◌∷◌, length, refl, ap, ◌∙◌, arith}
-use Rattle.std.specs.Prelude.{sum_by, IsTrue}
-use Rattle.std.specs.List.{AllByRecursion, list_any}
-use Rattle.std.proofs.lemmas.Bool.{eqb-true, ne_eqb}
-use Rattle.std.proofs.lemmas.List.Sums.{length-filter, sum_by-cons}
-use Rattle.log_records.specs.Log.{Entry, entries_of, is_closed, is_loser, is_of, is_update, txn_of}
-use Rattle.log_records.specs.Sound.{IsInOrder, IsLoserChain}
-use Rattle.log_records.specs.Unfinished.{is_begin, left_open, owed, pending}
-use Rattle.std_lemmas.proofs.AllOf.{all_each}
-use Rattle.std_lemmas.proofs.Sums.{sum_both, sum_le, sum_made, sum_of_zeros, sum_swap}
+use Rattle.log_laws.proofs.Names.{◌≡◌, ℕ, ◌+◌, ◌<◌, ◌≤◌, Bool, true, false, cond, not, ◌&&◌, ◌||◌, List, [], ◌∷◌, length, refl, ap, ◌∙◌, arith, eqb-true, ne_eqb, length-filter, sum_by-cons, AllByRecursion, list_any, sum_by, IsTrue, Entry, entries_of, is_closed, is_loser, is_of, is_update, txn_of, IsInOrder, IsLoserChain, is_begin, left_open, owed, pending, all_each, sum_both, sum_le, sum_made, sum_of_zeros, sum_swap}
+use Rattle.std.proofs.Common.{◌==◌}
 use Rattle.log_laws.proofs.Owing.{begun_by, once}
 use Rattle.log_laws.proofs.Parts.{all_own}
 
@@ -20,10 +12,7 @@ at n e = cond (n == e.lsn) 1 0
 
 none_at : (n from : ℕ) (log : List Entry) (to : ℕ) → n < from → IsInOrder from log to → sum_by (at n) log ≡ 0
 none_at n from [] to below order = refl
-none_at n from (e ∷ log) to below order =
-    let first = order.0 in
-    let other : at n e ≡ 0 = ap (λ (b : Bool). cond b 1 0) (ne_eqb n e.lsn (λ same. omega (arith, same, first, below))) in
-    omega (arith, other, sum_by-cons (at n) e log, none_at n (e.lsn + 1) log to (omega (arith, first, below)) order.1)
+none_at n from (e ∷ log) to below order = grind (arith, common_steps, ne_eqb, sum_by-cons, (none_at n (e.lsn + 1) log to))
 
 one_at : (n from : ℕ) (log : List Entry) (to : ℕ) → IsInOrder from log to → sum_by (at n) log ≤ 1
 one_at n from [] to order = grind (arith, common_steps)

@@ -1,25 +1,12 @@
 -- All Updates that no CLR compensates, as one after the other is compensated.
 use Rattle.std.proofs.lemmas.Grind.{common_steps}
+use Rattle.log_laws.proofs.Names.{◌≡◌, ℕ, ◌+◌, ◌≤◌, ◌<◌, Bool, true, false, not, ◌&&◌, ◌||◌, List, [], ◌∷◌, ◌++◌, None, Some, true≢false, refl, sym, ap, ◌∙◌, arith, subst, eq-eqb, ne_eqb, eqb-true, reverse-append, filter-append, none-some, same_Some, AllByRecursion, list_any, option_or, if◌then◌else◌, filter, reverse, Entry, txn_of, is_of, is_update, is_closing, is_closed, last_where, IsInOrder, is_clr, open_by, left_open, pending, LogRecord, End}
 use Rattle.log_laws.proofs.Parts.{in_order_filter}
 use Rattle.std.proofs.Math.Bool.{and-false, and-true}
 use Rattle.log_laws.proofs.Orders.{filter_all}
-use Rattle.std.proofs.Common.{◌≡◌, ℕ, ◌+◌, ◌≤◌, ◌<◌, ◌==◌, Bool, true, false, not, ◌&&◌, ◌||◌, List, [], ◌∷◌, ◌++◌, None, Some, true≢false, refl, sym, ap, ◌∙◌, arith, append-nil}
-use Rattle.std.specs.Prelude.{if◌then◌else◌, filter, reverse}
-use Rattle.std.specs.List.{AllByRecursion, list_any}
-use Rattle.std.proofs.lemmas.Bool.{eq-eqb, ne_eqb, eqb-true}
-use Rattle.std.proofs.lemmas.Option.{none-some, same_Some}
-use Rattle.std.proofs.lemmas.List.{reverse-append}
-use Rattle.std.proofs.lemmas.List.Elements.{filter-append}
-use Rattle.log_records.specs.declared.log_record.LogRecord.{LogRecord}
-use Rattle.log_records.specs.declared.log_record.LogRecord.TheVariants.{Clr, End}
-use Rattle.log_records.specs.Log.{Entry, txn_of, is_of, is_update, is_closing, is_closed, last_where}
-use Rattle.log_records.specs.Unfinished.{is_clr, open_by, left_open, pending}
-use Rattle.log_records.specs.Sound.{IsInOrder}
+use Rattle.std.proofs.Common.{◌==◌, append-nil, Option}
 use Rattle.log_laws.proofs.Owing.{left_push}
 use Rattle.log_laws.proofs.OpenUpdates.{left_after_clr}
-use Rattle.std.proofs.Common.{Option}
-use Rattle.std.specs.Option.{option_or}
-use Rattle.std.proofs.Common.{subst}
 use Rattle.std.specs.Prelude.{drop}
 
 -- Lists.
@@ -80,20 +67,17 @@ waits_same records records' e closed left = grind arith
 
 -- the Update that is compensated waits no more
 taken_off : (any head : Bool) → (head ≡ true → any ≡ false) → any ≡ ((head || any) && not (head && true))
-taken_off any true none = none refl
-taken_off _ false none = grind arith
+taken_off any x1 none = grind (arith, common_steps)
 
 regroup : (a b x y : Bool) → (a && b && (x && y)) ≡ ((a && b && x) && y)
-regroup true true x y = refl
-regroup _ _ x y = refl
+regroup x0 x1 x y = grind (arith, common_steps)
 
 none_there : (n : ℕ) (xs : List Entry) → AllByRecursion (λ v. v.lsn < n) xs → list_any (λ v. v.lsn == n) xs ≡ false
 none_there n [] all = refl
 none_there n (x ∷ xs) all = grind (arith, ne_eqb, (none_there n xs all.1))
 
 pub not_closing : (rec : LogRecord) → is_clr rec ≡ true → (is_closing rec ≡ false) × (is_update rec ≡ false)
-not_closing (Clr txn prev undo_next page slot after) clr = (refl, refl)
-not_closing _ clr = absurd (true≢false (sym clr))
+not_closing x0 clr = grind (arith, common_steps, true≢false)
 
 module _ (records : List Entry) (c u : Entry) (rest : List Entry) (clr : is_clr c.rec ≡ true) (left : left_open records (txn_of c) ≡ u ∷ rest) (falls : AllByRecursion (λ v. v.lsn < u.lsn) rest) where
   abbrev gone : Entry → Bool

@@ -1,31 +1,15 @@
 -- Room in pages, as records are put behind a log.
 use Rattle.std.proofs.lemmas.Grind.{common_steps}
-use Rattle.std.proofs.Common.{◌≡◌, inl, inr, ℕ, suc, zero, ◌+◌, ◌-◌, ◌*◌, ◌/◌, ◌<◌, ◌≤◌, Bool, true, false, cond, ◌&&◌, List, [], ◌∷◌, ◌++◌, map, Some, None, refl, sym, ap, subst, ◌∙◌, append_assoc, append-nil, arith}
-use Rattle.std.specs.Option.{option_or}
-use Rattle.std.specs.Prelude.{Option, IsTrue, filter, flat_map, sum_by, ◌==◌, nat_le}
-use Rattle.std.specs.List.{AllByRecursion, range_with_len, list_any}
+use Rattle.log_laws.proofs.Names.{◌≡◌, inl, inr, ℕ, suc, zero, ◌+◌, ◌-◌, ◌*◌, ◌/◌, ◌<◌, ◌≤◌, Bool, true, false, cond, ◌&&◌, List, [], ◌∷◌, ◌++◌, map, refl, sym, ap, subst, ◌∙◌, append_assoc, arith, cases_Bool, cases_lt, and_from, and_parts, and_right, eqb-true, eq-eqb, le-leb, lt-leb, not_from_false, or_left, or_right, list_any-append, sum_by-cons, AllByRecursion, range_with_len, list_any, Option, IsTrue, filter, flat_map, sum_by, ◌==◌, Follows, IsUndoable, in_order_left, last_where-append, Entry, Version, txn_of, is_of, is_on, is_update, is_closing, is_closed, is_loser, entries_of, before_of, after_of, shown, version_at, slot_at, shown_by, last_on, longest, open_length, put_back, HasOpenRoom, Master, LogicalImage, InTurn, IsInOrder, IsLoserChain, Continues, ShowsLast, Undoes, HasRoomInPage, last_known, is_begin, losers, left_open, open_by, LogRecord, Clr, Content, length_of, page_room, all_append, all_drop, all_filter, all_left, all_map, all_push, all_right, all_weaker}
+use Rattle.std.proofs.Common.{append-nil}
 use Rattle.std.proofs.Math.Nat.{max-le, le-max_left, le-max_right}
-use Rattle.std.proofs.lemmas.List.Sums.{sum_by-cons}
-use Rattle.std.proofs.lemmas.Bool.{cases_Bool, cases_lt, and_from, and_parts, and_right, eqb-true, eq-eqb, le-leb, lt-leb, not_from_false, or_left, or_right}
-use Rattle.std.proofs.lemmas.List.Folds.{list_any-append}
-use Rattle.std_lemmas.proofs.AllOf.{all_append, all_drop, all_filter, all_left, all_map, all_push, all_right, all_weaker}
-use Rattle.record_model.specs.State.{Content, length_of, page_room}
-use Rattle.log_records.specs.declared.log_record.LogRecord.{LogRecord}
-use Rattle.log_records.specs.declared.log_record.LogRecord.TheVariants.{Clr}
-use Rattle.log_records.specs.Log.{Entry, Version, txn_of, is_of, is_on, is_update, is_closing, is_closed, is_loser, entries_of, before_of, after_of, shown, version_at}
-use Rattle.log_records.specs.Unfinished.{is_begin, losers, left_open, open_by}
-use Rattle.log_records.specs.Room.{longest, open_length, put_back, total_on, HasOpenRoom}
-use Rattle.log_records.specs.Log.{slot_at, shown_by, last_on}
-use Rattle.log_records.specs.Sound.{Master, LogicalImage, InTurn, IsInOrder, IsLoserChain, Continues, ShowsLast, Undoes, HasRoomInPage, last_known}
-use Rattle.log_laws.specs.Follow.{Follows, IsUndoable}
+use Rattle.log_records.specs.Room.{total_on}
 use Rattle.log_laws.proofs.Parts.{InTurn-right, all_below, all_made, are_losers}
 use Rattle.log_laws.proofs.Appends.{begins, entries_push}
 use Rattle.log_laws.proofs.Follow.{undoable_behind}
 use Rattle.log_laws.proofs.Owing.{left_push}
 use Rattle.log_laws.proofs.Shown.{shown_push}
 use Rattle.log_laws.proofs.Values.{with, closed_same, open_before}
-use Rattle.log_records.proofs.Entries.{in_order_left}
-use Rattle.log_records.proofs.Lists.{last_where-append}
 
 -- Totals.
 
@@ -54,10 +38,7 @@ longest_within k (c ∷ contents) all = max-le all.0 (longest_within k contents 
 
 longest_holds : (k : ℕ) (contents : List Content) → longest contents ≤ k → AllByRecursion (λ c. length_of c ≤ k) contents
 longest_holds k [] h = tt
-longest_holds k (c ∷ contents) h =
-    let left = le-max_left (length_of c) (longest contents) in
-    let right = le-max_right (length_of c) (longest contents) in
-    (omega (arith, left, h), longest_holds k contents (omega (arith, right, h)))
+longest_holds k (c ∷ contents) h = grind (arith, common_steps, le-max_left, le-max_right, (longest_holds k contents))
 
 all_flat : {X Y : Type 0} (P : Y → Type 0) (f : X → List Y) (xs : List X) → AllByRecursion (λ x. AllByRecursion P (f x)) xs → AllByRecursion P (flat_map f xs)
 all_flat P f [] all = tt
@@ -202,24 +183,18 @@ redone_length log pages lsn number = length_of (shown_by (slot_at pages number) 
 -- where all records on a number are known, all are redone there
 pub known_on : (log : List Entry) (lsn number : ℕ) → AllByRecursion (λ x. is_on number x ≡ true → x.lsn ≤ lsn) log → last_known log lsn number ≡ last_on log number
 known_on [] lsn number all = refl
-known_on (e ∷ log) lsn number all = λ i. option_or (known_on log lsn number all.1 i) (by (is_on number e) all.0 i) where
-  by : (b : Bool) → (b ≡ true → e.lsn ≤ lsn) → cond (b && nat_le e.lsn lsn) (Some e) None ≡ cond b (Some e) None
-  by true known = ap (λ (c : Bool). cond c (Some e) None) (le-leb e.lsn lsn (known refl))
-  by false known = refl
+known_on (e ∷ log) lsn number all = grind (arith, common_steps, le-leb, (known_on log lsn number all.1))
 
 -- a slot that shows its last record shows that
 pub shows_itself : (slot : Content) (o : Option Entry) → ShowsLast slot o → shown_by slot o ≡ slot
-shows_itself slot None shows = refl
-shows_itself slot (Some e) shows = sym shows
+shows_itself slot x1 shows = grind (arith, common_steps)
 
 known_before : (log : List Entry) (e : Entry) (lsn number : ℕ) → lsn < e.lsn → last_known (with log e) lsn number ≡ last_known log lsn number
 known_before log e lsn number below = grind (arith, common_steps, last_where-append, lt-leb, and_right)
 
 -- what stands last takes no more than the room for what undo may put back
 shown_fits : (log : List Entry) (pages : List Version) (page : ℕ) → HasOpenRoom log pages page → total_on page (λ number. length_of (shown log pages number)) ≤ page_room
-shown_fits log pages page room =
-    let fewer = total_within page (λ number. length_of (shown log pages number)) (open_length log pages) (λ slot less. le-max_left (length_of (shown log pages (32 * page + slot))) (longest (put_back log (32 * page + slot)))) in
-    omega (arith, fewer, room)
+shown_fits log pages page room = grind (arith, total_within, le-max_left)
 
 pub redone_behind : (pages : List Version) (log : List Entry) (e : Entry) (page : ℕ) → AllByRecursion (λ x. x.lsn < e.lsn) log → HasOpenRoom (with log e) pages page →
     ((lsn : ℕ) → (version_at pages page).lsn ≤ lsn → total_on page (redone_length log pages lsn) ≤ page_room) →

@@ -1,5 +1,5 @@
 -- Three logs, computed.
-use Rattle.std.proofs.Common.{refl, arith}
+use Rattle.log_laws.proofs.Names.{refl, arith}
 use Rattle.log_records.specs.Spelling.{spelling}
 use Rattle.log_laws.specs.Rows.{OfTheLoser, OfTheSecondTry, OfTheStray}
 

@@ -1,31 +1,15 @@
 -- Sealing a block that goes on keeps a logical image sound, and changes what it means by the block's commits alone.
 use Rattle.std.proofs.lemmas.Grind.{common_steps}
-use Rattle.std.proofs.Common.{◌≡◌, ℕ, zero, suc, ◌+◌, ◌-◌, ◌*◌, ◌<◌, ◌≤◌, List, [], ◌∷◌, ◌++◌, length, sym, ap, subst, ◌∙◌, append_assoc, arith}
-use Rattle.std.specs.Prelude.{flat_map, IsTrue, ◌==◌, ◌||◌, nat_lt}
-use Rattle.std.specs.List.{AllByRecursion, range_with_len}
-use Rattle.std.proofs.lemmas.Bool.{le-ltb, le-leb, lt-leb, and_right}
+use Rattle.log_laws.proofs.Names.{◌≡◌, ℕ, zero, suc, ◌+◌, ◌-◌, ◌*◌, ◌<◌, ◌≤◌, List, [], ◌∷◌, ◌++◌, length, sym, ap, subst, ◌∙◌, append_assoc, arith, le-ltb, le-leb, lt-leb, and_right, append-nil, length-append, filter-append, filter_map-append, length-range_with_len, AllByRecursion, range_with_len, flat_map, IsTrue, ◌==◌, nat_lt, Follows, IsUndoable, GoesOn, sealed, next_entries, table_after_all, some_octet, in_order_from, last_where-append, Entry, Version, entries_from, version_at, table_of, Master, AreNumbered, LogicalImage, InTurn, IsInOrder, IsSound, Means, IsOfOpenTransaction, before_block, from_block, last_known, FitsLog, IsInTable, active_in, commit_number, commit_numbers, commit_count, LogRecord, Content, all_append, all_weaker, filter_all}
+use Rattle.std.specs.Prelude.{◌||◌}
 use Rattle.std.proofs.lemmas.Bool.Decides.{nat_tests}
-use Rattle.std.proofs.lemmas.List.{append-nil, length-append}
-use Rattle.std.proofs.lemmas.List.FromFn.{length-range_with_len}
-use Rattle.std.proofs.lemmas.List.Elements.{filter-append, filter_map-append}
-use Rattle.std_lemmas.proofs.AllOf.{all_append, all_weaker}
-use Rattle.std_lemmas.proofs.Lists.{filter_all}
-use Rattle.record_model.specs.State.{Content}
-use Rattle.log_records.specs.declared.log_record.LogRecord.{LogRecord}
-use Rattle.log_records.specs.declared.log_record.LogRecord.TheVariants.{Begin, Update, Clr, Commit, End}
 use Rattle.log_records.specs.Spelling.{spelling, AreBlock}
-use Rattle.log_records.specs.Log.{Entry, Version, entries_from, version_at, table_of}
-use Rattle.log_records.specs.Sound.{Master, AreNumbered, LogicalImage, InTurn, IsInOrder, IsSound, Means, IsOfOpenTransaction, before_block, from_block, last_known, FitsLog, IsInTable, active_in, commit_number, commit_numbers, commit_count}
-use Rattle.log_laws.specs.Follow.{Follows, IsUndoable, GoesOn, sealed, next_entries, table_after_all}
 use Rattle.log_laws.proofs.Values.{with}
 use Rattle.log_laws.proofs.Orderly.{begun_behind}
 use Rattle.log_laws.proofs.Follow.{table_behind, undoable_behind}
 use Rattle.log_laws.proofs.Parts.{commits_parts}
 use Rattle.log_laws.proofs.Rooms.{rooms_behind_all}
 use Rattle.log_laws.proofs.Orders.{InTurn-all, entries_in_order, in_order_to, in_order-append, all_from, none_passes, filter_none, InTurn-append_all, InTurn-weaker}
-use Rattle.log_records.proofs.Blocks.{some_octet}
-use Rattle.log_records.proofs.Lists.{last_where-append}
-use Rattle.log_records.proofs.Entries.{in_order_from}
 
 -- Records one by one.
 
@@ -54,21 +38,11 @@ range_join a (suc n) m =
 
 -- records have no more Commits than octets
 few_here : (rec : LogRecord) (lsn : ℕ) (entries : List Entry) → length (commit_numbers (record { lsn = lsn; rec = rec } ∷ entries)) ≤ 1 + length (commit_numbers entries)
-few_here Begin lsn entries = omega arith
-few_here (Update txn prev page slot before after) lsn entries = omega arith
-few_here (Clr txn prev undo_next page slot after) lsn entries = omega arith
-few_here (Commit txn number) lsn entries = omega arith
-few_here (End txn) lsn entries = omega arith
+few_here x0 lsn entries = grind (arith, common_steps)
 
 few_commits : (lsn : ℕ) (records : List LogRecord) → length (commit_numbers (entries_from lsn records)) ≤ length (flat_map spelling records)
 few_commits lsn [] = omega arith
-few_commits lsn (rec ∷ records) = omega (
-  arith,
-  few_here rec lsn (entries_from (lsn + length (spelling rec)) records),
-  some_octet rec,
-  few_commits (lsn + length (spelling rec)) records,
-  length-append (spelling rec) (flat_map spelling records),
-)
+few_commits lsn (rec ∷ records) = grind (arith, common_steps, few_here, some_octet, length-append, (few_commits (lsn + length (spelling rec)) records))
 
 module _ (p : LogicalImage) (records : List LogRecord) (sound : IsSound p) (block : AreBlock records) where
   pub undoable : IsUndoable p.log

@@ -1,19 +1,9 @@
 -- What slots show once all records are redone.
-use Rattle.std.proofs.Common.{◌≡◌, ℕ, true, false, cond, List, [], ◌∷◌, Some, None, refl, ap, ◌∙◌, arith}
-use Rattle.std.specs.Prelude.{Option, option_map, unwrap_or}
-use Rattle.std.specs.List.{list_any}
-use Rattle.std.proofs.lemmas.Bool.{and_from, cases_Bool, not_from_false}
-use Rattle.record_model.specs.State.{Content, last_write}
-use Rattle.log_records.specs.Log.{Entry, Version, txn_of, is_of, is_on, is_closed, is_loser, entries_of, last_where, last_on, after_of, value_of, shown, shown_by}
-use Rattle.log_laws.specs.Follow.{IsUndoable, IsFree, IsFreeFor, has_written, writes_in}
+use Rattle.log_laws.proofs.Names.{◌≡◌, ℕ, true, false, cond, List, [], ◌∷◌, Some, None, refl, ap, ◌∙◌, arith, sym, and_from, cases_Bool, not_from_false, list_any, Option, option_map, unwrap_or, IsUndoable, IsFree, IsFreeFor, has_written, writes_in, all_last, Entry, Version, txn_of, is_of, is_on, is_closed, is_loser, entries_of, last_where, last_on, after_of, value_of, shown, shown_by, slot_at, Content, last_write}
 use Rattle.log_laws.proofs.Lists.{last_passes}
-use Rattle.log_laws.proofs.Values.{with, last_push, last_of_own, value_closed}
+use Rattle.log_laws.proofs.Values.{with, last_push, last_of_own, value_closed, last_is_own, update_of}
 use Rattle.log_laws.proofs.Tables.{last_write_of}
 use Rattle.log_laws.proofs.Appends.{has_written_is, all_written}
-use Rattle.log_records.proofs.Lists.{all_last}
-use Rattle.std.proofs.Common.{sym}
-use Rattle.log_records.specs.Log.{slot_at}
-use Rattle.log_laws.proofs.Values.{last_is_own, update_of}
 
 -- One more record.
 

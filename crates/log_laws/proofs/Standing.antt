@@ -1,18 +1,7 @@
 -- The writes of a transaction that stand, as lists.
-use Rattle.std.proofs.Common.{◌≡◌, ◌≤◌, ℕ, suc, zero, ◌-◌, Bool, true, List, [], ◌∷◌, ◌++◌, length, take, drop, refl, sym, ap, ◌∙◌, arith}
 use Rattle.std.proofs.lemmas.Grind.{common_steps}
-use Rattle.std.specs.Prelude.{option_map, filter_map, find, reverse}
-use Rattle.std.specs.List.{AllByRecursion}
-use Rattle.std.proofs.lemmas.List.{length-append, length-drop, reverse-append, take-append-le, take-append-drop}
+use Rattle.log_laws.proofs.Names.{◌≡◌, ◌≤◌, ℕ, suc, zero, ◌-◌, Bool, true, List, [], ◌∷◌, ◌++◌, length, take, drop, refl, sym, ap, ◌∙◌, arith, length-append, length-drop, reverse-append, take-append-le, take-append-drop, filter_map-append, AllByRecursion, option_map, filter_map, find, reverse, write_of, standing_in, last_where-append, Entry, is_on, is_update, entries_of, last_where, after_of, open_by, open_updates, left_open, LogRecord, Write, last_write, all_drop}
 use Rattle.std.proofs.Math.Seq.{take-length, drop-append_seam}
-use Rattle.std.proofs.lemmas.List.Elements.{filter_map-append}
-use Rattle.std_lemmas.proofs.AllOf.{all_drop}
-use Rattle.record_model.specs.State.{Write, last_write}
-use Rattle.log_records.specs.declared.log_record.LogRecord.{LogRecord}
-use Rattle.log_records.specs.Log.{Entry, is_on, is_update, entries_of, last_where, after_of}
-use Rattle.log_records.specs.Unfinished.{open_by, open_updates, left_open}
-use Rattle.log_records.proofs.Lists.{last_where-append}
-use Rattle.log_laws.specs.Follow.{write_of, standing_in}
 use Rattle.log_laws.proofs.Tables.{last_write_of}
 
 -- What stands of Updates, the last one first.

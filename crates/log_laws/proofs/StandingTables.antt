@@ -1,14 +1,5 @@
 -- What the writes of a transaction that stand leave of the table.
-use Rattle.std.proofs.Common.{◌≡◌, ℕ, ◌<◌, false, List, length, Some, None, refl, sym, ap, subst, ◌∙◌, arith}
-use Rattle.std.specs.Prelude.{Option, option_map, unwrap_or}
-use Rattle.std.specs.List.{list_any}
-use Rattle.std.proofs.lemmas.List.{ext_get_or}
-use Rattle.record_model.specs.State.{Content, content_at, table_with, last_write}
-use Rattle.log_records.specs.Log.{Entry, Version, is_on, is_closed, entries_of, updates_in, last_where, first_update, after_of, value_of, shown, table_of}
-use Rattle.log_records.specs.Unfinished.{left_open}
-use Rattle.log_records.specs.Sound.{IsLoserChain}
-use Rattle.log_records.proofs.Values.{length_table_of}
-use Rattle.log_laws.specs.Follow.{IsUndoable, IsFreeFor, writes_in, standing_in, has_written}
+use Rattle.log_laws.proofs.Names.{◌≡◌, ℕ, ◌<◌, false, List, length, Some, None, refl, sym, ap, subst, ◌∙◌, arith, ext_get_or, list_any, Option, option_map, unwrap_or, IsUndoable, IsFreeFor, writes_in, standing_in, has_written, length_table_of, Entry, Version, is_on, is_closed, entries_of, updates_in, last_where, first_update, after_of, value_of, shown, table_of, IsLoserChain, left_open, Content, content_at, table_with, last_write}
 use Rattle.log_laws.proofs.Appends.{has_written_is}
 use Rattle.log_laws.proofs.Chains.{top_on, none_on, RunsFrom, Runs, runs_in_chain, any_in_chain}
 use Rattle.log_laws.proofs.Shown.{shown_is_seen}

@@ -1,14 +1,6 @@
 -- The table that writes leave.
-use Rattle.std.proofs.Common.{◌≡◌, ℕ, ◌<◌, List, [], ◌∷◌, length, None, refl, ◌∙◌, arith}
-use Rattle.std.specs.Prelude.{option_map, unwrap_or, filter_map, slice_set}
 use Rattle.std.proofs.lemmas.Grind.{common_steps}
-use Rattle.std.proofs.lemmas.List.{ext_get_or}
-use Rattle.std_lemmas.proofs.Options.{option_or_none}
-use Rattle.record_model.specs.State.{Content, Write, content_at, table_with, last_write}
-use Rattle.log_records.specs.Log.{Entry, Version, is_on, last_where, after_of, table_of, value_of}
-use Rattle.log_laws.specs.Follow.{write_of}
-use Rattle.log_records.proofs.Values.{content_of_table, length_table_of}
-use Rattle.std.proofs.Common.{◌*◌, sym}
+use Rattle.log_laws.proofs.Names.{◌≡◌, ℕ, ◌<◌, List, [], ◌∷◌, length, None, refl, ◌∙◌, arith, ◌*◌, sym, ext_get_or, option_map, unwrap_or, filter_map, slice_set, write_of, content_of_table, length_table_of, Entry, Version, is_on, last_where, after_of, table_of, value_of, Content, Write, content_at, table_with, last_write, option_or_none}
 pub use Rattle.log_records.proofs.Values.{content_of_table}
 
 pub length_table_with : (table : List Content) (writes : List Write) → length (table_with table writes) ≡ length table

@@ -1,26 +1,12 @@
 -- A log that goes on record by record.
-use Rattle.std.proofs.Common.{◌≡◌, ℕ, ◌+◌, ◌*◌, List, [], ◌∷◌, ◌++◌, length, Some, None, ap, subst, ◌∙◌, append_assoc, arith}
-use Rattle.std.specs.Prelude.{Option, flat_map}
-use Rattle.std.specs.List.{AllByRecursion, cons_option}
-use Rattle.std.proofs.lemmas.List.{append-nil, length-append}
-use Rattle.std.proofs.lemmas.List.FromFn.{length-range_with_len}
-use Rattle.std.proofs.lemmas.List.Elements.{filter_map-append}
-use Rattle.std_lemmas.proofs.AllOf.{all_append}
-use Rattle.record_model.specs.State.{Content, table_with}
-use Rattle.log_records.specs.declared.log_record.LogRecord.{LogRecord}
-use Rattle.log_records.specs.declared.log_record.LogRecord.TheVariants.{Commit}
+use Rattle.log_laws.proofs.Names.{◌≡◌, ℕ, ◌+◌, ◌*◌, List, [], ◌∷◌, ◌++◌, length, Some, None, ap, subst, ◌∙◌, append_assoc, arith, append-nil, length-append, filter_map-append, length-range_with_len, AllByRecursion, cons_option, Option, flat_map, Follows, IsUndoable, sealed, next_entries, table_after, table_after_all, writes_in, Carries, CommitsRunOn, whole, next_lsn, in_order_from, Entry, entries_from, log_from, table_of, LogicalImage, IsSound, IsInOrder, InTurn, IsInTable, HasRoom, AreOrderly, Means, commit_number, commit_numbers, commit_count, LogRecord, Commit, Content, table_with, all_append}
 use Rattle.log_records.specs.Spelling.{spelling, AreBlock}
-use Rattle.log_records.specs.Log.{Entry, entries_from, log_from, table_of}
-use Rattle.log_records.specs.Sound.{LogicalImage, IsSound, IsInOrder, InTurn, IsInTable, HasRoom, AreOrderly, Means, commit_number, commit_numbers, commit_count}
-use Rattle.log_laws.specs.Follow.{Follows, IsUndoable, sealed, next_entries, table_after, table_after_all, writes_in}
-use Rattle.log_laws.specs.Tail.{Carries, CommitsRunOn, whole, next_lsn}
 use Rattle.log_laws.proofs.Parts.{InTurn-right}
 use Rattle.log_laws.proofs.Follow.{table_behind}
 use Rattle.log_laws.proofs.Orders.{InTurn-all, InTurn-append, entries_in_order, in_order_to, in_order-append}
 use Rattle.log_laws.proofs.Seals.{undoable_behind_all, table_behind_all, sealed_is_sound, sealed_means, numbered_with}
 use Rattle.log_laws.proofs.Commits.{table_none}
 use Rattle.log_laws.proofs.Orderly.{orderly_behind}
-use Rattle.log_records.proofs.Entries.{in_order_from}
 
 pub entries_append : (lsn : ℕ) (xs ys : List LogRecord) → entries_from lsn (xs ++ ys) ≡ entries_from lsn xs ++ entries_from (lsn + length (flat_map spelling xs)) ys
 entries_append lsn [] ys = grind arith

@@ -1,23 +1,10 @@
 -- What undoing a transaction reads.
-use Rattle.std.proofs.Common.{◌≡◌, ℕ, ◌+◌, ◌<◌, ◌≤◌, ◌||◌, true, cond, List, [], ◌∷◌, ◌++◌, length, drop, map, Some, refl, sym, ap, subst, ◌∙◌, append_assoc, arith}
-use Rattle.std.specs.Prelude.{find, ◌==◌, ⊤}
-use Rattle.std.specs.List.{AllByRecursion}
-use Rattle.std.proofs.lemmas.List.{append-nil, length-append}
-use Rattle.std.proofs.lemmas.List.Elements.{filter-append}
-use Rattle.std.proofs.lemmas.Bool.{eq-eqb, eqb-true, ne_eqb}
-use Rattle.std_lemmas.proofs.AllOf.{all_right, all_both, all_weaker, all_filter, all_passed, all_drop}
-use Rattle.log_records.specs.declared.log_record.LogRecord.{LogRecord}
-use Rattle.log_records.specs.declared.log_record.LogRecord.TheVariants.{Begin, Update, Clr}
-use Rattle.log_records.specs.Log.{Entry, txn_of, is_of, is_update, is_loser, entries_of, updates_in}
-use Rattle.log_records.specs.Unfinished.{is_clr, clrs_in, open_by, open_updates, left_open, prev_of}
-use Rattle.log_records.specs.Sound.{InTurn, IsInOrder, IsLoserChain, Continues, Compensates, Undoes, last_lsn, last_number}
-use Rattle.log_laws.specs.UndoLaws.{top_lsn, goes_back, IsLink, IsUndoChain}
-use Rattle.log_laws.specs.Analysis.{IsUnfinished}
+use Rattle.std.proofs.lemmas.Grind.{common_steps}
+use Rattle.log_laws.proofs.Names.{◌≡◌, ℕ, ◌+◌, ◌<◌, ◌≤◌, ◌||◌, true, cond, List, [], ◌∷◌, ◌++◌, length, drop, map, Some, refl, sym, ap, subst, ◌∙◌, append_assoc, arith, eq-eqb, eqb-true, ne_eqb, append-nil, length-append, filter-append, AllByRecursion, find, ◌==◌, ⊤, IsUnfinished, top_lsn, goes_back, IsLink, IsUndoChain, in_order_left, Entry, txn_of, is_of, is_update, is_loser, entries_of, updates_in, InTurn, IsInOrder, IsLoserChain, Continues, Compensates, Undoes, last_lsn, last_number, is_clr, clrs_in, open_by, open_updates, left_open, prev_of, LogRecord, Begin, Update, Clr, all_right, all_both, all_weaker, all_filter, all_passed, all_drop}
 use Rattle.log_laws.proofs.Chains.{open_append}
 use Rattle.log_laws.proofs.Orders.{all_from}
 use Rattle.log_laws.proofs.Parts.{in_order_filter, all_below}
 use Rattle.log_laws.proofs.Losers.{left_are_its_updates, left_keep, all_left_open, last_number_of}
-use Rattle.log_records.proofs.Entries.{in_order_left}
 
 -- Records by their LSNs.
 
@@ -72,8 +59,7 @@ abbrev IsThere : List Entry → ℕ → Entry → Type 0
 IsThere log t e = IsFound log e × (txn_of e ≡ t)
 
 undone_prev : (c u : LogRecord) → Compensates c u → goes_back c ≡ prev_of u
-undone_prev (Clr t prev undo_next page slot after) (Update t' prev' page' slot' before after') h = h.3
-undone_prev _ _ h = absurd h
+undone_prev x0 x1 h = grind (arith, common_steps)
 
 -- one record more
 step : (log : List Entry) (t last : ℕ) (us : List Entry) (clrs : ℕ) (lsn : ℕ) (rec : LogRecord) → Stand log t last us clrs → last < lsn → AllByRecursion (λ u. u.lsn < lsn) us →

@@ -1,19 +1,5 @@
 -- One step of undo.
-use Rattle.std.proofs.Common.{◌≡◌, ℕ, ◌+◌, ◌*◌, ◌<◌, ◌≤◌, true, cond, not, List, [], ◌∷◌, ◌++◌, length, drop, refl, sym, ap, subst, ◌∙◌, arith}
-use Rattle.std.specs.Prelude.{◌==◌}
-use Rattle.std.specs.List.{AllByRecursion, list_any}
-use Rattle.std.proofs.lemmas.Bool.{and_from, eq-eqb, not_from_false, or_left}
-use Rattle.std.proofs.lemmas.List.Folds.{find-append}
-use Rattle.record_model.specs.State.{Write}
-use Rattle.log_records.specs.declared.log_record.LogRecord.{LogRecord}
-use Rattle.log_records.specs.declared.log_record.LogRecord.TheVariants.{Update, Clr, End}
-use Rattle.log_records.specs.Log.{Entry, txn_of, is_of, is_update, is_closed, is_loser, entries_of, updates_in}
-use Rattle.log_records.specs.Unfinished.{is_clr, left_open}
-use Rattle.log_records.specs.Sound.{Master, LogicalImage, IsInOrder, IsInTable, IsOpen}
-use Rattle.log_laws.specs.Follow.{Follows, IsActive}
-use Rattle.log_laws.specs.Tail.{Carries, whole}
-use Rattle.log_laws.specs.Analysis.{Unfinished, IsUnfinished, past_clr, after_clr}
-use Rattle.log_laws.specs.UndoLaws.{IsLink, IsUndoChain, goes_back}
+use Rattle.log_laws.proofs.Names.{◌≡◌, ℕ, ◌+◌, ◌*◌, ◌<◌, ◌≤◌, true, cond, not, List, [], ◌∷◌, ◌++◌, length, drop, refl, sym, ap, subst, ◌∙◌, arith, and_from, eq-eqb, not_from_false, or_left, find-append, AllByRecursion, list_any, ◌==◌, Unfinished, IsUnfinished, past_clr, after_clr, Follows, IsActive, Carries, whole, IsLink, IsUndoChain, goes_back, Entry, txn_of, is_of, is_update, is_closed, is_loser, entries_of, updates_in, Master, LogicalImage, IsInOrder, IsInTable, IsOpen, is_clr, left_open, LogRecord, Update, Clr, End, Write}
 use Rattle.log_laws.specs.UndoSteps.{IsToUndo}
 use Rattle.log_laws.proofs.Values.{with}
 use Rattle.log_laws.proofs.Appends.{end_follows}

@@ -1,31 +1,15 @@
 -- What a record that is put behind a log makes of the value at a number.
 use Rattle.std.proofs.lemmas.Grind.{common_steps}
-use Rattle.std.proofs.Common.{◌≡◌, ℕ, ⊎_elim, Bool, true, false, ◌&&◌, ◌||◌, List, [], ◌∷◌, ◌++◌, Some, None, refl, sym, ap, ◌∙◌, arith}
-use Rattle.std.specs.Prelude.{Option, find, IsTrue}
-use Rattle.std.specs.List.{AllByRecursion}
-use Rattle.std.specs.Option.{option_or}
-use Rattle.std.proofs.lemmas.List.Folds.{list_any-append, find-append}
-use Rattle.std.proofs.lemmas.Bool.{or_parts, and_from, and_parts, and_right, eqb-true, eq-eqb, not_from_false}
-use Rattle.std_lemmas.proofs.Options.{option_or_none}
-use Rattle.std_lemmas.proofs.Bools.{or_without_last}
-use Rattle.record_model.specs.State.{Content}
-use Rattle.log_records.specs.Log.{Entry, Version, txn_of, is_of, is_on, is_update, is_loser, is_closed, is_closing, entries_of, last_where, last_on, first_update, before_of, before_first, after_of, value_after, value_of, is_number, shown, shown_by}
-use Rattle.log_records.specs.Sound.{Pairwise, HoldsOff, ShowsLast}
-use Rattle.log_laws.specs.Follow.{CanBeUndone, IsUndoable}
+use Rattle.log_laws.proofs.Names.{◌≡◌, ℕ, ⊎_elim, Bool, true, false, ◌&&◌, ◌||◌, List, [], ◌∷◌, ◌++◌, Some, None, refl, sym, ap, ◌∙◌, arith, cond, or_parts, and_from, and_parts, and_right, eqb-true, eq-eqb, not_from_false, cases_Bool, list_any-append, find-append, AllByRecursion, option_or, Option, find, IsTrue, CanBeUndone, IsUndoable, one, last_where-append, all_last, Entry, Version, txn_of, is_of, is_on, is_update, is_loser, is_closed, is_closing, entries_of, last_where, last_on, first_update, before_of, before_first, after_of, value_after, value_of, is_number, shown, shown_by, slot_at, Pairwise, HoldsOff, ShowsLast, Content, or_without_last, option_or_none}
 use Rattle.log_laws.proofs.Lists.{one_false, one_true, last_passes, last_any, last_where-filter, find-filter, last_of_both, find_passes, all_find, any_left}
 use Rattle.log_laws.proofs.Chains.{update_of_chain}
-use Rattle.log_records.proofs.Lists.{one, last_where-append, all_last}
-use Rattle.std.proofs.Common.{cond}
-use Rattle.std.proofs.lemmas.Bool.{cases_Bool}
-use Rattle.log_records.specs.Log.{slot_at}
 
 abbrev pub with : List Entry → Entry → List Entry
 with log e = log ++ e ∷ []
 
 -- a number that is a record's
 pub is_number-Some : (number : ℕ) (o : Option ℕ) → is_number number o ≡ true → o ≡ Some number
-is_number-Some number None h = absurd (grind arith)
-is_number-Some number (Some k) h = ap Some (eqb-true k number h)
+is_number-Some number x1 h = grind (arith, common_steps, eqb-true)
 
 -- Which transactions are closed.
 

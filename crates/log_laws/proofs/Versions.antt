@@ -1,9 +1,5 @@
 -- Tables of equal values.
-use Rattle.std.proofs.Common.{◌≡◌, ℕ, ◌*◌, ◌<◌, List, length, None, sym, ap, ◌∙◌, arith}
-use Rattle.std.proofs.lemmas.List.{ext_get_or}
-use Rattle.record_model.specs.State.{content_at}
-use Rattle.log_records.specs.Log.{Entry, Version, value_of, table_of}
-use Rattle.log_records.proofs.Values.{content_of_table, length_table_of}
+use Rattle.log_laws.proofs.Names.{◌≡◌, ℕ, ◌*◌, ◌<◌, List, length, None, sym, ap, ◌∙◌, arith, ext_get_or, content_of_table, length_table_of, Entry, Version, value_of, table_of, content_at}
 pub use Rattle.log_records.proofs.Values.{page_and_slot}
 
 -- tables are equal where their values are

@@ -1,18 +1,6 @@
 -- A block's records, heard one after the other.
-use Rattle.std.proofs.Common.{◌≡◌, ℕ, ◌+◌, ◌*◌, ◌<◌, ◌≤◌, List, [], ◌∷◌, ◌++◌, length, take, drop, refl, sym, ap, subst, ◌∙◌, arith}
-use Rattle.std.specs.Prelude.{Option, Some, None, Ok, Err, Result, flat_map, option_and_then}
-use Rattle.std.specs.List.{AllByRecursion}
+use Rattle.log_replay.proofs.Names.{◌≡◌, ℕ, ◌+◌, ◌*◌, ◌<◌, ◌≤◌, List, [], ◌∷◌, ◌++◌, length, take, drop, refl, sym, ap, subst, ◌∙◌, arith, length-append, append_assoc, drop-drop, drop_at, AllByRecursion, Option, Some, None, Ok, Err, Result, flat_map, option_and_then, Stream, after_entries, after_record, behind, some_octet, one_spelled, spelled_next, used_is, Entry, entries_from, spelling, used_by, HasForm, FitsFields, IsBlock, IsSpelledAt, LogRecord, Hears, StandsAt, Ledger, ReplayFault, Write}
 use Rattle.std.specs.Int.{w16, from_be_bytes}
-use Rattle.std.proofs.lemmas.List.{length-append, append_assoc, drop-drop, drop_at}
-use Rattle.record_model.specs.State.{Write}
-use Rattle.log_records.specs.declared.log_record.LogRecord.{LogRecord}
-use Rattle.log_records.specs.Log.{Entry, entries_from}
-use Rattle.log_records.specs.Spelling.{spelling, used_by, HasForm, FitsFields, IsBlock, IsSpelledAt}
-use Rattle.log_records.proofs.Blocks.{behind, some_octet, one_spelled, spelled_next, used_is}
-use Rattle.log_archive.specs.Accepted.{Stream, after_entries, after_record}
-use Rattle.log_replay.specs.declared.ledger.Ledger.{Ledger}
-use Rattle.log_replay.specs.declared.ledger.ReplayFault.{ReplayFault}
-use Rattle.log_replay.specs.Stands.{Hears, StandsAt}
 
 -- from a place on these records are left of a block
 pub record AreLeft (content : List ℕ) (used at : ℕ) (left : List LogRecord) : Type 0 where

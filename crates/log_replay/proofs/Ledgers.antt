@@ -1,21 +1,7 @@
 -- A ledger behind a record.
-use Rattle.std.proofs.Common.{◌≡◌, ℕ, ◌+◌, ◌*◌, ◌<◌, ◌≤◌, ◌==◌, nat_eq, Bool, true, false, not, ◌&&◌, cond, List, [], ◌∷◌, ◌++◌, length, drop, refl, sym, ap, subst, ◌∙◌, arith}
-use Rattle.std.specs.Prelude.{nat_lt, Option, Some, None, Ok, Err, Result, IsErrOf, find, slice_set, option_and_then}
-use Rattle.std.specs.List.{AllByRecursion}
-use Rattle.std.proofs.lemmas.Bool.{eqb-true, eq-eqb, ne_eqb}
 use Rattle.std.proofs.lemmas.Grind.{common_steps}
-use Rattle.std.proofs.lemmas.Option.{same_Some}
-use Rattle.std.proofs.lemmas.List.{length-set, append_assoc, length-append}
-use Rattle.indexmap.specs.IndexMap.{get}
-use Rattle.record_model.specs.State.{Content, Write, content_at}
+use Rattle.log_replay.proofs.Names.{◌≡◌, ℕ, ◌+◌, ◌*◌, ◌<◌, ◌≤◌, ◌==◌, nat_eq, Bool, true, false, not, ◌&&◌, cond, List, [], ◌∷◌, ◌++◌, length, drop, refl, sym, ap, subst, ◌∙◌, arith, eqb-true, eq-eqb, ne_eqb, length-set, append_assoc, length-append, same_Some, AllByRecursion, nat_lt, Option, Some, None, Ok, Err, Result, IsErrOf, find, slice_set, option_and_then, get, Standing, Stream, Unclosed, after_record, after_update, after_clr, after_commit, after_end, commits_in, is_taken, is_unclosed, same_content, unclosed_of, with_write, without, AreOpen, HoldsItsOwn, begun, compensated, has_written, is_others, number_of, written, Closes, Hears, Puts, StandsAt, Ledger, ReplayFault, BadStream, Memory, Transactions, Content, Write, content_at}
 use Rattle.log_records.specs.declared.log_record.LogRecord.TheVariants.{Begin, Update, Clr, Commit, End}
-use Rattle.log_archive.specs.Accepted.{Standing, Stream, Unclosed, after_record, after_update, after_clr, after_commit, after_end, commits_in, is_taken, is_unclosed, same_content, unclosed_of, with_write, without}
-use Rattle.log_replay.specs.declared.ledger.Ledger.{Ledger}
-use Rattle.log_replay.specs.declared.ledger.ReplayFault.{ReplayFault}
-use Rattle.log_replay.specs.declared.ledger.ReplayFault.TheVariants.{BadStream, Memory}
-use Rattle.log_replay.specs.declared.transactions.Transactions.{Transactions}
-use Rattle.log_replay.specs.Opened.{AreOpen, HoldsItsOwn, begun, compensated, has_written, is_others, number_of, written}
-use Rattle.log_replay.specs.Stands.{Closes, Hears, Puts, StandsAt}
 use Rattle.log_replay.proofs.Opens.{found, no_other, owns_update, owns_clr}
 use Rattle.log_replay.proofs.OpenOnes.{begins_open, puts_open, closes_open, open_later}
 

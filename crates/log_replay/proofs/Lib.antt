@@ -1,3 +1,4 @@
+mod Names
 pub mod Opens
 pub mod OpenOnes
 pub mod Nets

@@ -1,14 +1,7 @@
 -- Nets as maps keep them.
-use Rattle.std.proofs.Common.{◌≡◌, ℕ, ◌-◌, ◌==◌, Bool, true, false, cond, List, [], ◌∷◌, ◌++◌, length, take, drop, refl, sym, ap, ◌∙◌, arith}
-use Rattle.std.specs.Prelude.{nat_lt, reverse, Option, Some, None}
-use Rattle.std.specs.Option.{option_to_list}
-use Rattle.std.proofs.Common.{Less, Equal, Greater}
+use Rattle.log_replay.proofs.Names.{◌≡◌, ℕ, ◌-◌, ◌==◌, Bool, true, false, cond, List, [], ◌∷◌, ◌++◌, length, take, drop, refl, sym, ap, ◌∙◌, arith, Less, Equal, Greater, eqb-true, append-nil, length-take-le, reverse-append, option_to_list, nat_lt, reverse, Option, Some, None, put_in, Content, Write}
 use Rattle.std.specs.Ordering.{nat_cmp, match_ordering}
 use Rattle.std.specs.BTreeMap.{insert_entry}
-use Rattle.std.proofs.lemmas.Bool.{eqb-true}
-use Rattle.std.proofs.lemmas.List.{append-nil, length-take-le, reverse-append}
-use Rattle.record_model.specs.State.{Content, Write}
-use Rattle.log_archive.specs.Accepted.{put_in}
 
 pub insert_is_put : (net : List Write) (n : ℕ) (content : Content) → insert_entry nat_cmp net n content ≡ put_in (n, content) net
 insert_is_put [] n content = refl

@@ -1,13 +1,5 @@
 -- The open transactions as they are kept, behind a record.
-use Rattle.std.proofs.Common.{◌≡◌, ℕ, ◌+◌, ◌<◌, ◌≤◌, ◌==◌, nat_eq, Bool, true, false, not, ◌&&◌, ◌||◌, cond, List, [], ◌∷◌, refl, sym, ap, subst, ◌∙◌, arith}
-use Rattle.std.specs.Prelude.{Option, Some, None, find}
-use Rattle.std.specs.List.{AllByRecursion, list_any}
-use Rattle.std.proofs.lemmas.Bool.{and_right, eqb-true, eq-eqb}
-use Rattle.indexmap.specs.IndexMap.{get}
-use Rattle.record_model.specs.State.{Write}
-use Rattle.log_archive.specs.Accepted.{Standing, Unclosed, is_taken, is_unclosed, without}
-use Rattle.log_replay.specs.declared.transactions.Transactions.{Transactions}
-use Rattle.log_replay.specs.Opened.{AreOpen, EachOnce, HoldsItsOwn, begun, has_written, is_others, written}
+use Rattle.log_replay.proofs.Names.{◌≡◌, ℕ, ◌+◌, ◌<◌, ◌≤◌, ◌==◌, nat_eq, Bool, true, false, not, ◌&&◌, ◌||◌, cond, List, [], ◌∷◌, refl, sym, ap, subst, ◌∙◌, arith, and_right, eqb-true, eq-eqb, AllByRecursion, list_any, Option, Some, None, find, get, Standing, Unclosed, is_taken, is_unclosed, without, AreOpen, EachOnce, HoldsItsOwn, begun, has_written, is_others, written, Transactions, Write}
 use Rattle.log_replay.proofs.Opens.{find_without, not_begun, all_without, all_weaker, once_without, found, taken_written, taken_closed}
 
 earlier : (lsn next : ℕ) (ts : List Unclosed) → lsn < next → AllByRecursion (λ t. t.begin < lsn) ts → AllByRecursion (λ t. t.begin < next) ts

@@ -1,14 +1,7 @@
 -- Which transactions are open behind a record, and who has written what.
-use Rattle.std.proofs.Common.{◌≡◌, ◌⊎◌, ℕ, suc, ◌+◌, ◌*◌, ◌<◌, ◌==◌, nat_eq, Bool, true, false, not, ◌&&◌, ◌||◌, cond, List, [], ◌∷◌, refl, sym, ap, subst, ◌∙◌, arith}
-use Rattle.std.specs.Prelude.{Option, Some, None, find, filter}
-use Rattle.std.specs.List.{AllByRecursion, list_any}
-use Rattle.std.proofs.lemmas.Bool.{and_right, eqb-true, eq-eqb, ne_eqb, cases_eq}
+use Rattle.log_replay.proofs.Names.{◌≡◌, ◌⊎◌, ℕ, suc, ◌+◌, ◌*◌, ◌<◌, ◌==◌, nat_eq, Bool, true, false, not, ◌&&◌, ◌||◌, cond, List, [], ◌∷◌, refl, sym, ap, subst, ◌∙◌, arith, and_right, eqb-true, eq-eqb, ne_eqb, cases_eq, same_Some, AllByRecursion, list_any, Option, Some, None, find, filter, Standing, Unclosed, is_taken, is_unclosed, put_in, without, EachOnce, HoldsItsOwn, begun, has_written, is_others, number_of, written, Write}
 use Rattle.std.proofs.lemmas.Bool.Decides.{nat_tests}
 use Rattle.std.proofs.lemmas.Grind.{common_steps}
-use Rattle.std.proofs.lemmas.Option.{same_Some}
-use Rattle.record_model.specs.State.{Write}
-use Rattle.log_archive.specs.Accepted.{Standing, Unclosed, is_taken, is_unclosed, put_in, without}
-use Rattle.log_replay.specs.Opened.{EachOnce, HoldsItsOwn, begun, has_written, is_others, number_of, written}
 
 -- Finding one.
 

@@ -1,21 +1,5 @@
 -- A Replay behind a line, and behind a net that is popped.
-use Rattle.std.proofs.Common.{◌≡◌, ◌⊎◌, inl, inr, ℕ, ◌+◌, ◌*◌, ◌==◌, true, false, true≢false, List, [], ◌∷◌, ◌++◌, length, refl, sym, ap, subst, ◌∙◌, arith}
-use Rattle.std.specs.Prelude.{Option, Some, None, Ok, Err, Result, OnOk, OnErr, IsErrOf, IfSome, IfNone, option_and_then, slice_index_or}
-use Rattle.std.specs.Option.{option_to_list}
-use Rattle.std.proofs.lemmas.List.{append_assoc, append-nil}
-use Rattle.std.proofs.lemmas.Option.{same_Some}
-use Rattle.record_model.specs.State.{Write}
-use Rattle.log_records.specs.declared.log_record.LogRecord.{LogRecord}
-use Rattle.log_records.specs.Log.{entries_from}
-use Rattle.log_records.specs.Spelling.{IsBlock}
-use Rattle.log_archive.specs.Lines.{IsBlockLine, IsEndLine, block_text, end_text}
-use Rattle.log_archive.specs.Accepted.{AfterLine, Stream, after_block, after_entries, with_next}
-use Rattle.log_replay.specs.declared.ledger.Ledger.{Ledger}
-use Rattle.log_replay.specs.declared.ledger.ReplayFault.{ReplayFault}
-use Rattle.log_replay.specs.declared.ledger.ReplayFault.TheVariants.{BadStream}
-use Rattle.log_replay.specs.declared.replay.Replay.{Replay}
-use Rattle.log_replay.specs.Opened.{AreOpen}
-use Rattle.log_replay.specs.Stands.{Hears, StandsAt, StandsFor}
+use Rattle.log_replay.proofs.Names.{◌≡◌, ◌⊎◌, inl, inr, ℕ, ◌+◌, ◌*◌, ◌==◌, true, false, true≢false, List, [], ◌∷◌, ◌++◌, length, refl, sym, ap, subst, ◌∙◌, arith, append_assoc, append-nil, same_Some, option_to_list, Option, Some, None, Ok, Err, Result, OnOk, OnErr, IsErrOf, IfSome, IfNone, option_and_then, slice_index_or, AfterLine, Stream, after_block, after_entries, with_next, IsBlockLine, IsEndLine, block_text, end_text, entries_from, IsBlock, LogRecord, AreOpen, Hears, StandsAt, StandsFor, Ledger, ReplayFault, BadStream, Replay, Write}
 use Rattle.log_replay.proofs.Ledgers.{heard}
 
 -- The next block.

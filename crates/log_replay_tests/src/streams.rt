@@ -7,8 +7,7 @@ const FIRST: &[u8] =
     b"block 0 002e010200000000000000020000000000000002000000000500030a0b0400000000000000020000000000000001";
 
 // A transaction begins and writes record 5.
-const SECOND: &[u8] =
-    b"block 1 001e0102000000000000020200000000000002020000000005030a0b0201";
+const SECOND: &[u8] = b"block 1 001e0102000000000000020200000000000002020000000005030a0b0201";
 
 // It writes 6 and 5, takes the last write back, and commits as number 2.
 const THIRD: &[u8] =
@@ -23,12 +22,10 @@ const TWO_COMMITS: &[u8] =
     b"block 0 0040010200000000000000020000000000000002000000000500030a0b04000000000000000200000000000000010104000000000000002e0000000000000002";
 
 // An Update of a record that was never written says that an empty value stood there.
-const ANOTHER_BEFORE: &[u8] =
-    b"block 0 001b01020000000000000002000000000000000200000000050100";
+const ANOTHER_BEFORE: &[u8] = b"block 0 001b01020000000000000002000000000000000200000000050100";
 
 // An Update on page 1.
-const NO_PAGE: &[u8] =
-    b"block 0 001b01020000000000000002000000000000000200000001050000";
+const NO_PAGE: &[u8] = b"block 0 001b01020000000000000002000000000000000200000001050000";
 
 // An End while an Update stands.
 const EARLY_END: &[u8] =
@@ -101,7 +98,7 @@ fn played(alloc: Global, lines: &[&[u8]]) -> (usize, Option<ReplayFault>) {
 
 #[test]
 fn nets_come_in_order(rt: HostRuntime) {
-    let mut replay = Replay::start(rt.alloc(), 1).unwrap();
+    let mut replay = Replay::start(rt.alloc(), 1).expect(&rt, "memory");
     assert!(rt; replay.pop().is_none());
     for line in [FIRST, SECOND, THIRD] {
         assert!(rt; hear(&mut replay, line) == Ok(()));
@@ -114,14 +111,14 @@ fn nets_come_in_order(rt: HostRuntime) {
 
 #[test]
 fn nets_stand_by_ascending_numbers(rt: HostRuntime) {
-    let mut replay = Replay::start(rt.alloc(), 1).unwrap();
+    let mut replay = Replay::start(rt.alloc(), 1).expect(&rt, "memory");
     assert!(rt; hear(&mut replay, DESCENDING) == Ok(()));
     assert!(rt; pops(&mut replay, &[(4, Some(&[4])), (9, Some(&[9]))]));
 }
 
 #[test]
 fn commits_are_popped_each(rt: HostRuntime) {
-    let mut replay = Replay::start(rt.alloc(), 1).unwrap();
+    let mut replay = Replay::start(rt.alloc(), 1).expect(&rt, "memory");
     assert!(rt; hear(&mut replay, BESIDE) == Ok(()));
     assert!(rt; pops(&mut replay, &[(6, Some(&[2]))]));
     assert!(rt; pops(&mut replay, &[(5, Some(&[1]))]));
@@ -130,7 +127,7 @@ fn commits_are_popped_each(rt: HostRuntime) {
 
 #[test]
 fn a_refused_block_leaves_no_net(rt: HostRuntime) {
-    let mut replay = Replay::start(rt.alloc(), 1).unwrap();
+    let mut replay = Replay::start(rt.alloc(), 1).expect(&rt, "memory");
     assert!(rt; hear(&mut replay, TWICE) == Err(ReplayFault::BadStream));
     assert!(rt; replay.pop().is_none());
 }
@@ -140,7 +137,10 @@ const STREAMS: &[(&[&[u8]], usize)] = &[
     (&[], 0),
     (&[b"end 0"], 1),
     (&[b"end 1"], 0),
-    (&[b"end 0", FIRST, b"end 1", b"end 1", SECOND, THIRD, b"end 3"], 7),
+    (
+        &[b"end 0", FIRST, b"end 1", b"end 1", SECOND, THIRD, b"end 3"],
+        7,
+    ),
     (&[FIRST, b"end 0"], 1),
     (&[FIRST, b""], 1),
     (&[FIRST, FIRST], 1),

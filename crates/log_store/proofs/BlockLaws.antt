@@ -1,17 +1,6 @@
 -- The newest blocks of an image.
-use Rattle.std.proofs.Common.{◌≡◌, ℕ, ◌+◌, ◌-◌, ◌≤◌, List, [], ◌∷◌, ◌++◌, length, drop, sym, ap, ◌∙◌, arith}
-use Rattle.std.specs.Prelude.{max}
-use Rattle.std.specs.List.{AllByRecursion}
-use Rattle.std.proofs.lemmas.List.{length-append, length-drop, drop-drop, drop-append-le, drop-map, map-append}
-use Rattle.std_lemmas.proofs.AllOf.{all_drop}
-use Rattle.site.specs.declared.geometry.Geometry.{Geometry}
-use Rattle.site.specs.State.{Image}
-use Rattle.sealed_ring.specs.Ring.{IsRing, last_of, appended}
-use Rattle.sealed_ring.proofs.Units.{live_count}
-use Rattle.log_records.specs.declared.log_record.LogRecord.{LogRecord}
-use Rattle.log_records.specs.Spelling.{block, AreBlock}
-use Rattle.image_changes.specs.Rings.{log_shape, units_on, KeepsUnits}
-use Rattle.log_store.specs.Representation.{HasBlocks}
+use Rattle.log_store.proofs.Names.{◌≡◌, ℕ, ◌+◌, ◌-◌, ◌≤◌, List, [], ◌∷◌, ◌++◌, length, drop, sym, ap, ◌∙◌, arith, length-append, length-drop, drop-drop, drop-append-le, drop-map, map-append, AllByRecursion, max, log_shape, units_on, KeepsUnits, AreBlock, LogRecord, HasBlocks, live_count, IsRing, last_of, appended, Image, Geometry, all_drop}
+use Rattle.log_records.specs.Spelling.{block}
 
 -- the last ones of the last ones
 last_twice : (k m : ℕ) (xs : List (List ℕ)) → k ≤ m → last_of k (last_of m xs) ≡ last_of k xs

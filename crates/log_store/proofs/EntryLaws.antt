@@ -1,14 +1,6 @@
 -- The list of a log's records.
-use Rattle.std.proofs.Common.{◌≡◌, ℕ, ◌+◌, ◌*◌, Bool, true, false, List, [], ◌∷◌, ◌++◌, length, refl, sym, ap, ◌∙◌, append_assoc, arith}
-use Rattle.std.specs.Prelude.{flat_map}
-use Rattle.std.proofs.lemmas.List.{append-nil, length-append}
-use Rattle.log_records.specs.declared.log_record.LogRecord.{LogRecord}
-use Rattle.log_records.specs.Spelling.{spelling, used_by}
-use Rattle.log_records.specs.Log.{Entry, entries_from, log_from}
-use Rattle.site.specs.State.{State}
-use Rattle.log_store.specs.declared.store.LogStore.{LogStore}
-use Rattle.log_store.specs.Representation.{Finds, Represents}
-use Rattle.log_store.specs.LogList.{LogList, next_block, entries, sealed_if, with_record}
+use Rattle.log_store.proofs.Names.{◌≡◌, ℕ, ◌+◌, ◌*◌, Bool, true, false, List, [], ◌∷◌, ◌++◌, length, refl, sym, ap, ◌∙◌, append_assoc, arith, append-nil, length-append, flat_map, Entry, entries_from, log_from, used_by, LogRecord, LogList, next_block, entries, sealed_if, with_record, Finds, Represents, LogStore, State}
+use Rattle.log_records.specs.Spelling.{spelling}
 
 abbrev entry : ℕ → LogRecord → Entry
 entry lsn rec = record { lsn = lsn; rec = rec }

@@ -1,16 +1,6 @@
 -- Finding a record by its LSN.
-use Rattle.std.proofs.Common.{◌≡◌, ◌≢◌, inl, inr, ℕ, suc, get_or, ◌+◌, ◌-◌, ◌*◌, ◌≤◌, ◌<◌, List, [], ◌∷◌, ◌++◌, length, drop, refl, sym, ap, ◌∙◌, subst, append_assoc, arith}
-use Rattle.std.specs.Prelude.{flat_map, Option, Some, None, ◌==◌, if◌then◌else◌}
-use Rattle.std.specs.List.{AllByRecursion}
-use Rattle.std.proofs.lemmas.Bool.{cases_eq, cond-true, cond-false, eq-eqb}
-use Rattle.std.proofs.lemmas.Bool.Decides.{nat_tests}
-use Rattle.std.proofs.lemmas.List.{length-append, drop-drop, drop_at}
-use Rattle.log_records.specs.declared.log_record.LogRecord.{LogRecord}
-use Rattle.log_records.specs.Spelling.{spelling, used_by, HasForm, FitsFields, AreBlock, IsBlock, IsSpelledAt}
-use Rattle.log_records.specs.Log.{Entry, entries_from, log_from}
-use Rattle.log_records.proofs.Blocks.{some_octet, behind, one_spelled, spelled_next}
-use Rattle.log_store.specs.LogList.{LogList, next_block, entries, at_lsn, sealed_block}
-use Rattle.log_store.specs.Representation.{HasTail, HasRecords}
+use Rattle.log_store.proofs.Names.{◌≡◌, ◌≢◌, inl, inr, ℕ, suc, get_or, ◌+◌, ◌-◌, ◌*◌, ◌≤◌, ◌<◌, List, [], ◌∷◌, ◌++◌, length, drop, refl, sym, ap, ◌∙◌, subst, append_assoc, arith, cases_eq, cond-true, cond-false, eq-eqb, nat_tests, length-append, drop-drop, drop_at, AllByRecursion, flat_map, Option, Some, None, ◌==◌, if◌then◌else◌, some_octet, behind, one_spelled, spelled_next, Entry, entries_from, log_from, used_by, HasForm, FitsFields, AreBlock, IsBlock, IsSpelledAt, LogRecord, LogList, next_block, entries, at_lsn, sealed_block, HasTail, HasRecords}
+use Rattle.log_records.specs.Spelling.{spelling}
 
 -- one entry more in front
 

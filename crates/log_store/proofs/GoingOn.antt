@@ -1,14 +1,5 @@
 -- A store goes on.
-use Rattle.std.proofs.Common.{◌≡◌, ◌+◌, ◌-◌, ◌≤◌, arith}
-use Rattle.site.specs.Geometry.{HasLimits, HasLengths}
-use Rattle.site.specs.State.{State}
-use Rattle.site.specs.Calls.{Preserves}
-use Rattle.sealed_ring.specs.Ready.{IsUsable}
-use Rattle.log_records.specs.Spelling.{block_len}
-use Rattle.image_changes.specs.Rings.{log_shape}
-use Rattle.log_store.specs.declared.store.LogStore.{LogStore}
-use Rattle.log_store.specs.Representation.{Invariant}
-use Rattle.site.proofs.Working.{lengths_later}
+use Rattle.log_store.proofs.Names.{◌≡◌, ◌+◌, ◌-◌, ◌≤◌, arith, log_shape, block_len, Invariant, LogStore, IsUsable, lengths_later, Preserves, HasLimits, HasLengths, State}
 
 -- where its bounds still hold
 pub goes_on : (store store' : LogStore) (old new : State) → Invariant store old → Preserves old new → store'.geometry ≡ store.geometry → IsUsable store'.ring new → store'.ring.shape ≡ store.ring.shape →

@@ -1,3 +1,4 @@
+mod Names
 pub mod BlockLaws
 pub mod EntryLaws
 pub mod Finding

@@ -1,20 +1,6 @@
 -- The number of the log's next block over an honest site, whatever stands there: calls one after the other.
-use Rattle.std.proofs.Common.{◌≡◌, inl, inr, arith, refl, sym, ap, ◌∙◌}
-use Rattle.std.specs.Prelude.{◌^◌, Result, Ok, Err, IsErrOf}
-use Rattle.site.specs.declared.outside.Dev.TheVariants.{Log}
-use Rattle.site.specs.declared.outside.Stop.{Stop}
-use Rattle.site.specs.declared.outside.Stop.TheVariants.{Worn}
-use Rattle.site.specs.declared.geometry.Geometry.{Geometry}
-use Rattle.site.specs.Geometry.{HasLimits, HasLengths}
-use Rattle.site.specs.State.{State}
-use Rattle.site.specs.Calls.{Preserves}
-use Rattle.site.proofs.Working.{no_error, err_again, ok_as, ok_always}
-use Rattle.sealed_ring.specs.Ring.{Units, SameOutside, hi_of}
+use Rattle.log_store.proofs.Names.{◌≡◌, inl, inr, arith, refl, sym, ap, ◌∙◌, ◌^◌, Result, Ok, Err, IsErrOf, ring_fits, Masters, Blocks, log_shape, master_shape, IsNext, KeepsNext, LogStore, Units, SameOutside, hi_of, no_error, err_again, ok_as, ok_always, Preserves, HasLimits, HasLengths, State, Geometry, Log, Stop, Worn}
 use Rattle.sealed_ring.proofs.Others.{leaves_others}
-use Rattle.image_changes.specs.Rings.{Masters, Blocks, log_shape, master_shape}
-use Rattle.image_changes.proofs.AppendLaws.{ring_fits}
-use Rattle.log_store.specs.declared.store.LogStore.{LogStore}
-use Rattle.log_store.specs.Representation.{IsNext, KeepsNext}
 
 -- the ring of the master units stays where it stands when a block is appended
 pub masters_beside : (g : Geometry) (old new : State) → HasLimits g → HasLengths g old.image → Preserves old new → SameOutside (log_shape g) old.image.log new.image.log

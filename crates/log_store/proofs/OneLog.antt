@@ -1,19 +1,9 @@
 -- A store holds one log.
-use Rattle.std.proofs.Common.{◌≡◌, ℕ, List, [], ◌∷◌, length, drop, refl, sym, ap, ◌∙◌, arith}
-use Rattle.std.specs.Prelude.{map, flat_map}
-use Rattle.std.specs.List.{AllByRecursion}
-use Rattle.std.proofs.lemmas.List.{length-append}
+use Rattle.log_store.proofs.Names.{◌≡◌, ℕ, List, [], ◌∷◌, length, drop, refl, sym, ap, ◌∙◌, arith, length-append, AllByRecursion, map, flat_map, behind, some_octet, HasForm, FitsFields, AreBlock, IsBlock, LogRecord, LogList, HasTail, Represents, LogStore, Image}
 use Rattle.std_lemmas.proofs.Lists.{front_same}
-use Rattle.log_records.specs.declared.log_record.LogRecord.{LogRecord}
-use Rattle.log_records.specs.Spelling.{spelling, block, HasForm, FitsFields, AreBlock, IsBlock}
-use Rattle.log_records.proofs.Blocks.{behind, some_octet}
+use Rattle.log_records.specs.Spelling.{spelling, block}
 use Rattle.log_records.proofs.Records.{spelling_is_one}
-use Rattle.log_store.specs.Representation.{HasTail}
 use Rattle.log_store.proofs.Standing.{one_end}
-use Rattle.log_store.specs.Representation.{Represents}
-use Rattle.log_store.specs.declared.store.LogStore.{LogStore}
-use Rattle.log_store.specs.LogList.{LogList}
-use Rattle.site.specs.State.{Image}
 
 -- a text is that of one list of records
 pub one_list : (a b : List LogRecord) → AllByRecursion HasForm a → AllByRecursion FitsFields a → AllByRecursion HasForm b → AllByRecursion FitsFields b → flat_map spelling a ≡ flat_map spelling b → a ≡ b

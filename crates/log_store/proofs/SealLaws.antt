@@ -1,31 +1,13 @@
 -- What sealing the tail leaves.
-use Rattle.std.proofs.Common.{◌≡◌, ◌⊎◌, inl, inr, ⊎_elim, ℕ, ◌+◌, ◌-◌, ◌≤◌, ◌<◌, Bool, true, List, [], ◌∷◌, ◌++◌, length, replicate, refl, sym, ap, ◌∙◌, subst, arith}
-use Rattle.std.specs.Prelude.{slice_index}
-use Rattle.site.specs.declared.outside.Dev.TheVariants.{Log}
-use Rattle.site.specs.declared.geometry.Geometry.{Geometry}
-use Rattle.site.specs.State.{State, Image, Snapshot, IsSettled, IsQuiet}
-use Rattle.site.specs.Calls.{Preserves}
-use Rattle.site.specs.Moments.{Leaves, LeavesOnly, OnlyDevice}
-use Rattle.site.proofs.Laws.{leaves_weaker, leaves_others_too, no_call, settled_leaves, told_is, unchanged}
-use Rattle.sealed_ring.specs.declared.slots.Shape.{Shape}
-use Rattle.sealed_ring.specs.declared.ring.Ring.{Ring}
-use Rattle.sealed_ring.specs.Ring.{IsRing, SameOutside, units_of, appended}
-use Rattle.sealed_ring.specs.Ready.{region, IsReady, LeavesOldOrNew}
-use Rattle.sealed_ring.specs.Ready as ready
-use Rattle.log_records.specs.Spelling.{block, AreBlock}
-use Rattle.log_records.proofs.Blocks.{length-block}
-use Rattle.image_changes.specs.Rings.{Blocks, log_shape, units_on}
+use Rattle.log_store.proofs.Names.{◌≡◌, ◌⊎◌, inl, inr, ⊎_elim, ℕ, ◌+◌, ◌-◌, ◌≤◌, ◌<◌, Bool, true, List, [], ◌∷◌, ◌++◌, length, replicate, refl, sym, ap, ◌∙◌, subst, arith, slice_index, append_makes, append_done, reads_itself, Blocks, log_shape, units_on, length-block, AreBlock, LogList, sealed_if, changes_if, Invariant, HasRoom, Matches, Finds, HasBlocks, Represents, LeavesLog, KeepsBeside, LogStore, region, IsReady, LeavesOldOrNew, IsRing, SameOutside, units_of, appended, Ring, Shape, leaves_weaker, leaves_others_too, no_call, settled_leaves, told_is, unchanged, Preserves, Leaves, LeavesOnly, OnlyDevice, State, Image, Snapshot, IsSettled, IsQuiet, Geometry, Log}
+use Rattle.log_records.specs.Spelling.{block}
 use Rattle.image_changes.specs.Changes.{Change, SealsBlock, ReadsAs, Appends, Reaches}
 use Rattle.image_changes.specs.Reached.{IsReached, IsFrontOf, LeavesFront}
 use Rattle.image_changes.specs.Laws.{KeepsOrAppends}
-use Rattle.image_changes.proofs.Sequence.{reads_itself}
 use Rattle.image_changes.proofs.Adding.{none_made}
-use Rattle.image_changes.proofs.AppendLaws.{append_makes, append_done}
-use Rattle.log_store.specs.declared.store.LogStore.{LogStore}
-use Rattle.log_store.specs.LogList.{LogList, sealed_if, changes_if}
-use Rattle.log_store.specs.Representation.{Invariant, HasRoom, Matches, Finds, HasBlocks, Represents, LeavesLog, KeepsBeside}
 use Rattle.log_store.proofs.TailLaws.{tail_has_block}
 use Rattle.log_store.proofs.BlockLaws.{blocks_stay, blocks_more}
+use Rattle.sealed_ring.specs.Ready as ready
 
 -- where nothing is sealed
 pub none_left : (g : Geometry) (sealing : Bool) (log : LogList) (site : State) → IsSettled Log site → HasBlocks g log.first log.blocks site.image → LeavesOnly site site (LeavesLog g sealing log site.told)

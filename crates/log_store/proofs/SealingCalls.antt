@@ -1,17 +1,5 @@
 -- Calls that seal the tail where that is wanted: none of it, the same error again, and a record that is placed behind.
-use Rattle.std.proofs.Common.{◌≡◌, true≢false, Bool, false, refl, sym, subst, arith}
-use Rattle.std.specs.Prelude.{Ok, Err}
-use Rattle.site.specs.declared.outside.Dev.TheVariants.{Log}
-use Rattle.site.specs.declared.outside.Stop.{Stop}
-use Rattle.site.specs.declared.outside.Stop.TheVariants.{Device, Worn}
-use Rattle.site.specs.State.{State}
-use Rattle.site.specs.Moments.{SameBut}
-use Rattle.site.proofs.Laws.{no_call, goes_nowhere}
-use Rattle.site.proofs.Working.{no_error, err_again, same_error}
-use Rattle.image_changes.proofs.Sequence.{reads_itself}
-use Rattle.log_store.specs.declared.store.LogStore.{LogStore}
-use Rattle.log_store.specs.Representation.{Invariant}
-use Rattle.log_store.specs.Sealing.{SealsTail}
+use Rattle.log_store.proofs.Names.{◌≡◌, true≢false, Bool, false, refl, sym, subst, arith, Ok, Err, reads_itself, Invariant, SealsTail, LogStore, no_call, goes_nowhere, no_error, err_again, same_error, SameBut, State, Log, Stop, Device, Worn}
 use Rattle.log_store.proofs.NextBlocks.{next_nothing, next_failed}
 use Rattle.log_store.proofs.SealLaws.{none_left, none_front, none_beside}
 

@@ -1,31 +1,12 @@
 -- What stands on the devices.
-use Rattle.std.proofs.Common.{◌≡◌, ◌≢◌, ℕ, zero, suc, get_or, ◌+◌, ◌-◌, ◌%◌, ◌≤◌, ◌<◌, ◌*◌, ◌/◌, List, [], ◌∷◌, length, take, replicate, refl, sym, ap, ◌∙◌, subst, arith}
-use Rattle.std.specs.Prelude.{slice_index, Option}
-use Rattle.std.specs.List.{AllByRecursion}
-use Rattle.std.specs.Int.{w16, from_be_bytes}
-use Rattle.std.proofs.lemmas.List.{get_or-map, get_or-drop, length-replicate, take-take}
+use Rattle.log_store.proofs.Names.{◌≡◌, ◌≢◌, ℕ, zero, suc, get_or, ◌+◌, ◌-◌, ◌%◌, ◌≤◌, ◌<◌, ◌*◌, ◌/◌, List, [], ◌∷◌, length, take, replicate, refl, sym, ap, ◌∙◌, subst, arith, get_or-map, get_or-drop, length-replicate, take-take, w16, from_be_bytes, AllByRecursion, slice_index, Option, log_shape, units_on, used_is, entries_from, used_by, AreBlock, IsBlock, LogRecord, LogList, next_block, entries, at_lsn, sealed_block, Invariant, end_of, Matches, Finds, HasBlocks, HasRecords, Represents, block_on, LogStore, live_count, region, FitsIn, Units, IsLive, hi_of, units_of, unit_at, last_of, Shape, log_length, HasLimits, blank_image, State, Image, Geometry}
 use Rattle.std.proofs.lemmas.Nat.{mod_below, div-add-mod'}
-use Rattle.site.specs.declared.geometry.Geometry.{Geometry}
-use Rattle.site.specs.Geometry.{log_length}
-use Rattle.site.specs.State.{State, Image}
-use Rattle.sealed_ring.specs.declared.slots.Shape.{Shape}
-use Rattle.sealed_ring.specs.Ring.{FitsIn, Units, IsLive, hi_of, units_of, unit_at, last_of}
-use Rattle.sealed_ring.specs.Ready.{region}
 use Rattle.sealed_ring.proofs.Examples.{blank_is_ring}
 use Rattle.sealed_ring.proofs.Heads.{unit_is}
-use Rattle.sealed_ring.proofs.Units.{live_count}
-use Rattle.log_records.specs.declared.log_record.LogRecord.{LogRecord}
-use Rattle.log_records.specs.Spelling.{block, used_by, AreBlock, IsBlock}
-use Rattle.log_records.proofs.Blocks.{used_is}
-use Rattle.image_changes.specs.Rings.{log_shape, units_on}
-use Rattle.log_store.specs.declared.store.LogStore.{LogStore}
-use Rattle.log_store.specs.LogList.{LogList, next_block, entries, at_lsn, sealed_block}
-use Rattle.log_store.specs.Representation.{Invariant, end_of, Matches, Finds, HasBlocks, HasRecords, Represents, block_on}
-use Rattle.log_records.specs.Log.{entries_from}
+use Rattle.log_records.specs.Spelling.{block}
 use Rattle.log_store.proofs.BlockLaws.{blocks_stay}
 use Rattle.log_store.proofs.Finding.{in_block, in_tail, tail_has, block_has}
 use Rattle.log_store.specs.Laws.{FitsBeside, HoldsBeside}
-use Rattle.site.specs.Geometry.{HasLimits, blank_image}
 
 -- beside the log's ring
 

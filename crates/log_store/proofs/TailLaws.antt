@@ -1,18 +1,10 @@
 -- The tail's octets.
-use Rattle.std.proofs.Common.{◌*◌, Bool, true, false, ◌≡◌, IsTrue, ℕ, ◌+◌, ◌-◌, ◌≤◌, ◌<◌, List, [], ◌∷◌, ◌++◌, length, take, drop, replicate, refl, sym, ap, ◌∙◌, append_assoc, arith}
-use Rattle.std.proofs.lemmas.Bool.{cases_Bool, cond-true, cond-false}
-use Rattle.std.proofs.lemmas.Bool.Decides.{nat_tests}
-use Rattle.std.specs.Prelude.{flat_map, Some, None, nat_lt, if◌then◌else◌}
-use Rattle.std.specs.Int.{w16, to_be_bytes}
-use Rattle.std.proofs.lemmas.List.{take_at, drop_at, append-nil, length-append, length-take-le, drop-drop, drop-replicate, take-append-drop}
 use Rattle.std.proofs.lemmas.Grind.{flat_map-append}
-use Rattle.std_lemmas.proofs.AllOf.{all_push}
+use Rattle.log_store.proofs.Names.{◌*◌, Bool, true, false, ◌≡◌, IsTrue, ℕ, ◌+◌, ◌-◌, ◌≤◌, ◌<◌, List, [], ◌∷◌, ◌++◌, length, take, drop, replicate, refl, sym, ap, ◌∙◌, append_assoc, arith, cases_Bool, cond-true, cond-false, nat_tests, take_at, drop_at, append-nil, length-append, length-take-le, drop-drop, drop-replicate, take-append-drop, w16, to_be_bytes, flat_map, Some, None, nat_lt, if◌then◌else◌, content_spelling, IsShort, block_len, HasForm, FitsFields, AreBlock, LogRecord, HasTail, all_push}
 use Rattle.record_model.specs.State.{Content}
-use Rattle.log_records.specs.declared.log_record.LogRecord.{LogRecord}
 use Rattle.log_records.specs.declared.log_record.LogRecord.TheVariants.{Begin, Update, Clr, Commit, End}
-use Rattle.log_records.specs.Spelling.{spelling, content_spelling, IsShort, block, block_len, HasForm, FitsFields, AreBlock}
+use Rattle.log_records.specs.Spelling.{spelling, block}
 use Rattle.log_records.specs.Writes.{Writes}
-use Rattle.log_store.specs.Representation.{HasTail}
 
 -- behind the offset of their end, the tail's octets are the block of its records
 pub tail_is_block : (octets : List ℕ) (used : ℕ) (records : List LogRecord) → HasTail octets used records → to_be_bytes w16 used ++ drop 2 octets ≡ block records

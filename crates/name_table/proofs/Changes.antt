@@ -1,13 +1,7 @@
 -- What one changed bucket does to well-formed buckets.
-use Rattle.std.proofs.Common.{◌≡◌, ℕ, ◌<◌, List, Some, None, inl, inr, refl, ap, sym, ◌∙◌, subst, arith}
-use Rattle.std.proofs.lemmas.Bool.{cases_eq, cases_order}
-use Rattle.record_model.specs.declared.names.Bucket.{Bucket}
-use Rattle.record_model.specs.declared.names.Bucket.TheVariants.{Free, Tombstone, Entry, Strange}
-use Rattle.record_model.specs.Names.{home, probed, value_under, value_among, AreWellFormed}
-use Rattle.name_table.specs.Laws.{IsPassed}
+use Rattle.name_table.proofs.Names.{◌≡◌, ℕ, ◌<◌, List, Some, None, inl, inr, refl, ap, sym, ◌∙◌, subst, arith, mod-lt, cases_eq, cases_order, IsPassed, home, probed, value_under, value_among, AreWellFormed, Bucket, Free, Tombstone, Entry, Strange}
 use Rattle.name_table.proofs.Ring.{same_steps, steps_to}
 use Rattle.name_table.proofs.Values.{IsAbsent, stands, stands_alike, absent_none}
-use Rattle.std.proofs.Math.Nat.{mod-lt}
 
 -- the bucket of one place changes
 pub record Changed (f g : ℕ → Bucket) (place : ℕ) (b : Bucket) : Type 0 where

@@ -1,22 +1,8 @@
 -- Over any table: where Strange and NamesFull come, and that reads are few.
-use Rattle.std.proofs.Common.{◌≡◌, ℕ, ◌≤◌, List, Option, Some, None, inl, inr, refl, ap, sym, ◌∙◌, subst}
-use Rattle.std.specs.Option.{option_or}
-use Rattle.std.proofs.lemmas.Bool.{cases_order}
-use Rattle.std.proofs.Math.Nat.{mod-lt}
-use Rattle.record_model.specs.declared.names.Bucket.{Bucket}
-use Rattle.record_model.specs.declared.names.Bucket.TheVariants.{Free, Tombstone, Entry, Strange}
-use Rattle.record_model.specs.declared.names.Job.{Job}
-use Rattle.record_model.specs.declared.names.Job.TheVariants.{Find, Put, Remove}
-use Rattle.record_model.specs.declared.names.Ask.{Ask}
-use Rattle.record_model.specs.declared.names.Ask.TheVariants.{End}
-use Rattle.record_model.specs.declared.names.NameAnswer.TheVariants as answer
-use Rattle.record_model.specs.State.{Content}
-use Rattle.record_model.specs.Names.{bucket_count}
-use Rattle.record_model.specs.Probes.{record_at, met, missed}
-use Rattle.name_table.specs.Probing.{IsRead}
-use Rattle.name_table.specs.Laws.{IsOther, IsPassed, reached, IsFirstStrange, StrangeIsTold, HasNoRoom, FullIsTold, ReadsAreFew}
+use Rattle.name_table.proofs.Names.{◌≡◌, ℕ, ◌≤◌, List, Option, Some, None, inl, inr, refl, ap, sym, ◌∙◌, subst, mod-lt, cases_order, option_or, IsOther, IsPassed, reached, IsFirstStrange, StrangeIsTold, HasNoRoom, FullIsTold, ReadsAreFew, IsRead, bucket_count, record_at, met, missed, Content, Ask, End, Bucket, Free, Tombstone, Entry, Strange, Job, Find, Put, Remove}
 use Rattle.name_table.proofs.NameLaws.{each_other}
 use Rattle.name_table.proofs.Runs.{bucket_on, ArePassed, HasTombstone, Comes, meets, is_strange, is_free, passes_all, comes_to, met_settled, missed_settled}
+use Rattle.record_model.specs.declared.names.NameAnswer.TheVariants as answer
 
 -- What comes where the name is met, and where it is missed, is neither of the two.
 

@@ -1,3 +1,4 @@
+mod Names
 pub mod Ring
 pub mod Values
 pub mod Changes

@@ -1,16 +1,8 @@
 -- Over any table: where Found and Nothing come.
-use Rattle.std.proofs.Common.{◌≡◌, ℕ, ◌<◌, List, inl, inr, refl, ap, sym, ◌∙◌, arith}
-use Rattle.record_model.specs.declared.names.Bucket.{Bucket}
-use Rattle.record_model.specs.declared.names.Bucket.TheVariants.{Free, Entry, Strange}
-use Rattle.record_model.specs.declared.names.Job.TheVariants.{Find, Remove}
-use Rattle.record_model.specs.declared.names.Ask.{Ask}
-use Rattle.record_model.specs.declared.names.Ask.TheVariants.{Write, End}
-use Rattle.record_model.specs.declared.names.NameAnswer.TheVariants as answer
-use Rattle.record_model.specs.State.{Content}
-use Rattle.record_model.specs.Names.{bucket_count}
-use Rattle.name_table.specs.Laws.{IsPassed, IsMet, IsMissed, MetIsTold, MissedIsTold}
+use Rattle.name_table.proofs.Names.{◌≡◌, ℕ, ◌<◌, List, inl, inr, refl, ap, sym, ◌∙◌, arith, IsPassed, IsMet, IsMissed, MetIsTold, MissedIsTold, bucket_count, Content, Ask, Write, End, Bucket, Free, Entry, Strange, Find, Remove}
 use Rattle.name_table.proofs.FirstLaws.{ends_once, not_passed_strange, not_passed_free, not_passed_own}
 use Rattle.name_table.proofs.Runs.{bucket_on, ArePassed, Comes, meets, is_strange, is_free, passes_all, comes_to}
+use Rattle.record_model.specs.declared.names.NameAnswer.TheVariants as answer
 
 found_same : (a b : List ℕ) → End (answer.Found a) ≡ End (answer.Found b) → a ≡ b
 found_same a b e = cc

@@ -1,25 +1,12 @@
 -- Names are a map: what each line's probing comes to, over the values of a table.
-use Rattle.std.proofs.Common.{◌≡◌, ℕ, zero, suc, ◌+◌, ◌<◌, ◌≤◌, Bool, true, List, [], ◌++◌, length, replicate, Option, Some, None, inl, inr, refl, ap, sym, ◌∙◌, subst, arith, length-append}
-use Rattle.std.specs.Prelude.{◌⊎◌, ◌/◌, take, drop, slice_set, if◌then◌else◌}
+use Rattle.name_table.proofs.Names.{◌≡◌, ℕ, zero, suc, ◌+◌, ◌<◌, ◌≤◌, Bool, true, List, [], ◌++◌, length, replicate, Option, Some, None, inl, inr, refl, ap, sym, ◌∙◌, subst, arith, length-append, mod-lt, and_from, le-leb, ◌⊎◌, ◌/◌, take, drop, slice_set, if◌then◌else◌, IsOther, found, Writes, IsFull, NamesAreAMap, BlankIsWellFormed, IsName, entry, has_name, bucket_of, home, probed, bucket_count, bucket_at, value_under, value_among, names, AreWellFormed, IsWellFormed, record_at, Content, content_at, Ask, Write, End, Bucket, Free, Tombstone, Entry, Strange, Find, Put, Remove}
 use Rattle.std.proofs.Math.Seq.{take-append_seam, drop-append_seam}
-use Rattle.std.proofs.lemmas.Bool.{and_from, le-leb}
 use Rattle.std.proofs.lemmas.List.{get_or-set_other, get_or-set_same, length-set}
-use Rattle.record_model.specs.declared.names.Bucket.{Bucket}
-use Rattle.record_model.specs.declared.names.Bucket.TheVariants.{Free, Tombstone, Entry, Strange}
-use Rattle.record_model.specs.declared.names.Job.TheVariants.{Find, Put, Remove}
-use Rattle.record_model.specs.declared.names.Ask.{Ask}
-use Rattle.record_model.specs.declared.names.Ask.TheVariants.{Write, End}
-use Rattle.record_model.specs.declared.names.NameAnswer.TheVariants as answer
-use Rattle.record_model.specs.State.{Content, content_at}
-use Rattle.record_model.specs.Names.{entry, has_name, bucket_of, home, probed, bucket_count, bucket_at, value_under, value_among, names, AreWellFormed, IsWellFormed}
-use Rattle.record_model.specs.Probes.{record_at}
-use Rattle.name_table.specs.Probing.{IsName}
-use Rattle.name_table.specs.Laws.{IsOther, found, Writes, IsFull, NamesAreAMap, BlankIsWellFormed}
 use Rattle.name_table.proofs.Ring.{steps_to}
-use Rattle.std.proofs.Math.Nat.{mod-lt}
 use Rattle.name_table.proofs.Values.{IsAbsent, under_other, stands, absent_none}
 use Rattle.name_table.proofs.Changes.{Changed, probed_below, absent_behind, absent_all, put_formed, put_names, others_stay, removed_formed, removed_none, entries_differ, not_free}
 use Rattle.name_table.proofs.Runs.{bucket_on, ArePassed, HasTombstone, Comes, meets, is_strange, is_free, passes_all, comes_to}
+use Rattle.record_model.specs.declared.names.NameAnswer.TheVariants as answer
 
 -- The octets of an entry are read as one.
 pub reads_entry : (name value : List ℕ) → IsName name → length value ≤ 100 → bucket_of (Some (entry name value)) ≡ Entry name value

@@ -1,8 +1,5 @@
 -- Places on a ring: what is so many steps up from home, from the last place on to the first.
-use Rattle.std.proofs.Common.{◌≡◌, ℕ, ◌+◌, ◌<◌, ◌≤◌, inl, inr, sym, ◌∙◌, arith}
-use Rattle.std.specs.Prelude.{◌-◌, ◌%◌}
-use Rattle.std.proofs.Math.Nat.{mod-eq_of_lt, mod-eq-sub-mod}
-use Rattle.std.proofs.lemmas.Bool.{cases_lt}
+use Rattle.name_table.proofs.Names.{◌≡◌, ℕ, ◌+◌, ◌<◌, ◌≤◌, inl, inr, sym, ◌∙◌, arith, mod-eq_of_lt, mod-eq-sub-mod, cases_lt, ◌-◌, ◌%◌}
 
 around : (n x : ℕ) → n ≤ x → x < n + n → x % n ≡ x - n
 around n x over below = let rest : x - n < n = omega arith in mod-eq-sub-mod over ∙ mod-eq_of_lt rest

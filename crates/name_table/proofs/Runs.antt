@@ -1,22 +1,6 @@
 -- Where a probe comes to over the values of a table.
-use Rattle.std.proofs.Common.{◌≡◌, ℕ, zero, suc, ◌+◌, ◌<◌, ◌≤◌, Bool, true, false, List, Option, Some, None, refl, ap, sym, ◌∙◌, subst, arith, below_more}
-use Rattle.std.specs.Prelude.{nat_lt, if◌then◌else◌}
-use Rattle.std.specs.Option.{option_or}
-use Rattle.std.specs.Str.{bytes_eq}
-use Rattle.std.proofs.lemmas.Bool.{ltb-true, ltb-false}
-use Rattle.std.proofs.lemmas.Slice.Eq.{bytes_eq-Decides}
-use Rattle.record_model.specs.declared.names.Bucket.{Bucket}
-use Rattle.record_model.specs.declared.names.Bucket.TheVariants.{Free, Tombstone, Entry, Strange}
-use Rattle.record_model.specs.declared.names.Job.{Job}
-use Rattle.record_model.specs.declared.names.Job.TheVariants.{Find, Put, Remove}
-use Rattle.record_model.specs.declared.names.Ask.{Ask}
-use Rattle.record_model.specs.declared.names.Ask.TheVariants.{Read, Write, End}
+use Rattle.name_table.proofs.Names.{◌≡◌, ℕ, zero, suc, ◌+◌, ◌<◌, ◌≤◌, Bool, true, false, List, Option, Some, None, refl, ap, sym, ◌∙◌, subst, arith, below_more, ltb-true, ltb-false, bytes_eq-Decides, option_or, nat_lt, if◌then◌else◌, bytes_eq, IsOther, IsPassed, IsRead, probed, bucket_count, bucket_at, Probe, record_at, met, missed, passed_on, after_bucket, told_of, told_times, run_over, Content, Ask, Read, Write, End, Bucket, Free, Tombstone, Entry, Strange, Job, Find, Put, Remove}
 use Rattle.record_model.specs.declared.names.NameAnswer.TheVariants as answer
-use Rattle.record_model.specs.State.{Content}
-use Rattle.record_model.specs.Names.{probed, bucket_count, bucket_at}
-use Rattle.record_model.specs.Probes.{Probe, record_at, met, missed, passed_on, after_bucket, told_of, told_times, run_over}
-use Rattle.name_table.specs.Probing.{IsRead}
-use Rattle.name_table.specs.Laws.{IsOther, IsPassed}
 
 -- the bucket so many steps from home
 abbrev pub bucket_on : List Content → List ℕ → ℕ → Bucket

@@ -1,13 +1,5 @@
 -- What stands under a name, among buckets that are any function of their places.
-use Rattle.std.proofs.Common.{◌≡◌, ℕ, zero, suc, ◌<◌, ◌≤◌, Bool, true, false, List, Option, Some, None, inl, inr, refl, ap, sym, ◌∙◌, arith}
-use Rattle.std.specs.Prelude.{if◌then◌else◌}
-use Rattle.std.specs.Option.{option_or}
-use Rattle.std.specs.Str.{bytes_eq}
-use Rattle.std.proofs.lemmas.Slice.Eq.{bytes_eq-Decides}
-use Rattle.std.proofs.lemmas.Bool.{cases_eq, false_from_ne_true}
-use Rattle.record_model.specs.declared.names.Bucket.{Bucket}
-use Rattle.record_model.specs.declared.names.Bucket.TheVariants.{Free, Tombstone, Entry, Strange}
-use Rattle.record_model.specs.Names.{value_under, value_among, AreWellFormed}
+use Rattle.name_table.proofs.Names.{◌≡◌, ℕ, zero, suc, ◌<◌, ◌≤◌, Bool, true, false, List, Option, Some, None, inl, inr, refl, ap, sym, ◌∙◌, arith, cases_eq, false_from_ne_true, bytes_eq-Decides, option_or, if◌then◌else◌, bytes_eq, value_under, value_among, AreWellFormed, Bucket, Free, Tombstone, Entry, Strange}
 
 pub same_name : (name other : List ℕ) → bytes_eq other name ≡ true → other ≡ name
 same_name name other e = (bytes_eq-Decides other name).0 e

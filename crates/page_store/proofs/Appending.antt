@@ -1,29 +1,11 @@
 -- What a push appends: its group, and a segment before it where one is due.
-use Rattle.std.proofs.Common.{◌≡◌, ◌≢◌, ℕ, ◌+◌, ◌-◌, ◌<◌, ◌≤◌, Bool, true, false, cond, List, [], ◌∷◌, ◌++◌, length, drop, Some, ap, ◌∙◌, arith, append_assoc}
-use Rattle.std.specs.Prelude.{nat_le}
-use Rattle.std.specs.List.{AllByRecursion}
-use Rattle.std.proofs.lemmas.Bool.{leb-true, leb-false}
-use Rattle.std.proofs.lemmas.List.{length-map, length-append, drop-append-le}
-use Rattle.site.specs.declared.geometry.Geometry.{Geometry}
+use Rattle.page_store.proofs.Names.{◌≡◌, ◌≢◌, ℕ, ◌+◌, ◌-◌, ◌<◌, ◌≤◌, Bool, true, false, cond, List, [], ◌∷◌, ◌++◌, length, drop, Some, ap, ◌∙◌, arith, append_assoc, leb-true, leb-false, length-map, drop-append-le, AllByRecursion, nat_le, Frame, Stored, ring_kept, Change, AppendsGroup, ring_of, Reaches, RingName, Groups, Segments, group_shape, segment_shape, units_on, LogList, changes_if, LogStore, Standing, is_forced, staged_at, save_changes, group_at, push_changes, standing, AreReady, PageStore, Units, hi_of, appended, State, Image, Geometry, changes_of, changes_of_save}
+use Rattle.std.proofs.lemmas.List.{length-append}
 use Rattle.site.specs.Geometry.{HasLimits}
-use Rattle.site.specs.State.{State, Image}
-use Rattle.sealed_ring.specs.Ring.{Units, hi_of, appended}
-use Rattle.image_changes.specs.Rings.{RingName, Groups, Segments, group_shape, segment_shape, units_on}
-use Rattle.image_changes.specs.Changes.{Change, AppendsGroup, ring_of, Reaches}
-use Rattle.image_changes.proofs.Sequence.{ring_kept}
-use Rattle.stage_out.specs.Staged.{changes_of}
-use Rattle.frame_group.specs.Groups.{Frame as Stored}
-use Rattle.tail_rebuild.specs.Saving.{changes_of_save}
-use Rattle.flash_cache.specs.Representation as flash_cache
 use Rattle.image_meaning.proofs.WholePushes.{reaches_parts}
-use Rattle.buffer_pool.specs.declared.frame.Frame.{Frame}
-use Rattle.log_store.specs.declared.store.LogStore.{LogStore}
-use Rattle.log_store.specs.LogList.{LogList, changes_if}
-use Rattle.page_store.specs.declared.store.PageStore.{PageStore}
-use Rattle.page_store.specs.Leaves.{AreReady}
-use Rattle.page_store.specs.Changing.{Standing, is_forced, staged_at, save_changes, group_at, push_changes, standing}
 use Rattle.page_store.proofs.Changing.{HasPushed}
 use Rattle.std.proofs.lemmas.Grind.{common_steps}
+use Rattle.flash_cache.specs.Representation as flash_cache
 
 -- these changes append nothing to a ring
 abbrev NoneTo : RingName → List Change → Type 0

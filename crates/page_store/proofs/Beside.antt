@@ -1,16 +1,5 @@
 -- Stores beside calls of others.
-use Rattle.std.proofs.Common.{◌≡◌, ◌≢◌, ℕ, ◌*◌, ◌≤◌, List, [], ◌∷◌, arith, sym, ap, subst, ◌∙◌}
-use Rattle.site.specs.declared.outside.Dev.TheVariants.{Log, Flash, Disk}
-use Rattle.site.specs.declared.geometry.Geometry.{Geometry}
-use Rattle.site.proofs.Laws.{stays_honest}
-use Rattle.slotted_page.specs.Layout.{IsSound}
-use Rattle.image_changes.specs.Laws.{RingKept}
-use Rattle.flash_cache.specs.Representation.{version_on}
-use Rattle.buffer_pool.specs.declared.frame.Frame.{Frame}
-use Rattle.buffer_pool.specs.Frames.{frame_of}
-use Rattle.write_ahead.specs.Forcing.{IsLogged, end_forced}
-use Rattle.page_store.specs.Representation.{content_by}
-use Rattle.page_store.specs.Ahead.{AreLogged, sealed_end}
+use Rattle.page_store.proofs.Names.{◌≡◌, ◌≢◌, ℕ, ◌*◌, ◌≤◌, List, [], ◌∷◌, arith, sym, ap, subst, ◌∙◌, frame_of, Frame, version_on, RingKept, AreLogged, sealed_end, content_by, stays_honest, Geometry, Log, Flash, Disk, IsSound, IsLogged, end_forced}
 use Rattle.page_store.specs.Laws.{GoesOnBeside, FitsBeside, CurrentBeside, AheadBeside, VersionsBeside, LeavesBeside, SealedBeside}
 use Rattle.page_store.proofs.PushLaws.{version_same, clean_same, flash_fits_same, flash_holds_same, logged_more, force_leaves, force_sealed}
 use Rattle.page_store.proofs.Versions.{pages_later}

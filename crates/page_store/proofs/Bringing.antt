@@ -1,21 +1,8 @@
 -- A page is brought in, behind the eviction of another.
-use Rattle.std.proofs.Common.{◌≡◌, IsTrue, ℕ, ◌<◌, ◌≤◌, arith, sym, subst}
-use Rattle.std.specs.List.{AllByRecursion}
-use Rattle.site.specs.State.{State, Image, snapshot_of}
-use Rattle.site.specs.Calls.{IsUnchanged}
-use Rattle.flash_cache.specs.Representation.{version_on}
-use Rattle.buffer_pool.specs.declared.frame.Frame.{Frame}
-use Rattle.buffer_pool.specs.Frames.{front_of}
-use Rattle.log_store.specs.declared.store.LogStore.{LogStore}
-use Rattle.log_store.specs.LogList.{LogList}
-use Rattle.log_store.specs.Representation as log_store
-use Rattle.write_ahead.specs.Forcing.{IsLogged, end_forced}
-use Rattle.page_store.specs.declared.store.PageStore.{PageStore}
-use Rattle.page_store.specs.Representation.{Matches}
-use Rattle.page_store.specs.Ahead.{AreSealed, IsAhead, sealed_end}
-use Rattle.page_store.specs.Leaves.{AreReady, KeepsCurrent, PutsIn}
+use Rattle.page_store.proofs.Names.{◌≡◌, IsTrue, ℕ, ◌<◌, ◌≤◌, arith, sym, subst, AllByRecursion, front_of, Frame, version_on, LogList, LogStore, AreSealed, IsAhead, sealed_end, AreReady, KeepsCurrent, PutsIn, Matches, PageStore, IsUnchanged, State, Image, snapshot_of, IsLogged, end_forced}
 use Rattle.page_store.proofs.PushLaws.{logged_more}
 use Rattle.std.proofs.lemmas.Grind.{common_steps}
+use Rattle.log_store.specs.Representation as log_store
 
 -- a site of which nothing changed leaves the same snapshot
 pub snapshot_same : (old new : State) → IsUnchanged old new → snapshot_of new ≡ snapshot_of old

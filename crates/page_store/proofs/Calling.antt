@@ -1,42 +1,8 @@
 -- Calls on pages one after the other, each known by its record.
-use Rattle.std.proofs.Common.{◌≡◌, ℕ, ◌+◌, Bool, true, false, ◌||◌, List, [], ◌++◌, sym, subst, ap, ◌∙◌, arith}
-use Rattle.image_changes.proofs.Sequence.{reads_itself}
+use Rattle.page_store.proofs.Names.{◌≡◌, ℕ, ◌+◌, Bool, true, false, ◌||◌, List, [], ◌++◌, sym, subst, ap, ◌∙◌, arith, or_left, or_right, AllByRecursion, Result, Ok, Err, OnOk, IfErr, IsErrOf, Pool, sum_joined, AreCleanGiven, sum_of, calls_by, IsWorn, reads_itself, Change, Reaches, ChangesAddUp, FrontsAddUp, IsReached, IsFrontOf, LeavesFront, AreRingsSoundUnder, LogList, sealed_if, has_tail, HasRoom, LogStore, AreSealed, LeavesSealed, AreLogged, MayWork, KeepsInvariant, Pushes, StopsAtEnd, Keeps, Stands, KeepsGiven, StandsGiven, CallsForUnits, AreReady, LeavesPages, LeavesRings, AreGiven, KeepsCurrent, Invariant, current, PageStore, unchanged_calm, in_sequence, leaves_weaker, stays_honest, no_error, err_always, ok_as, ok_always, calls_then, calls_failed, IsUnchanged, Leaves, LeavesOnly, State, Image, IsQuiet, snapshot_of, Calls, Geometry, Log, Flash, Stop, Worn, Foreign, IsSound, IsLogged, end_forced, forces, IsLogAtEnd, Forces}
 use Rattle.log_store.proofs.SealLaws.{none_front}
-use Rattle.std.proofs.lemmas.Bool.{or_left, or_right}
-use Rattle.std.specs.Prelude.{Result, Ok, Err, OnOk, IfErr, IsErrOf}
-use Rattle.std.specs.List.{AllByRecursion}
-use Rattle.site.specs.declared.geometry.Geometry.{Geometry}
-use Rattle.site.specs.declared.outside.Dev.TheVariants.{Log, Flash}
-use Rattle.site.specs.declared.outside.Stop.{Stop}
-use Rattle.site.specs.declared.outside.Stop.TheVariants.{Worn, Foreign}
-use Rattle.site.specs.State.{State, Image, IsQuiet, snapshot_of}
-use Rattle.site.specs.Calls.{IsUnchanged}
-use Rattle.site.specs.Work.{Calls}
-use Rattle.site.specs.Moments.{Leaves, LeavesOnly}
-use Rattle.site.proofs.Laws.{unchanged_calm, in_sequence, leaves_weaker, stays_honest}
-use Rattle.site.proofs.Working.{no_error, err_always, ok_as, ok_always, calls_then, calls_failed}
-use Rattle.image_changes.specs.Changes.{Change, Reaches}
-use Rattle.image_changes.specs.Reached.{IsReached, IsFrontOf, LeavesFront}
-use Rattle.image_changes.specs.Laws.{ChangesAddUp, FrontsAddUp}
-use Rattle.image_changes.specs.Costs.{CallsForUnits}
-use Rattle.image_changes.proofs.Counting.{calls_none, calls_then as counts_then}
-use Rattle.image_meaning.specs.Beside.{AreRingsSoundUnder}
-use Rattle.slotted_page.specs.Layout.{IsSound}
-use Rattle.flash_cache.specs.Representation.{IsWorn}
-use Rattle.flash_cache.specs.Pushed.{sum_of, calls_by}
-use Rattle.flash_cache.specs.Kept.{AreCleanGiven}
-use Rattle.flash_cache.proofs.Written.{sum_joined}
-use Rattle.buffer_pool.specs.Frames.{State as Pool}
-use Rattle.log_store.specs.declared.store.LogStore.{LogStore}
-use Rattle.log_store.specs.Representation.{has_tail, HasRoom}
-use Rattle.log_store.specs.LogList.{LogList, sealed_if}
-use Rattle.write_ahead.specs.Forcing.{IsLogged, end_forced, forces, IsLogAtEnd, Forces}
-use Rattle.page_store.specs.declared.store.PageStore.{PageStore}
-use Rattle.page_store.specs.Representation.{Invariant, current}
-use Rattle.page_store.specs.Ahead.{AreSealed, LeavesSealed, AreLogged}
-use Rattle.page_store.specs.Leaves.{AreReady, LeavesPages, LeavesRings, AreGiven, KeepsCurrent}
+use Rattle.page_store.proofs.Counting.{calls_none, calls_then as counts_then}
 use Rattle.page_store.specs.Stopping.{MayStop}
-use Rattle.page_store.specs.Calls.{MayWork, KeepsInvariant, Pushes, StopsAtEnd, Keeps, Stands, KeepsGiven, StandsGiven}
 use Rattle.page_store.proofs.Evictions.{same_pages, stays_pages, stays_sealed}
 use Rattle.page_store.proofs.Bringing.{current_again}
 use Rattle.page_store.proofs.Rounds.{sealed_again, more_sealed, one_more_pages, one_more_push}
@@ -106,7 +72,7 @@ stands_still {log = log} {pages = pages} {pages' = pages'} {site = site} {list =
   rings = λ newest rings. rings;
   reaches = subst (λ (l : List Change). Reaches pages.flash.geometry l site.image site.image) (sym unchanged) (reads_itself pages.flash.geometry site.image);
   calls = omega (arith, ap (sum_of calls_by) unchanged);
-  device_calls = calls_none pages.flash.geometry site;
+  device_calls = λ quiet. calls_none pages.flash.geometry site;
 }
 
 -- A page is read behind a call that was Ok, or want of memory stops it.
@@ -202,9 +168,9 @@ keeps_then {pages = pages} {between = between} {before = before} {middle = middl
       readable = second.readable;
     }
 
-pub stands_then : {log mid new : LogStore} {pages between pages' : PageStore} {before middle now : State} {list : LogList} {b f : Bool} {c d : List Change} → ChangesAddUp → (b ≡ true → f ≡ false) → between.flash.geometry ≡ pages.flash.geometry →
+pub stands_then : {log mid new : LogStore} {pages between pages' : PageStore} {before middle now : State} {list : LogList} {b f : Bool} {c d : List Change} → ChangesAddUp → (b ≡ true → f ≡ false) → between.flash.geometry ≡ pages.flash.geometry → (IsQuiet before → IsQuiet middle) →
     Stands log mid pages between before middle list b c → Stands mid new between pages' middle now (sealed_if b list) f d → Stands log new pages pages' before now list (b || f) (c ++ d)
-stands_then {new = new} {pages = pages} {between = between} {pages' = pages'} {before = before} {middle = middle} {now = now} {list = list} {b = b} {f = f} {c = c} {d = d} law once geometry first second =
+stands_then {new = new} {pages = pages} {between = between} {pages' = pages'} {before = before} {middle = middle} {now = now} {list = list} {b = b} {f = f} {c = c} {d = d} law once geometry still first second =
     let g = pages.flash.geometry in
     let given = current pages before.image in
     let given' = current between middle.image in
@@ -219,7 +185,7 @@ stands_then {new = new} {pages = pages} {between = between} {pages' = pages'} {b
       rings = λ newest rings. subst (λ (k : Geometry). AreRingsSoundUnder newest k now.image) geometry (second.rings newest (subst (λ (k : Geometry). AreRingsSoundUnder newest k middle.image) (sym geometry) (first.rings newest rings)));
       reaches = law g c d before.image middle.image now.image first.reaches (subst (λ (k : Geometry). Reaches k d middle.image now.image) geometry second.reaches);
       calls = omega (arith, first.calls, second.calls, sum_joined calls_by c d);
-      device_calls = counts_then g before middle now first.device_calls (subst (λ (k : Geometry). CallsForUnits k middle now) geometry second.device_calls);
+      device_calls = λ quiet. counts_then g before middle now (first.device_calls quiet) (subst (λ (k : Geometry). CallsForUnits k middle now) geometry (second.device_calls (still quiet)));
     }
 
 -- more may be sealed, and more changes may be made

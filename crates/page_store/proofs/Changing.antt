@@ -1,34 +1,6 @@
 -- Lists of changes, call by call.
-use Rattle.std.proofs.Common.{◌≡◌, ℕ, zero, suc, ◌+◌, ◌*◌, ◌<◌, ◌≤◌, ◌==◌, Bool, true, false, not, ◌&&◌, cond, List, [], ◌∷◌, ◌++◌, length, get_or, map, drop, Option, Some, None, subst, refl, sym, ap, ◌∙◌, arith, append_assoc, append-nil}
-use Rattle.std.specs.List.{AllByRecursion}
-use Rattle.std.proofs.lemmas.Option.{none-some}
-use Rattle.std.proofs.lemmas.Bool.{eqb-true, eqb-false}
-use Rattle.write_ahead.specs.Forcing.{forces}
-use Rattle.page_store.specs.Representation.{content_by}
-use Rattle.page_store.specs.Leaves.{Gives}
-use Rattle.std.proofs.lemmas.List.{length-map}
-use Rattle.site.specs.declared.geometry.Geometry.{Geometry}
-use Rattle.site.specs.State.{State, Image}
-use Rattle.site.proofs.Laws.{leaves_weaker}
-use Rattle.image_changes.specs.Rings.{group_shape, units_on}
-use Rattle.image_changes.specs.Changes.{Change}
-use Rattle.image_changes.specs.Reached.{IsReached, IsFrontOf, LeavesFront}
-use Rattle.frame_group.specs.Groups.{Frame as Stored}
-use Rattle.flash_cache.specs.Pushed.{chance_marks, frames_given, pushed_queue}
-use Rattle.flash_cache.specs.Representation.{version_on}
-use Rattle.buffer_pool.specs.declared.frame.Frame.{Frame}
-use Rattle.buffer_pool.specs.Frames.{frame_of}
-use Rattle.log_store.specs.declared.store.LogStore.{LogStore}
-use Rattle.log_store.specs.LogList.{LogList, sealed_if}
-use Rattle.page_store.specs.declared.store.PageStore.{PageStore}
-use Rattle.log_store.specs.Representation.{has_tail}
-use Rattle.page_store.specs.Flushing.{saved_next, cleared_all, flushed_first}
-use Rattle.second_chance.specs.Queue.{frame_of as known_of}
-use Rattle.second_chance.specs.declared.frame.Frame.{Frame as Known}
-use Rattle.second_chance.specs.Machine.{chance_frame, wants_flush, rules_of, is_full as queue_is_full}
-use Rattle.page_store.specs.Changing.{Standing, stored, is_due_at, group_at, push_changes, standing, given_changes, changes_if_any, eviction_changes, cache_at, next_saved, after_push, pushes_changes}
-use Rattle.page_store.specs.Pulling.{evicted_frames}
 use Rattle.std.proofs.lemmas.Grind.{common_steps}
+use Rattle.page_store.proofs.Names.{◌≡◌, ℕ, zero, suc, ◌+◌, ◌*◌, ◌<◌, ◌≤◌, ◌==◌, Bool, true, false, not, ◌&&◌, cond, List, [], ◌∷◌, ◌++◌, length, get_or, map, drop, Option, Some, None, subst, refl, sym, ap, ◌∙◌, arith, append_assoc, append-nil, eqb-true, eqb-false, length-map, none-some, AllByRecursion, frame_of, Frame, chance_marks, frames_given, pushed_queue, version_on, Stored, Change, IsReached, IsFrontOf, LeavesFront, group_shape, units_on, LogList, sealed_if, has_tail, LogStore, Standing, stored, is_due_at, group_at, push_changes, standing, given_changes, changes_if_any, eviction_changes, cache_at, next_saved, after_push, pushes_changes, saved_next, cleared_all, flushed_first, Gives, evicted_frames, content_by, PageStore, chance_frame, wants_flush, rules_of, queue_is_full, known_of, Known, leaves_weaker, State, Image, Geometry, forces}
 
 -- What the first changes leave, more changes may leave too.
 pub front_more : (g : Geometry) (first more : List Change) (old new : State) → LeavesFront g first old new → LeavesFront g (first ++ more) old new

@@ -1,14 +1,6 @@
 -- The coldest changed pages.
-use Rattle.std.proofs.Common.{◌≡◌, ℕ, ◌-◌, ◌≤◌, true, cond, List, [], ◌∷◌, length, take, reverse, arith}
-use Rattle.std.specs.List.{AllByRecursion}
-use Rattle.std.proofs.lemmas.List.{length-take}
-use Rattle.std_lemmas.proofs.AllOf.{all_take, all_passed}
-use Rattle.buffer_pool.specs.declared.frame.Frame.{Frame}
-use Rattle.second_chance.specs.Queue.{Queue}
-use Rattle.second_chance.specs.Machine.{Rules}
-use Rattle.page_store.specs.Flushing.{changed_frames}
-use Rattle.page_store.specs.Pulling.{room_for_pages}
 use Rattle.std.proofs.lemmas.Grind.{common_steps}
+use Rattle.page_store.proofs.Names.{◌≡◌, ℕ, ◌-◌, ◌≤◌, true, cond, List, [], ◌∷◌, length, take, reverse, arith, length-take, AllByRecursion, Frame, changed_frames, room_for_pages, Rules, Queue, all_take, all_passed}
 
 abbrev pub if_changed : Frame → List Frame
 if_changed frame = cond frame.changed (frame ∷ []) []

@@ -1,15 +1,5 @@
 -- Pages are marked as unchanged.
-use Rattle.std.proofs.Common.{◌≡◌, ℕ, ◌==◌, Bool, true, false, not, ◌&&◌, ◌||◌, cond, List, [], ◌∷◌, ◌++◌, map, Option, Some, None, option_map, refl, sym, ap, subst, ◌∙◌}
-use Rattle.buffer_pool.proofs.Order.{page-cleared_at}
-use Rattle.std.specs.Prelude.{IsSome}
-use Rattle.std.specs.List.{AllByRecursion, list_any}
-use Rattle.std.proofs.lemmas.Bool.{eqb-true, eqb-false, eq-eqb, ne_eqb}
-use Rattle.buffer_pool.specs.declared.frame.Frame.{Frame}
-use Rattle.buffer_pool.specs.Frames.{frame_of, clear, cleared_at, cleared}
-use Rattle.buffer_pool.specs.Laws.{ClearedKeepsFrames}
-use Rattle.second_chance.specs.Machine.{saved, saved_page}
-use Rattle.page_store.specs.Caching.{pool_page}
-use Rattle.page_store.specs.Flushing.{cleared_all}
+use Rattle.page_store.proofs.Names.{◌≡◌, ℕ, ◌==◌, Bool, true, false, not, ◌&&◌, ◌||◌, cond, List, [], ◌∷◌, ◌++◌, map, Option, Some, None, option_map, refl, sym, ap, subst, ◌∙◌, eqb-true, eqb-false, eq-eqb, ne_eqb, AllByRecursion, list_any, IsSome, page-cleared_at, frame_of, clear, cleared_at, cleared, ClearedKeepsFrames, Frame, pool_page, cleared_all, saved, saved_page}
 
 -- one page more is cleared
 pub cleared_push : (pages : List ℕ) (page : ℕ) (frames : List Frame) → cleared_all (pages ++ page ∷ []) frames ≡ cleared (cleared_all pages frames) page

@@ -1,50 +1,16 @@
 -- Pages leave the pool with an eviction.
-use Rattle.std.proofs.Common.{◌≡◌, ◌≢◌, ◌⊎◌, inl, inr, ℕ, zero, suc, ◌-◌, ◌<◌, ◌≤◌, ◌==◌, Bool, true, false, not, ◌||◌, cond, List, [], ◌∷◌, ◌++◌, length, get_or, map, reverse, is_some, Option, Some, None, true≢false, arith, refl, sym, ap, subst, ◌∙◌, length-append}
-use Rattle.std.specs.Prelude.{AllPairs, IsSome}
-use Rattle.std.specs.List.{AllByRecursion}
-use Rattle.std.proofs.lemmas.Option.{none-some}
-use Rattle.std.proofs.lemmas.Bool.{cases_eq, eqb-false, eq-eqb, ne_eqb, or_parts, or_right}
-use Rattle.std.proofs.lemmas.List.{map-append, reverse-reverse}
-use Rattle.site.specs.State.{State, Image}
-use Rattle.flash_cache.specs.Representation.{version_on}
-use Rattle.flash_cache.specs.Pushed.{chance_marks, known_given, known_pushed, pages_pushed, pushed_queue}
-use Rattle.flash_cache.specs.Kept.{AreCleanGiven}
+use Rattle.page_store.proofs.Names.{◌≡◌, ◌≢◌, ◌⊎◌, inl, inr, ℕ, zero, suc, ◌-◌, ◌<◌, ◌≤◌, ◌==◌, Bool, true, false, not, ◌||◌, cond, List, [], ◌∷◌, ◌++◌, length, get_or, map, reverse, is_some, Option, Some, None, true≢false, arith, refl, sym, ap, subst, ◌∙◌, length-append, cases_eq, eqb-false, eq-eqb, ne_eqb, or_parts, or_right, map-append, reverse-reverse, length-map, none-some, AllByRecursion, AllPairs, IsSome, absent, Pool, AreDistinct, Knows, frame_of, is_framed, IsLast, WithoutTakesOne, Frame, AreCleanGiven, chance_marks, known_given, known_pushed, pages_pushed, pushed_queue, version_on, LogList, LogStore, evicted, AreLogged, pool_page, cache_of, rules_for as rules, MayWork, given_changes, eviction_changes, AreReady, AreGiven, Gives, AreChanged, KeepsCurrent, LeavesOut, mark_for, without_all, pulled, evicted_of, evicted_frames, IsPage, IsStore, IsTold, AreTold, Invariant, Matches, content_by, current, Has, PageStore, Rules, PoolPage, Cache, chance_frame, leaving, pool_marks, pool_frame, must_be_pushed, evict_first, evict_coldest, after_eviction, push_evicted, without, is_pulled, Placed, group_size, chances_of, pulled_at_eviction, Queue, has_frame, known_of, Known, State, Image, IsSound, all_both, all_reverse, all_map, all_weaker, all_at, IsLogged, forces, end_forced}
 use Rattle.flash_cache.specs.Laws.{UnframedIsDisk}
-use Rattle.buffer_pool.specs.declared.frame.Frame.{Frame}
-use Rattle.buffer_pool.specs.Frames.{State as Pool, AreDistinct, Knows, frame_of, is_framed}
-use Rattle.buffer_pool.specs.Laws.{IsLast, WithoutTakesOne}
-use Rattle.second_chance.specs.declared.frame.Frame.{Frame as Known}
-use Rattle.second_chance.specs.Queue.{Queue, has_frame, frame_of as known_of}
-use Rattle.second_chance.specs.Plans.{Placed, group_size, chances_of, pulled_at_eviction}
-use Rattle.second_chance.specs.Machine.{Rules, PoolPage, Cache, chance_frame, leaving, pool_marks, pool_frame, must_be_pushed, evict_first, evict_coldest, after_eviction, push_evicted, without, is_pulled}
-use Rattle.log_store.specs.declared.store.LogStore.{LogStore}
-use Rattle.log_store.specs.LogList.{LogList}
-use Rattle.write_ahead.specs.Forcing.{IsLogged, forces, end_forced}
-use Rattle.page_store.specs.declared.store.PageStore.{PageStore}
-use Rattle.page_store.specs.Representation.{IsPage, IsStore, IsTold, AreTold, Invariant, Matches, content_by, current}
-use Rattle.page_store.specs.Caching.{pool_page, cache_of, rules}
-use Rattle.page_store.specs.Ahead.{evicted}
-use Rattle.page_store.specs.Calls.{MayWork}
-use Rattle.page_store.specs.Pulling.{LeavesOut, mark_for, without_all, pulled, evicted_of, evicted_frames}
-use Rattle.page_store.specs.Leaves.{AreReady, AreGiven, Gives, AreChanged, KeepsCurrent}
-use Rattle.buffer_pool.proofs.Order.{absent}
 use Rattle.page_store.proofs.Clearing.{is_among}
-use Rattle.page_store.proofs.Saving.{distinct_reverse, found_all}
+use Rattle.page_store.proofs.Saving.{distinct_reverse, found_all, pages_apart}
 use Rattle.page_store.proofs.Removing.{none_either, absent_part, few_part, page_of, frames_without, all_left, pulled_few, all_pulled, pulled_move, pulled_apart, pool_left}
 use Rattle.page_store.proofs.Choosing.{room_some}
 use Rattle.page_store.proofs.Movable.{pulled_of}
 use Rattle.std.specs.List.{All}
-use Rattle.std.proofs.lemmas.List.{length-map}
-use Rattle.std_lemmas.proofs.AllOf.{all_both, all_reverse, all_map, all_weaker, all_at}
-use Rattle.slotted_page.specs.Layout.{IsSound}
-use Rattle.page_store.specs.Ahead.{AreLogged}
 use Rattle.page_store.proofs.Evictions.{all_front, distinct_front, reverse_last, not_forced}
 use Rattle.page_store.proofs.PushLaws.{or_listed}
-use Rattle.page_store.proofs.Saving.{pages_apart}
 use Rattle.page_store.proofs.Touching.{all_found}
-use Rattle.page_store.specs.Changing.{given_changes, eviction_changes}
 use Rattle.page_store.specs.declared.taking.EvictedPages.{EvictedPages}
-use Rattle.page_store.specs.Taking.{Has}
 use Rattle.page_store.proofs.Changing.{given_are, eviction_is}
 use Rattle.page_store.proofs.Flushes.{marks_turned, not_among}
 use Rattle.page_store.proofs.Calling.{AreItsOwn}

@@ -1,15 +1,5 @@
 -- A page enters the pool.
-use Rattle.std.proofs.Common.{◌≡◌, ℕ, ◌<◌, ◌==◌, Bool, true, false, cond, List, ◌∷◌, length, Some, None, arith, refl, sym, ap, subst, ◌∙◌}
-use Rattle.std.specs.Prelude.{Result, Ok, Err, OnOk, OnErr}
-use Rattle.std.proofs.lemmas.Bool.{eqb-true}
-use Rattle.site.specs.State.{State}
-use Rattle.flash_cache.specs.Representation.{version_on}
-use Rattle.buffer_pool.specs.declared.frame.Frame.{Frame}
-use Rattle.buffer_pool.specs.Frames.{State as Pool, frame_of, Knows}
-use Rattle.page_store.specs.declared.store.PageStore.{PageStore}
-use Rattle.page_store.specs.Representation.{IsPage, AreTold, Invariant, Matches}
-use Rattle.second_chance.specs.Queue.{has_frame}
-use Rattle.buffer_pool.proofs.Order.{absent}
+use Rattle.page_store.proofs.Names.{◌≡◌, ℕ, ◌<◌, ◌==◌, Bool, true, false, cond, List, ◌∷◌, length, Some, None, arith, refl, sym, ap, subst, ◌∙◌, eqb-true, Result, Ok, Err, OnOk, OnErr, absent, Pool, frame_of, Knows, Frame, version_on, IsPage, AreTold, Invariant, Matches, PageStore, has_frame, State}
 use Rattle.page_store.proofs.ToldPages.{told_put}
 
 pub put_fits : (store : PageStore) (pool : Pool) (frame : Frame) (site : State) → pool.frames ≡ frame ∷ store.pool.frames → frame.content ≡ version_on store.flash.geometry site.image frame.page

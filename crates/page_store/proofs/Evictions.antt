@@ -1,21 +1,5 @@
 -- The coldest page leaves the pool.
-use Rattle.std_lemmas.proofs.Bools.{and_false}
-use Rattle.std.proofs.Common.{◌≡◌, ◌≢◌, inl, ℕ, Bool, false, List, [], ◌∷◌, ◌++◌, reverse, refl, sym, subst}
-use Rattle.std.specs.List.{AllByRecursion}
-use Rattle.std.proofs.lemmas.List.{reverse-append}
-use Rattle.site.specs.declared.geometry.Geometry.{Geometry}
-use Rattle.site.specs.State.{State, IsQuiet, snapshot_of}
-use Rattle.site.specs.Moments.{Leaves, LeavesOnly}
-use Rattle.site.proofs.Laws.{no_call, quiet_leaves}
-use Rattle.buffer_pool.specs.declared.frame.Frame.{Frame}
-use Rattle.buffer_pool.specs.Frames.{AreDistinct}
-use Rattle.log_store.specs.declared.store.LogStore.{LogStore}
-use Rattle.log_store.specs.LogList.{LogList}
-use Rattle.log_store.specs.Representation.{has_tail, HasBlocks}
-use Rattle.write_ahead.specs.Forcing.{forces}
-use Rattle.page_store.specs.declared.store.PageStore.{PageStore}
-use Rattle.page_store.specs.Ahead.{AreSealed, LeavesSealed}
-use Rattle.page_store.specs.Leaves.{AreReady, LeavesPages}
+use Rattle.page_store.proofs.Names.{◌≡◌, ◌≢◌, inl, ℕ, Bool, false, List, [], ◌∷◌, ◌++◌, reverse, refl, sym, subst, reverse-append, AllByRecursion, AreDistinct, Frame, LogList, has_tail, HasBlocks, LogStore, AreSealed, LeavesSealed, AreReady, LeavesPages, PageStore, no_call, quiet_leaves, Leaves, LeavesOnly, State, IsQuiet, snapshot_of, Geometry, and_false, forces}
 
 -- a site that stays as it is
 pub same_pages : (store : PageStore) (log : LogStore) (given : ℕ → List ℕ) (sealing : Bool) (list : LogList) (site : State) → log.geometry ≡ store.flash.geometry → AreReady store log list site

@@ -1,20 +1,7 @@
 -- A store that fits its site, at its start and after a change.
-use Rattle.std.proofs.Common.{◌≡◌, ◌≢◌, ℕ, ◌<◌, true, false, List, [], ◌∷◌, length, drop, Option, Some, arith, sym, ap, subst, ◌∙◌, ◌⊎◌, inl, inr}
-use Rattle.std.specs.List.{AllByRecursion}
-use Rattle.std.proofs.lemmas.Option.{none-some}
-use Rattle.std.proofs.lemmas.Bool.{cases_eq}
-use Rattle.site.specs.declared.geometry.Geometry.{Geometry}
-use Rattle.site.specs.State.{State, Image}
-use Rattle.slotted_page.specs.Layout.{IsSound}
-use Rattle.frame_group.specs.Groups.{Frame as Stored}
-use Rattle.flash_cache.specs.Representation as flash_cache
-use Rattle.flash_cache.specs.Representation.{version_on, IsCleanOn}
-use Rattle.buffer_pool.specs.declared.frame.Frame.{Frame}
-use Rattle.buffer_pool.specs.Frames.{State as Pool, AreDistinct, ChangesFront, frame_of, front_of}
-use Rattle.buffer_pool.specs.Laws.{ChangesOne}
-use Rattle.page_store.specs.declared.store.PageStore.{PageStore}
-use Rattle.page_store.specs.Representation.{IsPage, AreTold, Invariant, Matches}
 use Rattle.std.proofs.lemmas.Grind.{common_steps}
+use Rattle.page_store.proofs.Names.{◌≡◌, ◌≢◌, ℕ, ◌<◌, true, false, List, [], ◌∷◌, length, drop, Option, Some, arith, sym, ap, subst, ◌∙◌, ◌⊎◌, inl, inr, cases_eq, none-some, AllByRecursion, Pool, AreDistinct, ChangesFront, frame_of, front_of, ChangesOne, Frame, version_on, IsCleanOn, Stored, IsPage, AreTold, Invariant, Matches, PageStore, State, Image, Geometry, IsSound}
+use Rattle.flash_cache.specs.Representation as flash_cache
 
 pub fits_at_start : (store : PageStore) (g : Geometry) (old new : State) (groups : List (List Stored)) → store.flash.geometry ≡ g → store.pool.frames ≡ []
     → new.image ≡ old.image → flash_cache.Matches store.flash new → flash_cache.Represents store.flash new.image groups → IsCleanOn g old.image

@@ -1,42 +1,12 @@
 -- Behind a push of changed pages.
-use Rattle.std.proofs.Common.{◌≡◌, inl, inr, ℕ, suc, ◌<◌, ◌≤◌, ◌==◌, Bool, true, false, true≢false, not, ◌&&◌, ◌||◌, cond, List, [], ◌∷◌, ◌++◌, length, get_or, take, map, filter, reverse, replicate, Option, Some, None, option_map, is_some, arith, refl, sym, ap, subst, ◌∙◌}
-use Rattle.buffer_pool.proofs.Order.{frame_page}
-use Rattle.std.specs.Prelude.{IsSome, Contains, Ok}
-use Rattle.std.specs.List.{All, AllByRecursion}
-use Rattle.std.proofs.lemmas.Option.{none-some}
-use Rattle.std.proofs.lemmas.Bool.{eqb-true}
-use Rattle.std.proofs.lemmas.List.{get_or_default, reverse-append, map-append, length-map, length-take-le, take-map}
-use Rattle.std_lemmas.proofs.AllOf.{all_weaker}
-use Rattle.site.specs.declared.geometry.Geometry.{Geometry}
-use Rattle.site.specs.State.{State, Image}
-use Rattle.flash_cache.specs.Representation.{version_on}
-use Rattle.flash_cache.specs.Pushed.{chance_marks, known_given}
-use Rattle.buffer_pool.specs.declared.frame.Frame.{Frame}
-use Rattle.buffer_pool.specs.Frames.{frame_of}
-use Rattle.buffer_pool.specs.Laws.{ClearedKeepsFrames}
-use Rattle.second_chance.specs.declared.plan.PoolMark.{PoolMark}
-use Rattle.second_chance.specs.Queue.{Queue, pushed, frame_of as known_of}
-use Rattle.second_chance.specs.Machine.{Cache, chance_frame, pool_mark, pool_frame, is_pulled, saved, push_changed, is_full}
-use Rattle.write_ahead.specs.Forcing.{IsLogged, end_forced}
-use Rattle.page_store.specs.declared.store.PageStore.{PageStore}
-use Rattle.page_store.specs.Representation.{IsPage, IsStore, Matches, content_by, current}
-use Rattle.page_store.specs.Caching.{pool_page, cache_of, rules}
-use Rattle.page_store.specs.Leaves.{Gives, KeepsCurrent}
-use Rattle.log_store.specs.declared.store.LogStore.{LogStore}
-use Rattle.log_store.specs.LogList.{LogList, sealed_if}
-use Rattle.image_changes.specs.Changes.{Change}
-use Rattle.second_chance.specs.Laws.{changed_count}
-use Rattle.page_store.specs.Calls.{Keeps, Stands}
-use Rattle.page_store.specs.Changing.{standing, push_changes, given_changes}
-use Rattle.page_store.specs.Flushing.{changed_frames, saved_next, content_in, cleared_all}
-use Rattle.page_store.specs.Pulling.{mark_for, room_for_pages}
+use Rattle.page_store.proofs.Names.{◌≡◌, inl, inr, ℕ, suc, ◌<◌, ◌≤◌, ◌==◌, Bool, true, false, true≢false, not, ◌&&◌, ◌||◌, cond, List, [], ◌∷◌, ◌++◌, length, get_or, take, map, filter, reverse, replicate, Option, Some, None, option_map, is_some, arith, refl, sym, ap, subst, ◌∙◌, eqb-true, get_or_default, reverse-append, map-append, length-map, length-take-le, take-map, none-some, AllByRecursion, IsSome, Contains, Ok, frame_page, frame_of, ClearedKeepsFrames, Frame, chance_marks, known_given, version_on, Change, LogList, sealed_if, LogStore, pool_page, cache_of, rules_for as rules, Keeps, Stands, standing, push_changes, given_changes, changed_frames, saved_next, content_in, cleared_all, Gives, KeepsCurrent, mark_for, room_for_pages, IsPage, IsStore, Matches, content_by, current, PageStore, changed_count, Cache, chance_frame, pool_mark, pool_frame, is_pulled, saved, push_changed, queue_is_full as is_full, Queue, pushed, known_of, PoolMark, State, Image, Geometry, IsSound, all_weaker, IsLogged, end_forced}
+use Rattle.std.specs.List.{All}
 use Rattle.page_store.proofs.PushLaws.{or_listed}
 use Rattle.page_store.proofs.Choosing.{first_changed, few_chosen, chosen_changed}
 use Rattle.page_store.proofs.Calling.{AreItsOwn}
 use Rattle.page_store.proofs.Changing.{given_is, known_pages, HasMade}
 use Rattle.page_store.proofs.Clearing.{frames_cleared, cleared_by, by_content, by_mark, is_among, pages_saved, all_pages}
 use Rattle.page_store.proofs.Saving.{all_true, known_changed, HasChosen, has_chosen, chosen_contents}
-use Rattle.slotted_page.specs.Layout.{IsSound}
 
 -- Which pages are listed.
 

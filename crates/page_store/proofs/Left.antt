@@ -1,16 +1,6 @@
 -- The changed pages that are left behind a push of the coldest ones.
-use Rattle.std_lemmas.proofs.Bools.{or_assoc}
-use Rattle.std.proofs.Common.{◌≡◌, ◌≢◌, ℕ, zero, suc, ◌<◌, ◌≤◌, ◌==◌, Bool, true, false, not, ◌&&◌, ◌||◌, cond, List, [], ◌∷◌, ◌++◌, length, min, take, drop, map, filter, reverse, append_assoc, length-append, arith, refl, sym, ap, ◌∙◌}
-use Rattle.std.proofs.lemmas.List.Sums.{length-filter, count_by-le-length}
-use Rattle.std.specs.List.{AllByRecursion, list_any}
-use Rattle.std.proofs.lemmas.Bool.{eq-eqb, ne_eqb, eqb-true, eqb-false}
-use Rattle.std.proofs.lemmas.List.{take_all, length-take, length-map, length-reverse}
-use Rattle.buffer_pool.proofs.Walks.{changed_more}
-use Rattle.std_lemmas.proofs.AllOf.{all_both}
-use Rattle.buffer_pool.specs.declared.frame.Frame.{Frame}
-use Rattle.buffer_pool.specs.Frames.{AreDistinct}
-use Rattle.page_store.specs.Caching.{pool_page}
-use Rattle.page_store.specs.Flushing.{changed_frames, cleared_all}
+use Rattle.page_store.proofs.Names.{◌≡◌, ◌≢◌, ℕ, zero, suc, ◌<◌, ◌≤◌, ◌==◌, Bool, true, false, not, ◌&&◌, ◌||◌, cond, List, [], ◌∷◌, ◌++◌, length, min, take, drop, map, filter, reverse, append_assoc, length-append, arith, refl, sym, ap, ◌∙◌, eq-eqb, ne_eqb, eqb-true, eqb-false, length-take, length-map, length-reverse, length-filter, count_by-le-length, AllByRecursion, list_any, changed_more, AreDistinct, Frame, pool_page, changed_frames, cleared_all, all_both, or_assoc}
+use Rattle.std.proofs.lemmas.List.{take_all}
 use Rattle.page_store.proofs.Choosing.{first_changed}
 use Rattle.page_store.proofs.Movable.{reverse_map}
 use Rattle.page_store.proofs.Clearing.{cleared_by, by_page, by_mark, is_among, all_cleared}

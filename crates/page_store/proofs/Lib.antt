@@ -1,3 +1,4 @@
+mod Names
 pub mod Appending
 pub mod Beside
 pub mod Bringing
@@ -5,6 +6,7 @@ pub mod Calling
 pub mod Changing
 pub mod Choosing
 pub mod Clearing
+pub mod Counting
 pub mod Departures
 pub mod Entering
 pub mod Evictions

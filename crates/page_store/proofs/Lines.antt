@@ -1,19 +1,7 @@
 -- The lines of a listing, one by one.
-use Rattle.std.proofs.Common.{◌≡◌, ℕ, suc, ◌+◌, List, [], ◌∷◌, ◌++◌, Bool, length, take, map, Some, arith, refl, sym, ap, ◌∙◌, append_assoc, append-nil}
-use Rattle.std.specs.Prelude.{slice_get}
-use Rattle.std.proofs.lemmas.Option.{slice_get_within}
-use Rattle.std.proofs.lemmas.List.{length-take-le}
-use Rattle.std_lemmas.proofs.Lists.{take_next}
-use Rattle.byte_fields.specs.declared.frame_head.Mark.{Mark}
-use Rattle.record_model.specs.declared.words.CacheLine.{CacheLine}
-use Rattle.record_model.specs.declared.words.CacheLine.TheVariants as line
-use Rattle.second_chance.specs.declared.frame.Frame.{Frame}
-use Rattle.second_chance.specs.Queue.{marks_of_groups}
-use Rattle.second_chance.specs.Machine.{PoolPage, frame_lines, group_lines}
-use Rattle.buffer_pool.specs.declared.frame.Frame.{Frame as Page}
-use Rattle.buffer_pool.specs.Frames.{mark_of}
-use Rattle.page_store.specs.Caching.{pool_page}
 use Rattle.std.proofs.lemmas.Grind.{common_steps}
+use Rattle.page_store.proofs.Names.{◌≡◌, ℕ, suc, ◌+◌, List, [], ◌∷◌, ◌++◌, Bool, length, take, map, Some, arith, refl, sym, ap, ◌∙◌, append_assoc, append-nil, length-take-le, slice_get_within, slice_get, mark_of, Frame as Page, Mark, pool_page, CacheLine, PoolPage, frame_lines, group_lines, marks_of_groups, Known as Frame, take_next}
+use Rattle.record_model.specs.declared.words.CacheLine.TheVariants as line
 
 pub more_frames : (group index : ℕ) (xs ys : List Mark) → frame_lines group index (xs ++ ys) ≡ frame_lines group index xs ++ frame_lines group (index + length xs) ys
 more_frames group index [] ys = ap (λ n. frame_lines group n ys) (let e : index ≡ index + 0 = omega arith in e)

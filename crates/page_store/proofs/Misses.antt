@@ -1,23 +1,5 @@
 -- What a touch of a page that isn't in the pool promises, by what bringing it in does.
-use Rattle.std.proofs.Common.{◌≡◌, ℕ, ◌+◌, ◌≤◌, false, None, arith, ap, ◌∙◌}
-use Rattle.std.specs.Prelude.{Result, OnOk, if◌then◌else◌}
-use Rattle.site.specs.declared.outside.Stop.{Stop}
-use Rattle.site.specs.State.{State}
-use Rattle.site.proofs.Working.{ok_as}
-use Rattle.record_model.specs.Touches.{touch}
-use Rattle.buffer_pool.specs.Frames.{frame_of}
-use Rattle.second_chance.specs.Machine.{in_front, touched, finds, misses, staged_by}
-use Rattle.log_store.specs.declared.store.LogStore.{LogStore}
-use Rattle.log_store.specs.LogList.{LogList}
-use Rattle.write_ahead.specs.Forcing.{forces}
-use Rattle.page_store.specs.declared.store.PageStore.{PageStore}
-use Rattle.page_store.specs.Caching.{cache_of, rules as rules_for, next_group, pushes}
-use Rattle.page_store.specs.Ahead.{pushed_for_room, pushed_by_touch}
-use Rattle.page_store.specs.Leaves.{AreReady}
-use Rattle.page_store.specs.Changing.{touch_changes}
-use Rattle.page_store.specs.Staging.{Stages}
-use Rattle.page_store.specs.Calls.{KeepsInvariant, StopsAtEnd, Keeps, Stands}
-use Rattle.page_store.specs.Rooms.{BringsIn}
+use Rattle.page_store.proofs.Names.{◌≡◌, ℕ, ◌+◌, ◌≤◌, false, None, arith, ap, ◌∙◌, Result, OnOk, if◌then◌else◌, frame_of, LogList, LogStore, pushed_for_room, pushed_by_touch, cache_of, rules_for, next_group, pushes, KeepsInvariant, StopsAtEnd, Keeps, Stands, touch_changes, AreReady, BringsIn, Stages, PageStore, touch, in_front, touched, finds, misses, staged_by, ok_as, State, Stop, forces}
 use Rattle.page_store.proofs.Touching.{way, pushed_same, pushes_same, finds_same, misses_same, count_if, other_count, changes_same, room_staged, room_next}
 use Rattle.page_store.proofs.Calling.{works_as, stops_as, keeps_as, stands_as}
 use Rattle.page_store.proofs.StagingLaws.{stages_as}

@@ -1,15 +1,6 @@
 -- Which pages a push at an eviction pulls.
-use Rattle.std_lemmas.proofs.Bools.{or_true}
-use Rattle.std.proofs.Common.{arith, ◌≡◌, ℕ, ◌≤◌, Bool, true, false, not, ◌||◌, cond, List, [], ◌∷◌, take, map, filter, reverse, refl, ap, ◌∙◌}
-use Rattle.std.proofs.lemmas.Simd.{map-map}
-use Rattle.std.proofs.lemmas.List.{map-append, reverse-append, take-take, take-map}
-use Rattle.std_lemmas.proofs.Lists.{filter_all}
-use Rattle.buffer_pool.specs.declared.frame.Frame.{Frame}
-use Rattle.second_chance.specs.declared.plan.PoolMark.{PoolMark}
-use Rattle.second_chance.specs.Queue.{Queue}
-use Rattle.page_store.specs.Pulling.{mark_for, movable_mark, movable}
-use Rattle.std_lemmas.proofs.AllOf.{all_each, all_map}
 use Rattle.std.proofs.lemmas.Grind.{common_steps}
+use Rattle.page_store.proofs.Names.{arith, ◌≡◌, ℕ, ◌≤◌, Bool, true, false, not, ◌||◌, cond, List, [], ◌∷◌, take, map, filter, reverse, refl, ap, ◌∙◌, map-append, reverse-append, take-take, take-map, map-map, Frame, mark_for, movable_mark, movable, Queue, PoolMark, all_each, all_map, or_true, filter_all}
 
 -- lists
 

@@ -1,21 +1,10 @@
 -- The next units of the rings over an honest site, whatever stands there: calls one after the other.
-use Rattle.std.proofs.Common.{arith, ◌≡◌, ◌≢◌, refl}
-use Rattle.std.specs.Prelude.{Result, Ok, Err, IsErrOf}
-use Rattle.site.specs.declared.outside.Dev.TheVariants.{Log, Flash}
-use Rattle.site.specs.declared.outside.Stop.{Stop}
-use Rattle.site.specs.declared.outside.Stop.TheVariants.{Worn}
-use Rattle.site.specs.State.{State}
-use Rattle.site.specs.Calls.{IsUnchanged}
-use Rattle.site.specs.Moments.{ChangesOnly}
-use Rattle.site.proofs.Working.{no_error}
+use Rattle.std.proofs.lemmas.Grind.{common_steps}
+use Rattle.page_store.proofs.Names.{arith, ◌≡◌, ◌≢◌, refl, Result, Ok, Err, IsErrOf, LogStore, KeepsNext, PageStore, no_error, IsUnchanged, ChangesOnly, State, Log, Flash, Stop, Worn}
 use Rattle.flash_cache.specs.Representation as flash_cache
 use Rattle.flash_cache.proofs.NextSegments as segments
-use Rattle.log_store.specs.declared.store.LogStore.{LogStore}
 use Rattle.log_store.specs.Representation as log_store
 use Rattle.log_store.proofs.NextBlocks as blocks
-use Rattle.page_store.specs.declared.store.PageStore.{PageStore}
-use Rattle.page_store.specs.Calls.{KeepsNext}
-use Rattle.std.proofs.lemmas.Grind.{common_steps}
 
 -- nothing is called
 pub next_still : {T : Type 0} (r : Result T Stop) {log : LogStore} {pages pages' : PageStore} {site : State} → pages'.flash ≡ pages.flash → (IsErrOf r (Worn Log) → ⊥) → (IsErrOf r (Worn Flash) → ⊥) → KeepsNext r log log pages pages' site site

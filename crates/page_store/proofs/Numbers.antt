@@ -1,12 +1,6 @@
 -- The numbers of the groups that a flush appends.
-use Rattle.std.proofs.Common.{◌≡◌, ℕ, zero, suc, ◌+◌, ◌≤◌, true, ◌&&◌, List, length, arith}
-use Rattle.std.specs.Prelude.{if◌then◌else◌}
-use Rattle.second_chance.specs.Machine.{Rules, PoolPage, Cache, must_be_pushed, after_eviction, evict_first, push_changed, flushed_by, flushed, wants_flush}
-use Rattle.second_chance.specs.Laws.{FlushGoesOn}
-use Rattle.second_chance.proofs.GroupCounts.{changed_next, evicted_next}
-use Rattle.page_store.specs.declared.store.PageStore.{PageStore}
-use Rattle.page_store.specs.Caching.{next_group, cache_of, rules as rules_for, is_full as has_no_room, first_pushed, is_pushed, with_way}
 use Rattle.std.proofs.lemmas.Grind.{common_steps}
+use Rattle.page_store.proofs.Names.{◌≡◌, ℕ, zero, suc, ◌+◌, ◌≤◌, true, ◌&&◌, List, length, arith, if◌then◌else◌, next_group, cache_of, rules_for, is_full as has_no_room, first_pushed, is_pushed, with_way, PageStore, changed_next, evicted_next, FlushGoesOn, Rules, PoolPage, Cache, must_be_pushed, after_eviction, evict_first, push_changed, flushed_by, flushed, wants_flush}
 
 -- a flush takes no group's number back
 flushed_by_next : (pushes : ℕ) (rules : Rules) (cache : Cache) → 1 ≤ rules.groups → next_group cache ≤ next_group (flushed_by pushes rules cache)

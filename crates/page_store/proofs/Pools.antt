@@ -1,18 +1,7 @@
 -- The pool as the machine sees it.
-use Rattle.std.proofs.Common.{arith, ◌≡◌, ◌≢◌, ℕ, ◌==◌, Bool, true, false, not, ◌&&◌, ◌||◌, cond, is_some, List, [], ◌∷◌, length, map, Some, None, refl, ap, subst, ◌∙◌}
-use Rattle.buffer_pool.proofs.Order.{absent, frame_page}
-use Rattle.std.proofs.Math.Bool.{or-false}
-use Rattle.std.specs.Prelude.{nat_le}
-use Rattle.std.specs.List.{AllByRecursion}
-use Rattle.std.proofs.lemmas.Option.{none-some}
-use Rattle.std.proofs.lemmas.Bool.{eqb-true, ne_eqb}
-use Rattle.buffer_pool.specs.declared.frame.Frame.{Frame}
-use Rattle.buffer_pool.specs.Frames as pool
-use Rattle.buffer_pool.specs.Frames.{AreDistinct, frame_of}
-use Rattle.second_chance.specs.Queue.{Queue, with_read}
-use Rattle.second_chance.specs.Machine.{Rules, Cache, holds, is_changed, without, touched, in_front, with_room, evict_coldest}
-use Rattle.page_store.specs.Caching.{pool_page}
 use Rattle.std.proofs.lemmas.Grind.{common_steps}
+use Rattle.page_store.proofs.Names.{arith, ◌≡◌, ◌≢◌, ℕ, ◌==◌, Bool, true, false, not, ◌&&◌, ◌||◌, cond, is_some, List, [], ◌∷◌, length, map, Some, None, refl, ap, subst, ◌∙◌, or-false, eqb-true, ne_eqb, none-some, AllByRecursion, nat_le, absent, frame_page, AreDistinct, frame_of, Frame, pool_page, Rules, Cache, holds, is_changed, without, touched, in_front, with_room, evict_coldest, Queue, with_read}
+use Rattle.buffer_pool.specs.Frames as pool
 
 pub is_held : (frames : List Frame) (page : ℕ) → holds (map pool_page frames) page ≡ is_some (frame_of frames page)
 is_held [] page = refl

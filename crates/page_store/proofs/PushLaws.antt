@@ -1,49 +1,14 @@
 -- A force of the log, and a push behind it.
-use Rattle.std.proofs.Common.{◌≡◌, ◌≢◌, ◌⊎◌, inl, inr, IsTrue, ℕ, zero, suc, ◌*◌, ◌<◌, ◌≤◌, Bool, true, false, List, [], ◌∷◌, ◌++◌, length, get_or, Some, arith, refl, sym, ap, subst, ◌∙◌, length-append, append-nil}
-use Rattle.std.specs.Prelude.{Result, Ok, Err, OnOk, OnErr, IsErrOf, Contains}
-use Rattle.std.specs.List.{AllByRecursion}
-use Rattle.std.proofs.lemmas.Bool.{cases_eq, true≢false}
-use Rattle.std.proofs.lemmas.List.{get_or_default}
-use Rattle.image_changes.proofs.Sequence.{units_then}
-use Rattle.std_lemmas.proofs.AllOf.{all_left}
-use Rattle.site.specs.declared.outside.Dev.{Dev}
-use Rattle.site.specs.declared.outside.Dev.TheVariants.{Log, Flash, Disk}
-use Rattle.site.specs.declared.geometry.Geometry.{Geometry}
-use Rattle.site.specs.State.{State, Image, Snapshot, MayStand, content_of, loose_of, snapshot_of, IsSettled, IsQuiet}
-use Rattle.site.specs.Calls.{Preserves}
-use Rattle.site.specs.Moments.{Leaves, LeavesOnly, ChangesOnly, Untouched}
-use Rattle.site.proofs.Laws.{leaves_weaker, leaves_others_too, untouched_leaves, each_both, each_weaker, settled_is, quiet_settled, stays_honest}
-use Rattle.sealed_ring.specs.Ring.{IsRing, hi_of, units_of}
+use Rattle.page_store.proofs.Names.{◌≡◌, ◌≢◌, ◌⊎◌, inl, inr, IsTrue, ℕ, zero, suc, ◌*◌, ◌<◌, ◌≤◌, Bool, true, false, List, [], ◌∷◌, ◌++◌, length, get_or, Some, arith, refl, sym, ap, subst, ◌∙◌, length-append, append-nil, cases_eq, get_or_default, AllByRecursion, Result, Ok, Err, OnOk, OnErr, IsErrOf, Contains, frame_of, Frame, page_on, GivesVersions, AreCleanGiven, LeavesClean, changes_of_push, changes_of_group, pushed_queue, pushed_groups, known_pushed, frames_pushed, version_on, IsCleanOn, HasGroups, AreSaved, FlashCache, Stored, group, units_then, Change, Reaches, ring_of, RingKept, IsReached, IsFrontOf, LeavesFront, Masters, master_shape, log_shape, group_shape, KeepsUnits, LogList, sealed_if, changes_if, HasBlocks, LeavesLog, LogStore, AreSealed, LeavesSealed, sealed_end, HasQueue, AreReady, LeavesPages, AreGiven, Gives, AreChanged, Matches, PageStore, IsRing, hi_of, units_of, leaves_weaker, leaves_others_too, untouched_leaves, each_both, each_weaker, settled_is, quiet_settled, stays_honest, Preserves, Leaves, LeavesOnly, ChangesOnly, Untouched, State, Image, Snapshot, MayStand, content_of, loose_of, snapshot_of, IsSettled, IsQuiet, Geometry, Dev, Log, Flash, Disk, IsSound, all_left, changes_of_save, IsLogged}
+use Rattle.std.proofs.lemmas.Bool.{true≢false}
 use Rattle.log_records.specs.declared.log_record.LogRecord.{LogRecord}
 use Rattle.sealed_ring.specs.declared.slots.Shape.{Shape}
-use Rattle.image_changes.specs.Rings.{Masters, master_shape, log_shape, group_shape, KeepsUnits}
-use Rattle.image_changes.specs.Changes.{Change, Reaches, ring_of}
-use Rattle.image_changes.specs.Reached.{IsReached, IsFrontOf, LeavesFront}
-use Rattle.image_changes.specs.Laws.{RingKept}
-use Rattle.tail_rebuild.specs.Saving.{changes_of_save}
-use Rattle.flash_cache.specs.Pushed.{changes_of_push, changes_of_group, pushed_queue, pushed_groups, known_pushed, frames_pushed}
-use Rattle.frame_group.specs.Groups.{Frame as Stored, group}
 use Rattle.frame_group.specs.Versions.{frames_of, version, CleanAsDisk}
-use Rattle.disk_pages.specs.Pages.{page_on}
-use Rattle.slotted_page.specs.Layout.{IsSound}
-use Rattle.flash_cache.specs.declared.cache.FlashCache.{FlashCache}
-use Rattle.flash_cache.specs.Representation as flash_cache
-use Rattle.flash_cache.specs.Representation.{version_on, IsCleanOn, HasGroups, AreSaved}
 use Rattle.tail_rebuild.proofs.Following.{saved_again}
-use Rattle.flash_cache.specs.Kept as kept
-use Rattle.flash_cache.specs.Kept.{GivesVersions, AreCleanGiven, LeavesClean}
-use Rattle.buffer_pool.specs.declared.frame.Frame.{Frame}
-use Rattle.buffer_pool.specs.Frames.{frame_of}
-use Rattle.log_store.specs.declared.store.LogStore.{LogStore}
-use Rattle.log_store.specs.LogList.{LogList, sealed_if, changes_if}
-use Rattle.log_store.specs.Representation as log_store
-use Rattle.log_store.specs.Representation.{HasBlocks, LeavesLog}
-use Rattle.write_ahead.specs.Forcing.{IsLogged}
-use Rattle.page_store.specs.declared.store.PageStore.{PageStore}
-use Rattle.page_store.specs.Representation.{Matches}
-use Rattle.page_store.specs.Ahead.{AreSealed, LeavesSealed, sealed_end}
-use Rattle.page_store.specs.Leaves.{HasQueue, AreReady, LeavesPages, AreGiven, Gives, AreChanged}
 use Rattle.std.proofs.lemmas.Grind.{common_steps}
+use Rattle.flash_cache.specs.Representation as flash_cache
+use Rattle.flash_cache.specs.Kept as kept
+use Rattle.log_store.specs.Representation as log_store
 
 -- blocks on a log device that is the same
 blocks_same : (g : Geometry) (first : ℕ) (blocks : List (List LogRecord)) (old new : Image) → new.log ≡ old.log → HasBlocks g first blocks old → HasBlocks g first blocks new

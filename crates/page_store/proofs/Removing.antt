@@ -1,29 +1,10 @@
 -- Pages leave the pool together.
-use Rattle.std.proofs.Common.{◌≡◌, ◌≢◌, ℕ, zero, suc, ◌-◌, ◌<◌, ◌≤◌, ◌==◌, Bool, true, false, not, ◌||◌, cond, List, [], ◌∷◌, ◌++◌, length, get_or, take, map, reverse, Option, Some, None, arith, refl, sym, ap, subst, ◌∙◌}
-use Rattle.std.proofs.lemmas.List.Sums.{length-filter, count_by-le-length}
-use Rattle.std.specs.Prelude.{slice_get}
-use Rattle.std.specs.List.{AllByRecursion}
-use Rattle.std.proofs.lemmas.Option.{get_or_from_slice_get}
-use Rattle.std.proofs.lemmas.Bool.{ne_eqb}
-use Rattle.std.proofs.lemmas.List.{length-take}
-use Rattle.std_lemmas.proofs.Bools.{eq_turned}
-use Rattle.std_lemmas.proofs.AllOf.{all_take, all_reverse, all_filter, all_passed, all_at}
-use Rattle.buffer_pool.specs.declared.frame.Frame.{Frame}
-use Rattle.buffer_pool.specs.Frames as pool
-use Rattle.buffer_pool.specs.Frames.{State as Pool, AreDistinct, Knows, frame_of}
-use Rattle.buffer_pool.specs.Laws.{WithoutTakesOne}
-use Rattle.second_chance.specs.declared.plan.PoolMark.{PoolMark}
-use Rattle.second_chance.specs.Queue.{Queue}
-use Rattle.second_chance.specs.Plans.{chances_of}
-use Rattle.second_chance.specs.Machine.{Rules, leaving, PoolPage, must_be_pushed, without, is_pulled}
-use Rattle.page_store.specs.declared.store.PageStore.{PageStore}
-use Rattle.page_store.specs.Representation.{IsPage, IsStore, AreTold}
-use Rattle.page_store.specs.Caching.{pool_page, rules}
-use Rattle.page_store.specs.Pulling.{mark_for, movable, without_all, LeavesOut, pulled_frames, pulled}
+use Rattle.page_store.proofs.Names.{◌≡◌, ◌≢◌, ℕ, zero, suc, ◌-◌, ◌<◌, ◌≤◌, ◌==◌, Bool, true, false, not, ◌||◌, cond, List, [], ◌∷◌, ◌++◌, length, get_or, take, map, reverse, Option, Some, None, arith, refl, sym, ap, subst, ◌∙◌, ne_eqb, length-take, length-filter, count_by-le-length, get_or_from_slice_get, AllByRecursion, slice_get, Pool, AreDistinct, Knows, frame_of, WithoutTakesOne, Frame, pool_page, rules_for as rules, mark_for, movable, without_all, LeavesOut, pulled_frames, pulled, IsPage, IsStore, AreTold, PageStore, Rules, leaving, PoolPage, must_be_pushed, without, is_pulled, chances_of, Queue, PoolMark, all_take, all_reverse, all_filter, all_passed, all_at, eq_turned}
 use Rattle.page_store.proofs.Pools.{pages_without}
 use Rattle.page_store.proofs.Clearing.{is_among}
 use Rattle.page_store.proofs.Saving.{distinct_filter, distinct_take, distinct_reverse, found_all}
 use Rattle.page_store.proofs.ToldPages.{told_without}
+use Rattle.buffer_pool.specs.Frames as pool
 
 abbrev pub page_of : Frame → ℕ
 page_of f = f.page

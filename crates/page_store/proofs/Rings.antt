@@ -1,29 +1,10 @@
 -- The rings stay sound at each moment.
-use Rattle.std.proofs.Common.{◌≡◌, ℕ, ◌+◌, ◌<◌, Bool, List, [], ◌∷◌, ◌++◌, map, sym, ap, subst, Option, arith}
-use Rattle.std.proofs.lemmas.Bool.{cases_lt, eqb-true, eqb-false}
-use Rattle.std.specs.List.{AllByRecursion}
-use Rattle.site.specs.declared.geometry.Geometry.{Geometry}
-use Rattle.site.specs.State.{State, Image, IsQuiet}
-use Rattle.site.specs.Moments.{Leaves, LeavesOnly}
-use Rattle.site.proofs.Laws.{leaves_weaker, no_call, quiet_leaves}
-use Rattle.slotted_page.specs.Layout.{IsSound}
-use Rattle.frame_group.specs.Groups.{Frame as Stored, group, IsGroup}
-use Rattle.sealed_ring.specs.Ring.{Units, hi_of}
-use Rattle.image_changes.specs.Rings.{Groups, Segments, group_shape, segment_shape, KeepsUnits}
-use Rattle.image_changes.specs.Changes.{Change, AppendsSegment, Makes}
-use Rattle.image_changes.specs.Reached.{IsReached, IsFrontOf, LeavesFront}
-use Rattle.log_store.specs.LogList.{LogList, changes_if}
+use Rattle.page_store.proofs.Names.{◌≡◌, ℕ, ◌+◌, ◌<◌, Bool, List, [], ◌∷◌, ◌++◌, map, sym, ap, subst, Option, arith, cases_lt, eqb-true, eqb-false, AllByRecursion, chance_marks, chance_given, frames_given, frames_pushed, changes_of_push, changes_of_group, version_on, FlashCache, Stored, group, IsGroup, Change, AppendsSegment, Makes, IsReached, IsFrontOf, LeavesFront, Groups, Segments, group_shape, segment_shape, KeepsUnits, AreRingsSoundUnder, KeepsRingsAll, RingsKeptUnder, LogList, changes_if, LeavesRings, Units, hi_of, Placed, leaves_weaker, no_call, quiet_leaves, Leaves, LeavesOnly, State, Image, IsQuiet, Geometry, IsSound}
 use Rattle.checkpoint.specs.declared.master.Master.{Master}
-use Rattle.flash_cache.specs.Pushed.{chance_marks, chance_given, frames_given, frames_pushed, changes_of_push, changes_of_group}
-use Rattle.flash_cache.specs.declared.cache.FlashCache.{FlashCache}
-use Rattle.flash_cache.specs.Representation as flash_cache
-use Rattle.flash_cache.specs.Representation.{version_on}
-use Rattle.second_chance.specs.Plans.{Placed}
 use Rattle.image_meaning.specs.Meaning.{IsFrameOf}
 use Rattle.image_meaning.specs.Changes.{SegmentIsDue, NoSegmentIsDue}
-use Rattle.image_meaning.specs.Beside.{AreRingsSoundUnder, KeepsRingsAll, RingsKeptUnder}
-use Rattle.page_store.specs.Leaves.{LeavesRings}
 use Rattle.std.proofs.lemmas.Grind.{common_steps}
+use Rattle.flash_cache.specs.Representation as flash_cache
 
 pub all_front : (g : Geometry) (image : Image) (front left : List Change) → KeepsRingsAll g image (front ++ left) → KeepsRingsAll g image front
 all_front g image [] left all = tt

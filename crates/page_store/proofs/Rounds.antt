@@ -1,18 +1,6 @@
 -- A flush, push by push.
-use Rattle.std.proofs.Common.{◌≡◌, ◌⊎◌, inl, inr, ℕ, ◌+◌, ◌*◌, ◌<◌, ◌≤◌, Bool, true, false, true≢false, ◌||◌, cond, List, [], ◌∷◌, ◌++◌, arith, refl, sym, ap, subst, ◌∙◌}
-use Rattle.std.proofs.Math.Bool.{or-false, or-true}
-use Rattle.std.specs.Prelude.{nat_lt}
-use Rattle.std.proofs.lemmas.Bool.Decides.{nat_tests}
-use Rattle.image_changes.proofs.Sequence.{units_then}
-use Rattle.site.specs.declared.geometry.Geometry.{Geometry}
-use Rattle.site.specs.State.{State, Snapshot, snapshot_of}
-use Rattle.site.specs.Moments.{Leaves, LeavesOnly}
-use Rattle.site.proofs.Laws.{in_sequence, leaves_weaker, holds_now}
-use Rattle.image_changes.specs.Rings.{master_shape}
-use Rattle.log_store.specs.LogList.{LogList, sealed_if}
-use Rattle.log_store.specs.Representation.{HasBlocks, LeavesLog}
-use Rattle.page_store.specs.Leaves.{LeavesPages}
 use Rattle.std.proofs.lemmas.Grind.{common_steps}
+use Rattle.page_store.proofs.Names.{◌≡◌, ◌⊎◌, inl, inr, ℕ, ◌+◌, ◌*◌, ◌<◌, ◌≤◌, Bool, true, false, true≢false, ◌||◌, cond, List, [], ◌∷◌, ◌++◌, arith, refl, sym, ap, subst, ◌∙◌, or-false, or-true, nat_tests, nat_lt, units_then, master_shape, LogList, sealed_if, HasBlocks, LeavesLog, LeavesPages, in_sequence, leaves_weaker, holds_now, Leaves, LeavesOnly, State, Snapshot, snapshot_of, Geometry}
 
 -- Blocks and tail: where there is one block more, there was a tail and is none.
 

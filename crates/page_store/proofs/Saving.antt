@@ -1,26 +1,7 @@
 -- The coldest changed pages are saved.
-use Rattle.std.proofs.Common.{◌≡◌, ◌≢◌, ℕ, zero, suc, ◌<◌, ◌≤◌, Bool, true, false, true≢false, ◌||◌, cond, List, [], ◌∷◌, ◌++◌, length, get_or, take, map, filter, reverse, replicate, Option, Some, None, is_some, arith, refl, sym, ap, subst, ◌∙◌, length-append}
+use Rattle.page_store.proofs.Names.{◌≡◌, ◌≢◌, ℕ, zero, suc, ◌<◌, ◌≤◌, Bool, true, false, true≢false, ◌||◌, cond, List, [], ◌∷◌, ◌++◌, length, get_or, take, map, filter, reverse, replicate, Option, Some, None, is_some, arith, refl, sym, ap, subst, ◌∙◌, length-append, eq-eqb, ne_eqb, reverse-append, length-take, AllByRecursion, list_any, IsSome, AllPairs, changed_more, AreDistinct, frame_of, Frame, AreCleanGiven, known_given, version_on, FlashCache, pool_page, rules_for as rules, changed_frames, saved_next, content_in, flushed_first, AreGiven, AreChanged, room_for_pages, IsPage, content_by, current, PageStore, known_of, Image, all_both, all_take, all_reverse, all_map, all_filter, all_weaker, all_at}
 use Rattle.flash_cache.proofs.Given.{all_append}
-use Rattle.std.specs.Prelude.{IsSome, AllPairs}
-use Rattle.std.specs.List.{All, AllByRecursion, list_any}
-use Rattle.std.proofs.lemmas.Bool.{eq-eqb, ne_eqb}
-use Rattle.std.proofs.lemmas.List.{reverse-append, length-take}
-use Rattle.buffer_pool.proofs.Walks.{changed_more}
-use Rattle.std_lemmas.proofs.AllOf.{all_both, all_take, all_reverse, all_map, all_filter, all_weaker, all_at}
-use Rattle.site.specs.State.{Image}
-use Rattle.flash_cache.specs.Representation.{version_on}
-use Rattle.flash_cache.specs.Pushed.{known_given}
-use Rattle.flash_cache.specs.Kept.{AreCleanGiven}
-use Rattle.flash_cache.specs.declared.cache.FlashCache.{FlashCache}
-use Rattle.buffer_pool.specs.declared.frame.Frame.{Frame}
-use Rattle.buffer_pool.specs.Frames.{AreDistinct, frame_of}
-use Rattle.second_chance.specs.Queue.{frame_of as known_of}
-use Rattle.page_store.specs.declared.store.PageStore.{PageStore}
-use Rattle.page_store.specs.Representation.{IsPage, content_by, current}
-use Rattle.page_store.specs.Caching.{pool_page, rules}
-use Rattle.page_store.specs.Pulling.{room_for_pages}
-use Rattle.page_store.specs.Leaves.{AreGiven, AreChanged}
-use Rattle.page_store.specs.Flushing.{changed_frames, saved_next, content_in, flushed_first}
+use Rattle.std.specs.List.{All}
 use Rattle.page_store.proofs.Choosing.{first_changed, if_changed, chosen_changed}
 use Rattle.std.proofs.lemmas.Grind.{common_steps}
 

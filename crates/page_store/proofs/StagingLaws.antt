@@ -1,47 +1,13 @@
 -- What calls on pages write, one after the other.
-use Rattle.std.proofs.Common.{◌≡◌, ◌≢◌, ◌⊎◌, inl, inr, ⊎_elim, IsTrue, ℕ, zero, suc, ◌+◌, ◌*◌, ◌<◌, ◌≤◌, List, [], ◌∷◌, ◌++◌, length, drop, map, reverse, Bool, true, false, append_assoc, append-nil, arith, refl, sym, ap, subst, ◌∙◌}
-use Rattle.std.specs.Prelude.{Result, Ok, Err, OnOk, if◌then◌else◌}
+use Rattle.page_store.proofs.Names.{◌≡◌, ◌≢◌, ◌⊎◌, inl, inr, ⊎_elim, IsTrue, ℕ, zero, suc, ◌+◌, ◌*◌, ◌<◌, ◌≤◌, List, [], ◌∷◌, ◌++◌, length, drop, map, reverse, Bool, true, false, append_assoc, append-nil, arith, refl, sym, ap, subst, ◌∙◌, eqb-true, map-append, Contains-append_left, Contains-append_right, AllByRecursion, Result, Ok, Err, OnOk, if◌then◌else◌, slice_index, Frame, page_on, wrote, rewritten, groups_by, segments_by, front_rewritten, front_sum, push_rewrites, push_groups, push_segments, save_rewrites, save_groups, save_segments, staged_pages, staged_marks, changes_of_push, sum_of, front_leaves, pushed_queue, disk_on, FlashCache, Stored, Change, LeavesFront, IsReached, IsFrontOf, group_shape, segment_shape, pool_page, cache_of, rules_for as rules, next_group, first_pushed, is_pushed, staging_calls, CallsForStaged, Invariant, Matches, pages_staged, staged_by_eviction, SavesBefore, WritesOnly, HasQueueOn, Stages, PageStore, flush, hi_of, FlushGoesOn, FlushEnds, Rules, Cache, Staged, must_be_pushed, staged_in_push, staged_by, push_changed, wants_flush, Placed, Queue, Known, in_sequence, leaves_weaker, untouched_leaves, others_untouched, each_both, each_weaker, settled_is, quiet_settled, quiet_leaves, no_call, unchanged_calm, holds_now, stays_honest, unchanged, ok_as, ok_always, IsUnchanged, Leaves, LeavesOnly, ChangesOnly, since, State, Image, Moment, Snapshot, MayStand, loose_of, content_of, IsQuiet, Calls, Geometry, Dev, Log, Flash, Disk, Stop, calls_of, unsynced_in, IsInNoSlot, LeavesGaps, is_due, changes_of_save}
 use Rattle.std.specs.List.{Contains}
-use Rattle.std.proofs.lemmas.Bool.{eqb-true}
-use Rattle.std.proofs.lemmas.List.{map-append}
-use Rattle.std.proofs.lemmas.List.Elements.{Contains-append_left, Contains-append_right}
-use Rattle.site.specs.declared.outside.Dev.{Dev}
-use Rattle.site.specs.declared.outside.Dev.TheVariants.{Log, Flash, Disk}
-use Rattle.site.specs.declared.outside.Stop.{Stop}
-use Rattle.site.specs.declared.geometry.Geometry.{Geometry}
-use Rattle.site.specs.State.{State, Image, Moment, Snapshot, MayStand, loose_of, content_of, IsQuiet}
-use Rattle.site.specs.Calls.{IsUnchanged}
-use Rattle.site.specs.Work.{Calls}
-use Rattle.site.specs.Moments.{Leaves, LeavesOnly, ChangesOnly, since}
-use Rattle.site.proofs.Laws.{in_sequence, leaves_weaker, untouched_leaves, others_untouched, each_both, each_weaker, settled_is, quiet_settled, quiet_leaves, no_call, unchanged_calm, holds_now, stays_honest, unchanged}
-use Rattle.site.proofs.Working.{ok_as, ok_always}
-use Rattle.sealed_ring.specs.Ring.{hi_of}
-use Rattle.image_changes.specs.Rings.{group_shape, segment_shape}
-use Rattle.image_changes.specs.Changes.{Change}
-use Rattle.image_changes.specs.Reached.{LeavesFront, IsReached, IsFrontOf}
-use Rattle.disk_pages.specs.Pages.{page_on}
-use Rattle.second_chance.specs.Queue.{Queue}
-use Rattle.second_chance.specs.Plans.{Placed}
-use Rattle.second_chance.specs.Machine.{Rules, Cache, Staged, must_be_pushed, staged_in_push, staged_by, push_changed, wants_flush}
-use Rattle.second_chance.specs.Laws.{FlushGoesOn, FlushEnds}
-use Rattle.record_model.specs.Touches.{flush}
-use Rattle.tail_rebuild.specs.Saving.{is_due, changes_of_save}
-use Rattle.flash_cache.specs.declared.cache.FlashCache.{FlashCache}
-use Rattle.flash_cache.specs.Representation as flash_cache
-use Rattle.flash_cache.specs.Representation.{disk_on}
-use Rattle.flash_cache.specs.Pushed.{staged_pages, staged_marks, changes_of_push, sum_of}
-use Rattle.frame_group.specs.Groups.{Frame as Stored}
-use Rattle.buffer_pool.specs.declared.frame.Frame.{Frame}
-use Rattle.page_store.specs.declared.store.PageStore.{PageStore}
-use Rattle.page_store.specs.Caching.{pool_page, cache_of, rules, next_group, first_pushed, is_pushed}
-use Rattle.page_store.specs.Representation.{Invariant, Matches}
 use Rattle.flash_cache.specs.OnDisk.{HasFrameAt, HasLastStaged, SomeMoment}
 use Rattle.flash_cache.proofs.SomeMoments.{some_after_reads, some_behind, some_first}
-use Rattle.page_store.specs.Staging.{pages_staged, staged_by_eviction, SavesBefore, WritesOnly, HasQueueOn, Stages}
+use Rattle.page_store.proofs.Counting.{staged_counts_none, staged_counts_then, unsynced_logged}
 use Rattle.page_store.proofs.PushLaws.{flash_fits_same, flash_holds_same}
 use Rattle.page_store.proofs.Evictions.{reverse_last}
-use Rattle.flash_cache.proofs.Written.{wrote, rewritten, groups_by, segments_by, front_rewritten, front_sum, push_rewrites, push_groups, push_segments, save_rewrites, save_groups, save_segments}
 use Rattle.std.proofs.lemmas.Grind.{common_steps}
+use Rattle.flash_cache.specs.Representation as flash_cache
 
 -- Images.
 
@@ -57,7 +23,7 @@ saves_then next a b c h h2 = grind (arith, common_steps)
 
 pub written_weaker : (g : Geometry) (staged more : List Staged) (next next' : ℕ) (old now : Image) → ((page : ℕ) → Contains (pages_staged staged) page → Contains (pages_staged more) page) → next ≤ next' →
     WritesOnly g staged next old now → WritesOnly g more next' old now
-written_weaker g staged more next next' old now among up only = record { groups = (let low = only.groups in omega (arith, low, up)); segments = saves_up next next' _ _ up only.segments; disk = λ page out. only.disk page (λ is. out (among page is)) }
+written_weaker g staged more next next' old now among up only = record { groups = (let low = only.groups in omega (arith, low, up)); segments = saves_up next next' _ _ up only.segments; gaps = only.gaps; disk = λ page out. only.disk page (λ is. out (among page is)) }
 
 pub among_first : (staged more : List Staged) (page : ℕ) → Contains (pages_staged staged) page → Contains (pages_staged (staged ++ more)) page
 among_first staged more page is = subst (λ (l : List ℕ). Contains l page) (sym (map-append (λ (f : Staged). f.page) staged more)) (Contains-append_left (pages_staged staged) (pages_staged more) page is)
@@ -70,6 +36,7 @@ pub written_then : (g : Geometry) (staged more : List Staged) (next next' : ℕ)
 written_then g staged more next next' a b c up one two = record {
   groups = two.groups;
   segments = saves_then next' _ _ _ (saves_up next next' _ _ up one.segments) two.segments;
+  gaps = λ p beside other. two.gaps p beside other ∙ one.gaps p beside other;
   disk = λ page out. two.disk page (λ is. out (among_later staged more page is)) ∙ one.disk page (λ is. out (among_first staged more page is));
 }
 
@@ -137,22 +104,29 @@ queue_same store other old new same flash honest has = grind (arith, common_step
 abbrev pub Leaving : Geometry → List Staged → ℕ → State → State → Type 0
 Leaving g staged next old now = LeavesOnly old now (λ s. WritesOnly g staged next old.image s.image)
 
--- of the first ones of some changes
-pub front_writes : (g : Geometry) (changes : List Change) (staged : List Staged) (next : ℕ) (old now : State) → hi_of (group_shape g) old.image.flash + sum_of groups_by changes ≤ next → (1 ≤ sum_of segments_by changes → 4 * (hi_of (segment_shape g) old.image.flash + sum_of segments_by changes) < next) →
-    ((page : ℕ) → Contains (rewritten changes) page → Contains (pages_staged staged) page) → LeavesFront g changes old now → Leaving g staged next old now
-front_writes g changes staged next old now low early among front = leaves_weaker old now (IsReached g (IsFrontOf changes) old) (λ s. WritesOnly g staged next old.image s.image) within front
+-- what a push leaves of the gaps in a snapshot
+abbrev KeepsGaps : Geometry → State → Snapshot → Type 0
+KeepsGaps g old s = (p : ℕ) → IsInNoSlot (group_shape g) p → IsInNoSlot (segment_shape g) p → slice_index s.image.flash p ≡ slice_index old.image.flash p
+
+-- of the first ones of some changes, beside which the gaps stay
+front_writes : (g : Geometry) (changes : List Change) (staged : List Staged) (next : ℕ) (old now : State) → hi_of (group_shape g) old.image.flash + sum_of groups_by changes ≤ next → (1 ≤ sum_of segments_by changes → 4 * (hi_of (segment_shape g) old.image.flash + sum_of segments_by changes) < next) →
+    ((page : ℕ) → Contains (rewritten changes) page → Contains (pages_staged staged) page) → LeavesFront g changes old now → LeavesGaps g old now → Leaving g staged next old now
+front_writes g changes staged next old now low early among front gaps =
+    each_weaker old now (λ m. Leaves (IsReached g (IsFrontOf changes) old) m × Leaves (KeepsGaps g old) m) (Leaves (λ s. WritesOnly g staged next old.image s.image)) (λ m both s left. within s (both.0 s left) (both.1 s left))
+    (each_both old now (Leaves (IsReached g (IsFrontOf changes) old)) (Leaves (KeepsGaps g old)) front gaps)
   where
     -- those of the first changes are none, or no more than all
     by : (s : Snapshot) (n : ℕ) → hi_of (segment_shape g) s.image.flash ≡ hi_of (segment_shape g) old.image.flash + n → n ≤ sum_of segments_by changes → SavesBefore next (hi_of (segment_shape g) old.image.flash) (hi_of (segment_shape g) s.image.flash)
     by s zero are few = inl (omega (arith, are))
     by s (suc n) are few = let low = early (omega (arith, few)) in inr (omega (arith, are), omega (arith, are, few, low))
 
-    within : (s : Snapshot) → IsReached g (IsFrontOf changes) old s → WritesOnly g staged next old.image s.image
-    within s is =
+    within : (s : Snapshot) → IsReached g (IsFrontOf changes) old s → KeepsGaps g old s → WritesOnly g staged next old.image s.image
+    within s is gaps =
         let made = wrote g is.changes old.image s.image is.reaches in
         record {
           groups = omega (arith, made.groups_are, front_sum groups_by changes is.changes is.made, low);
           segments = by s (sum_of segments_by is.changes) made.segments_are (front_sum segments_by changes is.changes is.made);
+          gaps = gaps;
           disk = λ page out. made.disk page (λ listed. out (among page (front_rewritten changes is.changes is.made page listed)));
         }
 
@@ -179,7 +153,14 @@ log_leaves g staged next old now low quiet changes =
 -- another answer, which is Ok where the first one is
 pub stages_result : {A B : Type 0} {r : Result A Stop} {s : Result B Stop} {staged : List Staged} {next : ℕ} {old new : PageStore} {before now : State} → ((P : Type 0) → OnOk r P → OnOk s P) →
     Stages r staged next old new before now → Stages s staged next old new before now
-stages_result {staged = staged} {old = old} {new = new} {before = before} {now = now} turns stages = grind (arith, common_steps)
+stages_result turns stages = record {
+  holds = λ has. turns _ (stages.holds has);
+  quiet = λ has quiet. turns _ (stages.quiet has quiet);
+  writes = stages.writes;
+  last = λ has quiet. turns _ (stages.last has quiet);
+  counted = λ has quiet. turns _ (stages.counted has quiet);
+  sizes = stages.sizes;
+}
 
 pub stages_ok : {A B : Type 0} {a : A} {b : B} {staged : List Staged} {next : ℕ} {old new : PageStore} {before now : State} → Stages {T = A} (Ok a) staged next old new before now → Stages {T = B} (Ok b) staged next old new before now
 stages_ok {A} {B} {a} {b} stages = stages_result {r = Ok a} {s = Ok b} (λ P p. p) stages
@@ -195,6 +176,7 @@ stages_up {staged = staged} {next = next} {next' = next'} {old = old} {before = 
   writes = λ has quiet. leaves_weaker before now (λ s. WritesOnly old.flash.geometry staged next before.image s.image) (λ s. WritesOnly old.flash.geometry staged next' before.image s.image)
       (λ s only. written_weaker old.flash.geometry staged staged next next' before.image s.image (λ page is. is) up only) (stages.writes has quiet);
   last = stages.last;
+  counted = stages.counted;
   sizes = stages.sizes;
 }
 
@@ -206,6 +188,7 @@ stages_weaker {staged = staged} {more = more} {next = next} {next' = next'} {old
   writes = λ has quiet. leaves_weaker before now (λ s. WritesOnly old.flash.geometry staged next before.image s.image) (λ s. WritesOnly old.flash.geometry more next' before.image s.image)
       (λ s only. written_weaker old.flash.geometry staged more next next' before.image s.image among up only) (stages.writes has quiet);
   last = λ has quiet. tt;
+  counted = λ has quiet. tt;
   sizes = stages.sizes;
 }
 
@@ -221,17 +204,26 @@ stages_between {r = r} {staged = staged} {next = next} {old = old} {mid = mid} {
       quiet = λ has quiet. stages.quiet (there has) quiet;
       writes = λ has quiet. subst (λ (f : FlashCache). Leaving f.geometry staged next before now) first (stages.writes (there has) quiet);
       last = λ has quiet. subst (λ (f : FlashCache). OnOk r (HasLastStaged f.geometry staged before now)) first (stages.last (there has) quiet);
+      counted = λ has quiet. subst (λ (f : FlashCache). OnOk r (CallsForStaged staged f.directory.first after.flash.directory.first before now)) first
+          (subst (λ (f : FlashCache). OnOk r (CallsForStaged staged mid.flash.directory.first f.directory.first before now)) (sym last) (stages.counted (there has) quiet));
       sizes = ap (λ (f : FlashCache). f.geometry) last ∙ stages.sizes ∙ ap (λ (f : FlashCache). f.geometry) first;
     }
 
+-- no calls of the disk
+pub counted_none : {T : Type 0} (r : Result T Stop) (staged : List Staged) (old new : PageStore) (before now : State) → unsynced_in now.past ≡ unsynced_in before.past → OnOk r (old.flash.directory.first ≤ new.flash.directory.first) → OnOk r (staged ≡ [])
+    → OnOk r (CallsForStaged staged old.flash.directory.first new.flash.directory.first before now)
+counted_none (Ok x) staged old new before now same rises none = staged_counts_none staged old.flash.directory.first new.flash.directory.first before now rises same none
+counted_none (Err stop) staged old new before now same rises none = tt
+
 -- a call that writes nothing
 pub stages_still : {T : Type 0} {r : Result T Stop} {staged : List Staged} {next : ℕ} {old new : PageStore} {before now : State} → OnOk r (staged ≡ []) → next_group (cache_of old) ≤ next → (IsTrue before.honest → IsUnchanged before now) →
-    new.flash.geometry ≡ old.flash.geometry → (HasQueueOn old before → OnOk r (HasQueueOn new now)) → Stages r staged next old new before now
-stages_still {r = r} {staged = staged} {next = next} {old = old} {before = before} {now = now} none low same sizes holds = record {
+    new.flash.geometry ≡ old.flash.geometry → OnOk r (old.flash.directory.first ≤ new.flash.directory.first) → (HasQueueOn old before → OnOk r (HasQueueOn new now)) → Stages r staged next old new before now
+stages_still {r = r} {staged = staged} {next = next} {old = old} {new = new} {before = before} {now = now} none low same sizes rises holds = record {
   holds = holds;
   quiet = λ has quiet. ok_always r (IsQuiet now) ((same has.fits.honest).loose ∙ quiet);
   writes = λ has quiet. (let is = has.next in still_leaves old.flash.geometry staged next before now (omega (arith, is, low)) quiet (same has.fits.honest));
   last = λ has quiet. ok_as r (staged ≡ []) (HasLastStaged old.flash.geometry staged before now) (last_none old.flash.geometry staged before now) none;
+  counted = λ has quiet. counted_none r staged old new before now (ap unsynced_in (same has.fits.honest).past) rises none;
   sizes = sizes;
 }
 
@@ -243,18 +235,19 @@ stages_beside {r = r} {staged = staged} {next = next} {old = old} {new = new} {b
   quiet = λ has quiet. calls.stays_quiet has.fits.honest quiet;
   writes = λ has quiet. (let is = has.next in log_leaves old.flash.geometry staged next before now (omega (arith, is, low)) quiet (changes has.fits.honest));
   last = λ has quiet. ok_as r (staged ≡ []) (HasLastStaged old.flash.geometry staged before now) (last_none old.flash.geometry staged before now) none;
+  counted = λ has quiet. counted_none r staged old new before now (unsynced_logged before now quiet (changes has.fits.honest)) (ok_always r (old.flash.directory.first ≤ new.flash.directory.first) (omega (arith, ap (λ (f : FlashCache). f.directory.first) same))) none;
   sizes = ap (λ (f : FlashCache). f.geometry) same;
 }
 
 -- no call
 pub stages_none : {T : Type 0} {r : Result T Stop} {staged : List Staged} {next : ℕ} {old new : PageStore} {now : State} → OnOk r (staged ≡ []) → next_group (cache_of old) ≤ next → new.flash ≡ old.flash → Stages r staged next old new now now
 stages_none {T} {r} {old = old} {new = new} {now = now} none low same =
-    stages_still none low (λ honest. unchanged now) (ap (λ (f : FlashCache). f.geometry) same) (λ has. ok_always r (HasQueueOn new now) (queue_same old new now now same refl has.fits.honest has))
+    stages_still none low (λ honest. unchanged now) (ap (λ (f : FlashCache). f.geometry) same) (ok_always r (old.flash.directory.first ≤ new.flash.directory.first) (omega (arith, ap (λ (f : FlashCache). f.directory.first) same))) (λ has. ok_always r (HasQueueOn new now) (queue_same old new now now same refl has.fits.honest has))
 
 -- a call behind one that was Ok
 pub stages_then : {A B : Type 0} {a : A} {r : Result B Stop} {staged more : List Staged} {next next' : ℕ} {old mid new : PageStore} {before between now : State} → (HasQueueOn old before → next ≤ next') →
     Stages {T = A} (Ok a) staged next old mid before between → Stages r more next' mid new between now → Stages r (staged ++ more) next' old new before now
-stages_then {r = r} {staged = staged} {more = more} {next = next} {next' = next'} {old = old} {mid = mid} {before = before} {between = between} {now = now} up one two =
+stages_then {r = r} {staged = staged} {more = more} {next = next} {next' = next'} {old = old} {mid = mid} {new = new} {before = before} {between = between} {now = now} up one two =
     let g = old.flash.geometry in
     let only = λ (s : Snapshot). WritesOnly g staged next before.image s.image in
     let all = λ (s : Snapshot). WritesOnly g (staged ++ more) next' before.image s.image in
@@ -275,6 +268,7 @@ stages_then {r = r} {staged = staged} {more = more} {next = next} {next' = next'
           ok_as r (HasLastStaged g more between now) (HasLastStaged g (staged ++ more) before now)
           (last_then g staged more before between now first.grown second.grown written.disk (one.last has quiet))
           (subst (λ (h : Geometry). OnOk r (HasLastStaged h more between now)) one.sizes (two.last (one.holds has) (one.quiet has quiet)));
+      counted = λ has quiet. ok_as r _ _ (staged_counts_then staged more old.flash.directory.first mid.flash.directory.first new.flash.directory.first before between now (one.counted has quiet)) (two.counted (one.holds has) (one.quiet has quiet));
       sizes = two.sizes ∙ one.sizes;
     }
 
@@ -289,9 +283,9 @@ pub pages_are : (store : PageStore) → staged_pages store.flash ≡ pages_stage
 pages_are store = staged_are store.flash.directory (staged_marks store.flash)
 
 pub push_leaves : (store : PageStore) (saved : List (List Stored)) (group : List ℕ) (old now : State) → HasQueueOn store old →
-    LeavesFront store.flash.geometry (changes_of_save (is_due store.flash.ring.hi store.flash.segments.hi) saved ++ changes_of_push (staged_pages store.flash) group) old now →
+    LeavesFront store.flash.geometry (changes_of_save (is_due store.flash.ring.hi store.flash.segments.hi) saved ++ changes_of_push (staged_pages store.flash) group) old now → LeavesGaps store.flash.geometry old now →
     Leaving store.flash.geometry (staged_in_push (rules store) store.flash.directory) (next_group (cache_of store) + 1) old now
-push_leaves store saved group old now has front =
+push_leaves store saved group old now has front gaps =
     let due : Bool = is_due store.flash.ring.hi store.flash.segments.hi in
     let pushed = changes_of_push (staged_pages store.flash) group in
     let one = push_groups (staged_pages store.flash) group in
@@ -301,13 +295,44 @@ push_leaves store saved group old now has front =
     front_writes store.flash.geometry (changes_of_save due saved ++ pushed) (staged_in_push (rules store) store.flash.directory) (next_group (cache_of store) + 1) old now (omega (arith, has.next, one, none))
     (λ some. early due refl (omega (arith, segments, no_more, some)) (omega (arith, segments, no_more)))
     (λ page listed. subst (λ (l : List ℕ). Contains l page) (pages_are store)
-    (push_rewrites (staged_pages store.flash) group page (subst (λ (l : List ℕ). Contains l page) (save_rewrites due saved pushed) listed))) front
+    (push_rewrites (staged_pages store.flash) group page (subst (λ (l : List ℕ). Contains l page) (save_rewrites due saved pushed) listed))) front gaps
   where
     early : (due : Bool) → is_due store.flash.ring.hi store.flash.segments.hi ≡ due → 1 ≤ (if due then 1 else 0) → {n : ℕ} → n ≡ (if due then 1 else 0) → 4 * (hi_of (segment_shape store.flash.geometry) old.image.flash + n) < next_group (cache_of store) + 1
     early true is some are =
         let four : store.flash.ring.hi ≡ 4 * store.flash.segments.hi + 4 = eqb-true store.flash.ring.hi (4 * store.flash.segments.hi + 4) is in
         omega (arith, four, are, has.next, has.fits.hi, has.fits.segments_hi)
     early false is some are = absurd (omega (arith, some))
+
+-- its calls of the disk are those of staging
+one_group : (queue : Queue) (frames : List Placed) → staging_calls (map (λ f. record { group = queue.first; index = f.0; page = f.1.page }) frames) ≡ calls_of (map (λ f. f.1.page) frames)
+one_group queue [] = refl
+one_group queue (frame ∷ []) = refl
+one_group queue (frame ∷ next ∷ frames) = let more = one_group queue (next ∷ frames) in grind (arith, common_steps)
+
+in_group_first : (first next : ℕ) (queue : Queue) (frames : List Placed) → first ≤ queue.first → queue.first < next → AllByRecursion (λ (f : Staged). (first ≤ f.group) × (f.group < next)) (map (λ f. record { group = queue.first; index = f.0; page = f.1.page }) frames)
+in_group_first first next queue [] low high = tt
+in_group_first first next queue (frame ∷ frames) low high = ((low, high), in_group_first first next queue frames low high)
+
+pub push_counted : {T : Type 0} (r : Result T Stop) (store : PageStore) (flash : FlashCache) (known : List Known) (old now : State) → OnOk r (flash.directory ≡ pushed_queue store.flash known)
+    → OnOk r (unsynced_in now.past ≡ unsynced_in old.past + calls_of (staged_pages store.flash)) → OnOk r (CallsForStaged (staged_in_push (rules store) store.flash.directory) store.flash.directory.first flash.directory.first old now)
+push_counted (Err stop) store flash known old now is calls = tt
+push_counted (Ok x) store flash known old now is calls = by (front_leaves store.flash) refl
+  where
+    queue : Queue
+    queue = store.flash.directory
+
+    same : staging_calls (staged_in_push (rules store) queue) ≡ calls_of (staged_pages store.flash)
+    same = one_group queue (staged_marks store.flash)
+
+    by : (leaves : Bool) → front_leaves store.flash ≡ leaves → CallsForStaged (staged_in_push (rules store) queue) queue.first flash.directory.first old now
+    by true full =
+        let next : flash.directory.first ≡ queue.first + 1 = ap (λ (q : Queue). q.first) is ∙ ap (λ (b : Bool). if b then queue.first + 1 else queue.first) full in
+        record { calls = omega (arith, calls, same); rises = omega (arith, next); within = in_group_first queue.first flash.directory.first queue (staged_marks store.flash) (omega arith) (omega (arith, next)) }
+    by false full =
+        let next : flash.directory.first ≡ queue.first = ap (λ (q : Queue). q.first) is ∙ ap (λ (b : Bool). if b then queue.first + 1 else queue.first) full in
+        let none : staged_in_push (rules store) queue ≡ [] = grind (arith, common_steps) in
+        let no_calls = ap staging_calls none in
+        staged_counts_none _ queue.first flash.directory.first old now (omega (arith, next)) (omega (arith, calls, same, no_calls)) none
 
 pub queue_pushed : {T : Type 0} (r : Result T Stop) (flash : FlashCache) (store : PageStore) (groups : List (List Stored)) (now : State) → flash_cache.Invariant flash now → OnOk r (flash_cache.Matches flash now) → OnOk r (flash_cache.Represents flash now.image groups) →
     OnOk r (HasQueueOn (record store { flash = flash }) now)

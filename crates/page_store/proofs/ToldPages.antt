@@ -1,31 +1,9 @@
 -- What the pool is told of the queue on flash, as pages come and go and groups are pushed.
-use Rattle.std.proofs.Common.{◌≡◌, ◌≢◌, ℕ, zero, suc, ◌<◌, ◌==◌, ◌||◌, Bool, true, false, true≢false, not, cond, List, [], ◌∷◌, ◌++◌, length, take, drop, map, filter, reverse, is_some, None, Some, arith, refl, sym, ap, subst, ◌∙◌}
-use Rattle.std.specs.Prelude.{Result, Ok, Err, OnOk, OnErr, IsSome}
-use Rattle.std.specs.List.{AllByRecursion, enumerate_from}
-use Rattle.std.proofs.lemmas.Bool.{cases_eq, eqb-true, eqb-false, eq-eqb, ne_eqb, or_parts}
-use Rattle.std.proofs.lemmas.List.{reverse-append}
-use Rattle.std.proofs.lemmas.List.Elements.{filter-append}
+use Rattle.page_store.proofs.Names.{◌≡◌, ◌≢◌, ℕ, zero, suc, ◌<◌, ◌==◌, ◌||◌, Bool, true, false, true≢false, not, cond, List, [], ◌∷◌, ◌++◌, length, take, drop, map, filter, reverse, is_some, None, Some, arith, refl, sym, ap, subst, ◌∙◌, cases_eq, eqb-true, eqb-false, eq-eqb, ne_eqb, or_parts, reverse-append, filter-append, AllByRecursion, enumerate_from, Result, Ok, Err, OnOk, OnErr, IsSome, Pool, frame_of, cleared, is_movable, coldest_movable, Knows, KnowsSame, WithoutTakesOne, TouchKeepsFrames, ClearedKeepsFrames, ChangesOne, Frame, Mark, front_leaves, chance_marks, known_given, known_pushed, pushed_queue, FlashCache, pool_page, movable, AreTold, Invariant, Matches, is_marked, is_named, TellsOf, PageStore, rules_of, leaving, chance_frame, must_be_pushed, Placed, chances_of, chances_given, Queue, has_frame, in_group, in_groups, group_marks, front_marks, Known, State, Stop, or_false, or_assoc, eq_turned}
 use Rattle.std.proofs.lemmas.List.Folds.{list_any-append}
-use Rattle.std_lemmas.proofs.Bools.{or_false, or_assoc, eq_turned}
-use Rattle.site.specs.declared.outside.Stop.{Stop}
-use Rattle.site.specs.State.{State}
-use Rattle.flash_cache.specs.Representation as flash_cache
-use Rattle.byte_fields.specs.declared.frame_head.Mark.{Mark}
-use Rattle.buffer_pool.specs.declared.frame.Frame.{Frame}
-use Rattle.buffer_pool.specs.Frames.{State as Pool, frame_of, without, touched, cleared, is_movable, coldest_movable, Knows, KnowsSame}
-use Rattle.buffer_pool.specs.Laws.{WithoutTakesOne, TouchKeepsFrames, ClearedKeepsFrames, ChangesOne}
-use Rattle.second_chance.specs.declared.frame.Frame.{Frame as Known}
-use Rattle.second_chance.specs.Queue.{Queue, has_frame, in_group, in_groups, group_marks, front_marks}
-use Rattle.second_chance.specs.Plans.{Placed, chances_of, chances_given}
-use Rattle.second_chance.specs.Machine.{rules_of, leaving, chance_frame, must_be_pushed}
-use Rattle.flash_cache.specs.declared.cache.FlashCache.{FlashCache}
-use Rattle.flash_cache.specs.Pushed.{front_leaves, chance_marks, known_given, known_pushed, pushed_queue}
-use Rattle.page_store.specs.declared.store.PageStore.{PageStore}
-use Rattle.page_store.specs.Representation.{AreTold, Invariant, Matches}
-use Rattle.page_store.specs.Caching.{pool_page}
-use Rattle.page_store.specs.Pulling.{movable}
-use Rattle.page_store.specs.Telling.{is_marked, is_named, TellsOf}
+use Rattle.buffer_pool.specs.Frames.{without, touched}
 use Rattle.std.proofs.lemmas.Grind.{common_steps}
+use Rattle.flash_cache.specs.Representation as flash_cache
 
 never : {A : Type 0} → IsSome {T = Frame} None → A
 never some = absurd (true≢false (sym some))

@@ -1,32 +1,10 @@
 -- A touch, of a page that is in the pool and of one that isn't.
-use Rattle.std.proofs.Common.{arith, ◌≡◌, ℕ, Bool, true, false, not, ◌&&◌, cond, IsTrue, is_some, List, [], ◌∷◌, length, Some, None, refl, sym, ap, ◌∙◌}
-use Rattle.std.specs.Prelude.{nat_le, ◌+◌, if◌then◌else◌}
-use Rattle.record_model.specs.Touches.{touch}
-use Rattle.second_chance.specs.Machine.{staged_by}
-use Rattle.write_ahead.specs.Forcing.{forces}
-use Rattle.page_store.specs.Staging.{staged_by_eviction}
-use Rattle.std.specs.List.{AllByRecursion}
-use Rattle.std_lemmas.proofs.AllOf.{all_filter}
-use Rattle.std.proofs.lemmas.Option.{none-some}
-use Rattle.std.proofs.lemmas.List.{length-map}
-use Rattle.site.specs.State.{State, Image}
-use Rattle.buffer_pool.specs.declared.frame.Frame.{Frame}
-use Rattle.buffer_pool.specs.Frames as pool
-use Rattle.buffer_pool.specs.Frames.{State as Pool, IsPool, frame_of}
-use Rattle.second_chance.specs.Queue.{has_frame}
-use Rattle.second_chance.specs.Machine.{Cache, holds, lacks_room, with_room, evict_coldest, finds, misses}
-use Rattle.log_store.specs.declared.store.LogStore.{LogStore}
-use Rattle.log_store.specs.LogList.{LogList}
-use Rattle.page_store.specs.declared.store.PageStore.{PageStore}
-use Rattle.page_store.specs.Representation.{IsPage, AreTold, Invariant, Matches, content_by}
-use Rattle.page_store.specs.Caching.{pool_page, cache_of, rules, is_full, is_pushed, with_way, pushes, next_group}
-use Rattle.page_store.specs.Ahead.{evicted, pushed_for_room, pushed_by_touch}
-use Rattle.flash_cache.specs.Representation.{version_on}
-use Rattle.page_store.specs.Leaves.{KeepsCurrent}
-use Rattle.page_store.specs.Changing.{eviction_changes, room_changes, touch_changes}
+use Rattle.page_store.proofs.Names.{arith, ◌≡◌, ℕ, Bool, true, false, not, ◌&&◌, cond, IsTrue, is_some, List, [], ◌∷◌, length, Some, None, refl, sym, ap, ◌∙◌, length-map, none-some, AllByRecursion, nat_le, if◌then◌else◌, Pool, IsPool, frame_of, Frame, version_on, LogList, LogStore, evicted, pushed_for_room, pushed_by_touch, pool_page, cache_of, rules_for as rules, is_full, is_pushed, with_way, pushes, next_group, eviction_changes, room_changes, touch_changes, KeepsCurrent, IsPage, AreTold, Invariant, Matches, content_by, staged_by_eviction, PageStore, touch, staged_by, Cache, holds, lacks_room, with_room, evict_coldest, finds, misses, has_frame, State, Image, all_filter, forces}
+use Rattle.std.specs.Prelude.{◌+◌}
 use Rattle.page_store.proofs.Pools.{is_held, not_held}
 use Rattle.page_store.proofs.Evictions.{not_forced}
 use Rattle.std.proofs.lemmas.Grind.{common_steps}
+use Rattle.buffer_pool.specs.Frames as pool
 
 -- A page that isn't in the pool.
 module _ (store : PageStore) (page : ℕ) (none : frame_of store.pool.frames page ≡ None) where

@@ -1,13 +1,5 @@
 -- Which changed pages have an LSN in the tail, before a push of a flush and behind it.
-use Rattle.std.proofs.Common.{◌≡◌, ℕ, zero, suc, ◌+◌, ◌*◌, Bool, true, false, not, ◌&&◌, ◌||◌, cond, List, [], ◌∷◌, get_or, take, map, filter, reverse, Some, arith, refl, sym, ap, ◌∙◌}
-use Rattle.std.specs.List.{AllByRecursion, list_any}
-use Rattle.std.proofs.lemmas.List.{get_or_default}
-use Rattle.std_lemmas.proofs.Lists.{any_reverse}
-use Rattle.std_lemmas.proofs.AllOf.{all_both, all_map, all_at}
-use Rattle.buffer_pool.specs.declared.frame.Frame.{Frame}
-use Rattle.buffer_pool.specs.Frames.{AreDistinct, frame_of}
-use Rattle.page_store.specs.Caching.{pool_page}
-use Rattle.page_store.specs.Flushing.{changed_frames, cleared_all}
+use Rattle.page_store.proofs.Names.{◌≡◌, ℕ, zero, suc, ◌+◌, ◌*◌, Bool, true, false, not, ◌&&◌, ◌||◌, cond, List, [], ◌∷◌, get_or, take, map, filter, reverse, Some, arith, refl, sym, ap, ◌∙◌, get_or_default, AllByRecursion, list_any, AreDistinct, frame_of, Frame, pool_page, changed_frames, cleared_all, all_both, all_map, all_at, any_reverse}
 use Rattle.page_store.proofs.Choosing.{first_changed}
 use Rattle.page_store.proofs.Clearing.{cleared_by, by_content, by_mark, is_among, all_cleared}
 use Rattle.page_store.proofs.Saving.{found_all, found_chosen}

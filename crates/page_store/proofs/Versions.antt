@@ -1,19 +1,9 @@
 -- The version of a page is read.
-use Rattle.std.proofs.Common.{arith, ◌≡◌, ℕ, ◌<◌, sym, subst, ◌∙◌}
+use Rattle.page_store.proofs.Names.{arith, ◌≡◌, ℕ, ◌<◌, sym, subst, ◌∙◌, version_on, IsCleanOn, FlashCache, Invariant, Matches, PageStore, has_frame, Preserves, IsUnchanged, State, Image, Geometry, Log, Flash, Disk, IsSound}
 use Rattle.flash_cache.proofs.Standing.{rings_later}
-use Rattle.site.specs.declared.outside.Dev.TheVariants.{Log, Flash, Disk}
-use Rattle.site.specs.declared.geometry.Geometry.{Geometry}
-use Rattle.site.specs.State.{State, Image}
-use Rattle.site.specs.Calls.{Preserves, IsUnchanged}
-use Rattle.slotted_page.specs.Layout.{IsSound}
-use Rattle.second_chance.specs.Queue.{has_frame}
-use Rattle.flash_cache.specs.declared.cache.FlashCache.{FlashCache}
-use Rattle.flash_cache.specs.Representation as flash_cache
-use Rattle.flash_cache.specs.Representation.{version_on, IsCleanOn}
-use Rattle.page_store.specs.declared.store.PageStore.{PageStore}
-use Rattle.page_store.specs.Representation.{Invariant, Matches}
 use Rattle.page_store.proofs.ToldPages.{told_with}
 use Rattle.std.proofs.lemmas.Grind.{common_steps}
+use Rattle.flash_cache.specs.Representation as flash_cache
 
 -- the cache goes on after any call
 pub flash_later : (cache : FlashCache) (old new : State) → Preserves old new → flash_cache.Invariant cache old → flash_cache.Invariant cache new

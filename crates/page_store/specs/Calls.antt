@@ -12,7 +12,6 @@ use Rattle.site.specs.Moments.{LeavesOnly}
 use Rattle.site.specs.Work.{Calls}
 use Rattle.image_changes.specs.Changes.{Change, Reaches}
 use Rattle.image_changes.specs.Reached.{LeavesFront}
-use Rattle.image_changes.specs.Costs.{CallsForUnits}
 use Rattle.slotted_page.specs.Layout.{IsSound}
 use Rattle.flash_cache.specs.Representation as flash_cache
 use Rattle.flash_cache.specs.Representation.{IsWorn}
@@ -31,6 +30,7 @@ use Rattle.write_ahead.specs.Forcing.{IsLogged, end_forced, forces, IsLogAtEnd, 
 use Rattle.page_store.specs.declared.store.PageStore.{PageStore}
 use Rattle.page_store.specs.Representation.{Invariant, Matches, current}
 use Rattle.page_store.specs.Caching.{next_group, cache_of, rules}
+use Rattle.page_store.specs.Costs.{CallsForUnits}
 use Rattle.page_store.specs.Ahead.{AreSealed, LeavesSealed, AreLogged, IsAhead}
 use Rattle.page_store.specs.Leaves.{AreReady, LeavesPages, LeavesRings, AreGiven, Gives, AreChanged, KeepsCurrent}
 use Rattle.page_store.specs.Flushing.{saved_next, cleared_all, flushed_first, flushed_contents}
@@ -160,9 +160,9 @@ pub record Stands (old new : LogStore) (pages pages' : PageStore) (before now : 
   pub rings : (newest : Option Master) → AreRingsSoundUnder newest pages.flash.geometry before.image →
       AreRingsSoundUnder newest pages.flash.geometry now.image
   pub reaches : Reaches pages.flash.geometry changes before.image now.image
-  -- by the calls of these changes, which are no more than the units cost that were appended
+  -- by the calls of these changes, which are those of the units that were appended, and of the disk
   pub calls : length now.past ≡ length before.past + sum_of calls_by changes
-  pub device_calls : CallsForUnits pages.flash.geometry before now
+  pub device_calls : IsQuiet before → CallsForUnits pages.flash.geometry before now
 
 -- The same of a push of these pages, whatever is given as their contents.
 pub record KeepsGiven {T : Type 0} (result : Result T Stop) (log : LogStore) (pages : PageStore) (numbers : List ℕ)
@@ -187,7 +187,7 @@ pub record StandsGiven (log new : LogStore) (pages pages' : PageStore) (numbers 
   pub gives : Gives pages.flash.geometry numbers contents before.image now.image
   pub reaches : Reaches pages.flash.geometry changes before.image now.image
   pub calls : length now.past ≡ length before.past + sum_of calls_by changes
-  pub device_calls : CallsForUnits pages.flash.geometry before now
+  pub device_calls : IsQuiet before → CallsForUnits pages.flash.geometry before now
   pub leaves : (given : ℕ → List ℕ) → AreGiven given numbers contents →
       AreCleanGiven pages.flash numbers changed contents before.image →
       LeavesPages pages.flash.geometry given (forces log contents) list before (snapshot_of now)

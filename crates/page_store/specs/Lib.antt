@@ -1,5 +1,6 @@
 pub mod Representation
 pub mod Caching
+pub mod Costs
 pub mod Pulling
 pub mod Changing
 pub mod Ahead

@@ -1,11 +1,6 @@
 -- A page that comes to the front of the pool.
-use Rattle.std.proofs.Common.{◌≡◌, ℕ, ◌<◌, ◌==◌, ◌||◌, nat_eq, Bool, ◌∷◌, arith}
+use Rattle.policy_sim.proofs.Names.{◌≡◌, ℕ, ◌<◌, ◌==◌, ◌||◌, nat_eq, Bool, ◌∷◌, arith, keys_of, remove_entry, AreStamped, enlisted, kept_of, listed_of, pages_in, Kept, is_changed, without}
 use Rattle.std.specs.List.{IsDistinct}
-use Rattle.std.specs.Map.{keys_of, remove_entry}
-use Rattle.second_chance.specs.Machine.{is_changed, without}
-use Rattle.policy_sim.specs.declared.entry.Kept.{Kept}
-use Rattle.policy_sim.specs.Pools.{pages_in}
-use Rattle.policy_sim.specs.Listing.{AreStamped, enlisted, kept_of, listed_of}
 use Rattle.policy_sim.proofs.Pooled.{Entries, marked, removed}
 use Rattle.policy_sim.proofs.Struck.{Listed, enlisted_front, stamped_removed}
 use Rattle.std.proofs.lemmas.Grind.{common_steps}

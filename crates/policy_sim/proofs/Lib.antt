@@ -1,3 +1,4 @@
+mod Names
 pub mod Filled
 pub mod Pooled
 pub mod Struck

@@ -1,7 +1,6 @@
 -- A list of touches, touch by touch.
-use Rattle.std.proofs.Common.{arith, ◌≡◌, ℕ, Bool, List, [], ◌∷◌, ◌++◌, refl}
+use Rattle.policy_sim.proofs.Names.{arith, ◌≡◌, ℕ, Bool, List, [], ◌∷◌, ◌++◌, refl, State, after_touch, after_touches, IsAfter}
 use Rattle.policy_sim.specs.declared.policy.Policy.{Policy}
-use Rattle.policy_sim.specs.Machines.{State, after_touch, after_touches, IsAfter}
 use Rattle.std.proofs.lemmas.Grind.{common_steps}
 
 one_more : (s : State) (touches : List (ℕ × Bool)) (page : ℕ) (change : Bool)

@@ -1,12 +1,5 @@
 -- The first pages of the list, one by one.
-use Rattle.std.proofs.Common.{◌≡◌, ℕ, ◌+◌, ◌<◌, ◌≤◌, List, [], ◌∷◌, ◌++◌, length, take, map, arith, sym, ap, ◌∙◌, append-nil, append_assoc, length-append}
-use Rattle.std.proofs.lemmas.List.{map-append, length-map, take_all, take_at, take_more_set}
-use Rattle.std.specs.Prelude.{slice_set}
-use Rattle.second_chance.specs.declared.plan.PoolMark.{PoolMark}
-use Rattle.second_chance.specs.Queue.{Queue, has_frame}
-use Rattle.policy_sim.specs.declared.entry.Entry.{Entry}
-use Rattle.policy_sim.specs.Pools.{pages_in, candidates}
-use Rattle.policy_sim.specs.Listing.{IsListedBy, listed_of}
+use Rattle.policy_sim.proofs.Names.{◌≡◌, ℕ, ◌+◌, ◌<◌, ◌≤◌, List, [], ◌∷◌, ◌++◌, length, take, map, arith, sym, ap, ◌∙◌, append-nil, append_assoc, length-append, map-append, length-map, take_all, take_at, take_more_set, slice_set, IsListedBy, listed_of, pages_in, candidates, Entry, Queue, has_frame, PoolMark}
 use Rattle.policy_sim.proofs.Pooled.{Entries}
 use Rattle.policy_sim.proofs.Struck.{Listed, listed_movable, mark_in}
 use Rattle.std.proofs.lemmas.Grind.{common_steps}

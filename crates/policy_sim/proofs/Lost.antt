@@ -1,17 +1,6 @@
 -- Pages that lose their last frame with a push.
-use Rattle.std.proofs.Common.{arith, ◌≡◌, ℕ, zero, suc, ◌==◌, ◌&&◌, ◌||◌, Bool, true, false, not, List, [], ◌∷◌, ◌++◌, slice_get, Some, refl, sym, ap, ◌∙◌}
+use Rattle.policy_sim.proofs.Names.{arith, ◌≡◌, ℕ, zero, suc, ◌==◌, ◌&&◌, ◌||◌, Bool, true, false, not, List, [], ◌∷◌, ◌++◌, slice_get, Some, refl, sym, ap, ◌∙◌, ne_eqb, eqb-true, or_cases, list_any, Mark, but, unless, group_of, pulled_frames, given_again, names, PoolPage, holds, without, Queue, front_marks, group_marks, has_frame, in_group, in_groups, pushed, Frame, Plan, eq_turned, and_true, or_true, or_false, or_without, or_assoc}
 use Rattle.std.specs.Prelude.{if◌then◌else◌}
-use Rattle.std.specs.List.{list_any}
-use Rattle.std.proofs.lemmas.Bool.{ne_eqb, eqb-true, or_cases}
-use Rattle.std_lemmas.proofs.Bools.{eq_turned, and_true, or_true, or_false, or_without, or_assoc}
-use Rattle.byte_fields.specs.declared.frame_head.Mark.{Mark}
-use Rattle.second_chance.specs.declared.frame.Frame.{Frame}
-use Rattle.second_chance.specs.declared.plan.Plan.{Plan}
-use Rattle.second_chance.specs.Queue.{Queue, front_marks, group_marks, has_frame, in_group, in_groups, pushed}
-use Rattle.second_chance.specs.Machine.{PoolPage, holds, without}
-use Rattle.second_chance.specs.Laws.{given_again, names}
-use Rattle.policy_sim.specs.Pools.{group_of, pulled_frames}
-use Rattle.policy_sim.specs.Listing.{but, unless}
 use Rattle.std.proofs.lemmas.Grind.{common_steps}
 
 -- whether a page is among those of some marks

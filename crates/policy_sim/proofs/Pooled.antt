@@ -1,24 +1,10 @@
 -- The pool by the entries of the cache that holds it.
-use Rattle.std.proofs.Common.{◌≡◌, ◌≢◌, ℕ, zero, suc, ◌-◌, ◌≤◌, ◌==◌, ◌&&◌, ◌||◌, nat_eq, Bool, true, false, not, cond, List, [], ◌∷◌, ◌++◌, length, take, is_some, Option, Some, None, arith, refl, sym, ap, subst, ◌∙◌, take_all}
-use Rattle.std.specs.Prelude.{All, unwrap_or}
-use Rattle.std.specs.List.{AllByRecursion, IsDistinct}
+use Rattle.policy_sim.proofs.Names.{◌≡◌, ◌≢◌, ℕ, zero, suc, ◌-◌, ◌≤◌, ◌==◌, ◌&&◌, ◌||◌, nat_eq, Bool, true, false, not, cond, List, [], ◌∷◌, ◌++◌, length, take, is_some, Option, Some, None, arith, refl, sym, ap, subst, ◌∙◌, ne_eqb, eqb-false, eqb-true, eq-eqb, map-append, reverse-append, filter-append, none-some, AllByRecursion, keys_of, lookup, lookup_entry, remove_entry, All, unwrap_or, LruCache, put_entries, last_entry, kept_of, none_kept, entry_page, pages_in, is_movable, movable, Kept, AreApart, names, PoolPage, holds, is_changed, without, pool_mark, Queue, PoolMark, eq_turned, or_false, or_assoc}
+use Rattle.std.proofs.Common.{take_all}
+use Rattle.std.specs.List.{IsDistinct}
 use Rattle.std.specs.Option.{option_map_or}
-use Rattle.std.specs.Map.{keys_of, lookup, lookup_entry, remove_entry}
-use Rattle.std.proofs.lemmas.Bool.{ne_eqb, eqb-false, eqb-true, eq-eqb}
-use Rattle.std.proofs.lemmas.Option.{none-some}
-use Rattle.std.proofs.lemmas.List.{map-append, reverse-append}
-use Rattle.std.proofs.lemmas.List.Elements.{filter-append}
 use Rattle.std.proofs.lemmas.List.Kept.{AllPairs-cons}
-use Rattle.std_lemmas.proofs.Bools.{eq_turned, or_false, or_assoc}
-use Rattle.lru.specs.LruCache.{LruCache, put_entries, last_entry}
 use Rattle.lru.proofs.CallerLemmas.{Contains-lookup_entry}
-use Rattle.second_chance.specs.declared.plan.PoolMark.{PoolMark}
-use Rattle.second_chance.specs.Queue.{Queue}
-use Rattle.second_chance.specs.Machine.{PoolPage, holds, is_changed, without, pool_mark}
-use Rattle.second_chance.specs.Laws.{AreApart, names}
-use Rattle.policy_sim.specs.declared.entry.Kept.{Kept}
-use Rattle.policy_sim.specs.Pools.{entry_page, pages_in, is_movable, movable}
-use Rattle.policy_sim.specs.Listing.{kept_of, none_kept}
 use Rattle.std.proofs.lemmas.Grind.{common_steps}
 
 abbrev pub Entries : Type 0

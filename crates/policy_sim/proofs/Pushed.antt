@@ -1,19 +1,6 @@
 -- A push, by the plan for it.
-use Rattle.std.proofs.Common.{rules, ◌≡◌, ℕ, zero, suc, ◌+◌, ◌-◌, ◌<◌, ◌≤◌, Bool, true, false, List, [], ◌∷◌, ◌++◌, length, get_or, nat_lt, take, map, filter, slice_get, Some, None, arith, refl, sym, ap, ◌∙◌, length-append}
-use Rattle.std.proofs.lemmas.Bool.{ltb-true, ltb-false}
-use Rattle.std.proofs.lemmas.Option.{slice_get_read}
-use Rattle.std.proofs.lemmas.List.{length-map, length-drop, take-take}
-use Rattle.std.proofs.lemmas.List.Elements.{filter_map-append}
-use Rattle.byte_fields.specs.declared.frame_head.Mark.{Mark}
-use Rattle.second_chance.specs.declared.frame.Frame.{Frame}
-use Rattle.second_chance.specs.declared.plan.Plan.{Plan}
-use Rattle.second_chance.specs.declared.plan.PoolMark.{PoolMark}
-use Rattle.second_chance.specs.Queue.{Queue, frame_of, pushed}
-use Rattle.second_chance.specs.Plans.{chances_of, staged_of, eviction_plan}
-use Rattle.second_chance.specs.Machine.{Rules, PoolPage, Cache, without, is_full, leaving, pool_marks, push_evicted, staged_in_push}
-use Rattle.second_chance.specs.Laws.{AreApart, EvictionIsPlanned, names, given_again, eviction_done, plan_for_eviction}
-use Rattle.policy_sim.specs.Pools.{is_movable, group_of}
 use Rattle.std.proofs.lemmas.Grind.{common_steps}
+use Rattle.policy_sim.proofs.Names.{rules, ◌≡◌, ℕ, zero, suc, ◌+◌, ◌-◌, ◌<◌, ◌≤◌, Bool, true, false, List, [], ◌∷◌, ◌++◌, length, get_or, nat_lt, take, map, filter, slice_get, Some, None, arith, refl, sym, ap, ◌∙◌, length-append, ltb-true, ltb-false, length-map, length-drop, take-take, filter_map-append, slice_get_read, Mark, is_movable, group_of, AreApart, EvictionIsPlanned, names, given_again, eviction_done, plan_for_eviction, Rules, PoolPage, Cache, without, is_full, leaving, pool_marks, push_evicted, staged_in_push, chances_of, staged_of, eviction_plan, Queue, frame_of, pushed, Frame, Plan, PoolMark}
 
 -- The first seven candidates are enough for a plan.
 

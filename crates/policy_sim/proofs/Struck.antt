@@ -1,20 +1,7 @@
 -- The list of the pages that a push may take, as pages come and go.
-use Rattle.std.proofs.Common.{◌≡◌, ℕ, ◌<◌, ◌≤◌, ◌==◌, ◌&&◌, ◌||◌, nat_eq, Bool, true, false, not, List, [], ◌∷◌, ◌++◌, map, Some, arith, refl, sym, ap, subst, ◌∙◌, append-nil, append_assoc}
-use Rattle.std.specs.List.{AllByRecursion, IsDistinct}
-use Rattle.std.specs.Map.{keys_of, lookup, remove_entry, set_value}
-use Rattle.std.specs.Ordering.{nat_cmp}
-use Rattle.std.specs.BTreeMap.{insert_entry}
-use Rattle.std.proofs.lemmas.Bool.{ne_eqb, eqb-true, eqb-false, eq-eqb}
-use Rattle.std.proofs.lemmas.List.{map-append}
-use Rattle.std_lemmas.proofs.Bools.{and_false, and_true, or_true}
+use Rattle.policy_sim.proofs.Names.{◌≡◌, ℕ, ◌<◌, ◌≤◌, ◌==◌, ◌&&◌, ◌||◌, nat_eq, Bool, true, false, not, List, [], ◌∷◌, ◌++◌, map, Some, arith, refl, sym, ap, subst, ◌∙◌, append-nil, append_assoc, ne_eqb, eqb-true, eqb-false, eq-eqb, map-append, insert_entry, AllByRecursion, keys_of, lookup, remove_entry, set_value, nat_cmp, AreStamped, IsListedBy, but, enlisted, if_listed, kept_of, listed_of, none_kept, struck, page_of, pages_in, movable, Entry, Kept, holds, pool_mark, Queue, has_frame, PoolMark, and_false, and_true, or_true}
+use Rattle.std.specs.List.{IsDistinct}
 use Rattle.std_lemmas.proofs.Entries.{at_same, AreBelow, below_append, below_weaker, insert_before, insert_last, kept_behind, skipped}
-use Rattle.second_chance.specs.declared.plan.PoolMark.{PoolMark}
-use Rattle.second_chance.specs.Queue.{Queue, has_frame}
-use Rattle.second_chance.specs.Machine.{holds, pool_mark}
-use Rattle.policy_sim.specs.declared.entry.Entry.{Entry}
-use Rattle.policy_sim.specs.declared.entry.Kept.{Kept}
-use Rattle.policy_sim.specs.Pools.{page_of, pages_in, movable}
-use Rattle.policy_sim.specs.Listing.{AreStamped, IsListedBy, but, enlisted, if_listed, kept_of, listed_of, none_kept, struck}
 use Rattle.policy_sim.proofs.Pooled.{Entries, movable_more}
 use Rattle.std.proofs.lemmas.Grind.{common_steps}
 

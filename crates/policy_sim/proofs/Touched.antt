@@ -1,16 +1,7 @@
 -- A touch, step by step.
-use Rattle.std.proofs.Common.{rules, arith, ◌≡◌, ℕ, ◌+◌, ◌==◌, Bool, false, not, ◌||◌, nat_le, cond, List, [], ◌∷◌, ◌++◌, length, filter, reverse, refl, ap, ◌∙◌, if◌then◌else◌}
-use Rattle.std.specs.List.{list_any}
-use Rattle.std.proofs.lemmas.Grind.{reverse_onto}
-use Rattle.std.proofs.lemmas.List.{reverse-append, reverse-reverse}
+use Rattle.std.proofs.lemmas.Grind.{reverse_onto, common_steps}
+use Rattle.policy_sim.proofs.Names.{rules, arith, ◌≡◌, ℕ, ◌+◌, ◌==◌, Bool, false, not, ◌||◌, nat_le, cond, List, [], ◌∷◌, ◌++◌, length, filter, reverse, refl, ap, ◌∙◌, if◌then◌else◌, or_parts, reverse-append, reverse-reverse, list_any, one_where, eviction_pushes, made_by, Counts, length-groups_read, Rules, PoolPage, Cache, holds, is_changed, without, evict_first, evict_coldest, after_eviction, staged_in_push, with_room, touched, must_be_pushed, staged_in_eviction, Queue, has_frame, with_read}
 use Rattle.std.proofs.lemmas.List.Folds.{list_any-append}
-use Rattle.std.proofs.lemmas.Bool.{or_parts}
-use Rattle.second_chance.specs.Queue.{Queue, has_frame, with_read}
-use Rattle.second_chance.specs.Machine.{Rules, PoolPage, Cache, holds, is_changed, without, evict_first, evict_coldest, after_eviction, staged_in_push, with_room, touched, must_be_pushed, staged_in_eviction}
-use Rattle.policy_sim.specs.Machines.{one_where, eviction_pushes, made_by}
-use Rattle.policy_sim.specs.declared.counts.Counts.{Counts}
-use Rattle.second_chance.proofs.Unread.{length-groups_read}
-use Rattle.std.proofs.lemmas.Grind.{common_steps}
 
 -- A page that isn't in the pool isn't there after an eviction.
 

@@ -1,3 +1,4 @@
+mod Citing
 pub mod StepLaws
 pub mod RefusalLaws
 pub mod SessionLaws

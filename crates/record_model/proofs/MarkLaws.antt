@@ -1,25 +1,12 @@
 -- What stands when a session has gone back to its mark.
-use Rattle.std.proofs.lemmas.Bool.{or_parts, and_parts}
+use Rattle.record_model.proofs.Citing.{◌≡◌, ℕ, zero, suc, ◌<◌, Bool, true, false, List, [], ◌∷◌, ◌++◌, length, append_assoc, Option, Some, None, inl, inr, refl, ap, sym, ◌∙◌, subst, arith, or_parts, and_parts, list_any, ◌==◌, ◌||◌, nat_le, min, slice_index_or, slice_set, take, option_map, is_none, is_some, if◌then◌else◌, moves_mark, BackToTheMark, Line, line_step, turns, left_by, is_quit, next_listing, later_listings, Session, State, session_at, writes_of, Outcome, step, outcome, refusal, first_refusal, refuse_if, ready, lacks_room, fills_page, effect, having_read, having_written, having_marked, going_back, CacheLine, Command, Begin, Read, Write, Erase, Scan, Commit, Abort, Mark, Back, Reply, BadSession, none_if_is_none}
 use Rattle.std.proofs.Math.Seq.{take-append_seam}
-use Rattle.std_lemmas.proofs.Options.{none_if_is_none}
-use Rattle.std.proofs.Common.{◌≡◌, ℕ, zero, suc, ◌<◌, Bool, true, false, List, [], ◌∷◌, ◌++◌, length, append_assoc, Option, Some, None, inl, inr, refl, ap, sym, ◌∙◌, subst, arith}
-use Rattle.std.specs.Prelude.{◌==◌, ◌||◌, nat_le, min, slice_index_or, slice_set, take, option_map, is_none, is_some, if◌then◌else◌}
-use Rattle.std.specs.List.{list_any}
-use Rattle.record_model.specs.declared.words.Command.{Command}
-use Rattle.record_model.specs.declared.words.Command.TheVariants.{Begin, Read, Write, Erase, Scan, Commit, Abort, Mark, Back}
-use Rattle.record_model.specs.declared.words.CacheLine.{CacheLine}
-use Rattle.record_model.specs.declared.words.Reply.{Reply}
-use Rattle.record_model.specs.declared.words.Reply.TheVariants as reply
-use Rattle.record_model.specs.declared.words.Why.TheVariants.{BadSession}
-use Rattle.record_model.specs.State.{Session, State, session_at, writes_of}
-use Rattle.record_model.specs.State as state
-use Rattle.record_model.specs.Step.{Outcome, step, outcome, refusal, first_refusal, refuse_if, ready, lacks_room, fills_page, effect, having_read, having_written, having_marked, going_back}
-use Rattle.record_model.specs.Run.{Line, line_step, turns, left_by, is_quit, next_listing, later_listings}
-use Rattle.record_model.specs.Laws.{moves_mark, BackToTheMark}
 use Rattle.record_model.proofs.StepLaws.{each_outcome}
 use Rattle.record_model.proofs.SerialAlone.{step_through}
 use Rattle.record_model.proofs.SerialLists.{not_both, same_is, get_set_same}
 use Rattle.record_model.proofs.PageLaws.{set_or}
+use Rattle.record_model.specs.declared.words.Reply.TheVariants as reply
+use Rattle.record_model.specs.State as state
 
 -- what stood at the mark stands in front of the rest
 record FromMark (front : List state.Write) (session : Session) : Type 0 where

@@ -1,24 +1,12 @@
 -- What the records of a page may come to need, step by step.
 use Rattle.std.proofs.lemmas.Grind.{common_steps}
-use Rattle.std.proofs.lemmas.Bool.{cases_Bool, eqb-true, eqb-false}
-use Rattle.std.proofs.lemmas.Bool.Decides.{nat_tests}
-use Rattle.std.proofs.lemmas.List.{take-append-drop}
+use Rattle.record_model.proofs.Citing.{◌≡◌, ℕ, zero, suc, ◌+◌, ◌*◌, ◌<◌, ◌≤◌, Bool, true, false, List, [], ◌∷◌, ◌++◌, length, Option, Some, None, inl, inr, refl, ap, sym, ◌∙◌, subst, arith, cases_Bool, eqb-true, eqb-false, nat_tests, take-append-drop, range_with_len, ◌==◌, ◌&&◌, ◌⊎◌, nat_lt, max, sum_by, filter_map, flat_map, slice_index_or, slice_set, take, drop, map, filter, option_map, unwrap_or, if◌then◌else◌, PagesFit, PagesStayFit, TableFits, SeenFits, Content, Session, State, content_at, table_with, last_write, session_at, writes_of, seen, page_room, page_of, records_of, length_of, greatest, longest_write, standing_writes, footprint, footprint_with, need, outcome, carried_through, full, refusal, refuse_if, ready, lacks_room, fills_page, effect, having_read, having_written, having_marked, going_back, left_standing, CacheLine, Command, Begin, Read, Write, Erase, Scan, Commit, Abort, Set, Mark, Back, Reply}
 use Rattle.std.proofs.lemmas.List.Sums.{sum_by-cons}
 use Rattle.std.specs.Option.{option_or}
 use Rattle.std.proofs.Math.Nat.{le-max_left, le-max_right, zero-max, le_trans}
-use Rattle.std.proofs.Common.{◌≡◌, ℕ, zero, suc, ◌+◌, ◌*◌, ◌<◌, ◌≤◌, Bool, true, false, List, [], ◌∷◌, ◌++◌, length, Option, Some, None, inl, inr, refl, ap, sym, ◌∙◌, subst, arith}
-use Rattle.std.specs.Prelude.{◌==◌, ◌&&◌, ◌⊎◌, nat_lt, max, sum_by, filter_map, flat_map, slice_index_or, slice_set, take, drop, map, filter, option_map, unwrap_or, if◌then◌else◌}
-use Rattle.std.specs.List.{range_with_len}
-use Rattle.record_model.specs.declared.words.Command.{Command}
-use Rattle.record_model.specs.declared.words.Command.TheVariants.{Begin, Read, Write, Erase, Scan, Commit, Abort, Set, Mark, Back}
-use Rattle.record_model.specs.declared.words.CacheLine.{CacheLine}
-use Rattle.record_model.specs.declared.words.Reply.{Reply}
-use Rattle.record_model.specs.declared.words.Reply.TheVariants as reply
-use Rattle.record_model.specs.State.{Content, Session, State, content_at, table_with, last_write, session_at, writes_of, seen, page_room, page_of, records_of, length_of, greatest, longest_write, standing_writes, footprint, footprint_with, need}
-use Rattle.record_model.specs.State as state
-use Rattle.record_model.specs.Step.{outcome, carried_through, full, refusal, refuse_if, ready, lacks_room, fills_page, effect, having_read, having_written, having_marked, going_back, left_standing}
-use Rattle.record_model.specs.Laws.{PagesFit, PagesStayFit, TableFits, SeenFits}
 use Rattle.record_model.proofs.SerialLists.{same_is}
+use Rattle.record_model.specs.declared.words.Reply.TheVariants as reply
+use Rattle.record_model.specs.State as state
 
 -- Writes. None on a record is longer than the longest.
 

@@ -1,17 +1,6 @@
 -- A reply tells whether the command was carried out.
-use Rattle.std.proofs.Common.{◌≡◌, ℕ, ◌+◌, ◌-◌, Bool, true, false, List, [], ◌∷◌, Option, Some, None, refl, ap, sym}
-use Rattle.std.specs.Prelude.{not, ◌&&◌, is_none, option_map, map, if◌then◌else◌}
-use Rattle.std.specs.List.{AllByRecursion, range_with_len}
-use Rattle.record_model.specs.declared.words.Command.{Command}
-use Rattle.record_model.specs.declared.words.Command.TheVariants.{Begin, Read, Write, Erase, Scan, Commit, Abort, Get, Set, Mark, Back}
-use Rattle.record_model.specs.declared.words.CacheLine.{CacheLine}
-use Rattle.record_model.specs.declared.words.Why.{Why}
-use Rattle.record_model.specs.declared.words.Why.TheVariants.{BadSession, NoRecord, TooLong, BadMark}
-use Rattle.record_model.specs.declared.words.Reply.{Reply}
+use Rattle.record_model.proofs.Citing.{◌≡◌, ℕ, ◌+◌, ◌-◌, Bool, true, false, List, [], ◌∷◌, Option, Some, None, refl, ap, sym, AllByRecursion, range_with_len, not, ◌&&◌, is_none, option_map, map, if◌then◌else◌, is_refused, RefusalsAreTold, Content, State, seen, content_at, busy_read, busy_write, outcome, carried_through, full, fills_page, lacks_room, refusal, first_refusal, refuse_if, wants_active, wants_record, wants_short, wants_standing, may_read, may_write, ready, answer, found, CacheLine, Command, Begin, Read, Write, Erase, Scan, Commit, Abort, Get, Set, Mark, Back, Reply, Why, BadSession, NoRecord, TooLong, BadMark}
 use Rattle.record_model.specs.declared.words.Reply.TheVariants as reply
-use Rattle.record_model.specs.State.{Content, State, seen, content_at, busy_read, busy_write}
-use Rattle.record_model.specs.Step.{outcome, carried_through, full, fills_page, lacks_room, refusal, first_refusal, refuse_if, wants_active, wants_record, wants_short, wants_standing, may_read, may_write, ready, answer, found}
-use Rattle.record_model.specs.Laws.{is_refused, RefusalsAreTold}
 
 -- a test's reply is a refusal
 IsRefusal : Option Reply → Type 0

@@ -1,16 +1,9 @@
 -- What follows for a whole run.
 use Rattle.std.proofs.lemmas.Grind.{common_steps}
-use Rattle.std.proofs.Common.{◌≡◌, ℕ, zero, suc, ◌+◌, ◌<◌, Bool, true, false, cond, List, [], ◌∷◌, ◌++◌, length, map, take, Some, refl, ap, sym, subst, ◌∙◌, arith, add-one}
-use Rattle.std.specs.Prelude.{count_by, filter, slice_index_or, slice_get}
-use Rattle.std.specs.List.{list_any}
+use Rattle.record_model.proofs.Citing.{◌≡◌, ℕ, zero, suc, ◌+◌, ◌<◌, Bool, true, false, cond, List, [], ◌∷◌, ◌++◌, length, Some, refl, ap, sym, subst, ◌∙◌, arith, add-one, or_parts, list_any, count_by, filter, slice_index_or, slice_get, IsCountedIn, EachLineHasATurn, TurnsFollow, IsCountedAt, Line, Turn, line_step, turn, turns, state_at, is_quit, is_committed, commit_marks, commits_among, committed_tables, next_listing, later_listings, left_by, listings_after, Content, State, CacheLine}
+use Rattle.std.proofs.Common.{map, take}
 use Rattle.std.proofs.lemmas.List.Recursion.{is_count_by}
-use Rattle.std.proofs.lemmas.Bool.{or_parts}
-use Rattle.record_model.specs.declared.words.CacheLine.{CacheLine}
-use Rattle.record_model.specs.State.{Content, State}
-use Rattle.record_model.specs.Run.{Line, Turn, line_step, turn, turns, state_at, is_quit, is_committed, commit_marks, commits_among, committed_tables, next_listing, later_listings, left_by, listings_after}
-use Rattle.record_model.specs.Laws.{IsCountedIn, EachLineHasATurn, TurnsFollow}
 use Rattle.record_model.proofs.StepLaws.{commits_once}
-use Rattle.record_model.specs.Laws.{IsCountedAt}
 
 pub each_line_has_a_turn : EachLineHasATurn
 each_line_has_a_turn s [] listings h = refl

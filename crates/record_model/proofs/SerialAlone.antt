@@ -1,23 +1,10 @@
 -- A session that runs alone.
 use Rattle.std.proofs.lemmas.Grind.{common_steps}
-use Rattle.std.proofs.Common.{◌≡◌, ℕ, ◌+◌, ◌-◌, ◌<◌, ◌≤◌, Bool, true, false, List, [], ◌∷◌, length, Option, Some, None, refl, ap, ◌∙◌, arith}
-use Rattle.std.specs.Prelude.{◌&&◌, filter_map, nat_lt, nat_le, slice_set, map, option_map, unwrap_or, is_none, sum_by}
-use Rattle.std.specs.List.{range_with_len}
-use Rattle.std.proofs.lemmas.Bool.Decides.{nat_tests}
-use Rattle.std_lemmas.proofs.AllOf.{each_member}
-use Rattle.record_model.specs.declared.words.Command.{Command}
-use Rattle.record_model.specs.declared.words.Command.TheVariants.{Begin, Read, Write, Erase, Scan, Commit, Set, Mark, Back}
-use Rattle.record_model.specs.declared.words.Why.TheVariants.{BadSession}
-use Rattle.record_model.specs.declared.words.CacheLine.{CacheLine}
-use Rattle.record_model.specs.declared.words.Reply.{Reply}
-use Rattle.record_model.specs.declared.words.Reply.TheVariants as reply
-use Rattle.record_model.specs.State.{Content, Session, State, content_at, table_with, last_write, writes_of, seen, is_other, used, owed}
-use Rattle.record_model.specs.State as state
-use Rattle.record_model.specs.Step.{Outcome, step, refusal, refuse_if, wants_active, wants_record, wants_short, wants_standing, may_read, may_write, asks_for_checkpoint, ready, lacks_room, fills_page, making, with_session, effect, answer, found, item}
-use Rattle.record_model.specs.Step.{having_read, having_written, having_marked, going_back, dropped}
-use Rattle.record_model.specs.Serial.{opened_alone}
+use Rattle.record_model.proofs.Citing.{◌≡◌, ℕ, ◌+◌, ◌-◌, ◌<◌, ◌≤◌, Bool, true, false, List, [], ◌∷◌, length, Option, Some, None, refl, ap, ◌∙◌, arith, nat_tests, range_with_len, ◌&&◌, filter_map, nat_lt, nat_le, slice_set, map, option_map, unwrap_or, is_none, sum_by, opened_alone, Content, Session, State, content_at, table_with, last_write, writes_of, seen, is_other, used, owed, Outcome, step, refusal, refuse_if, wants_active, wants_record, wants_short, wants_standing, may_read, may_write, asks_for_checkpoint, ready, lacks_room, fills_page, making, with_session, effect, answer, found, item, having_read, having_written, having_marked, going_back, dropped, CacheLine, Command, Begin, Read, Write, Erase, Scan, Commit, Set, Mark, Back, Reply, BadSession, each_member}
 use Rattle.record_model.proofs.SerialLists.{set_set, no_values, only_one, passes_none, map_of_each, filter_map_same}
 use Rattle.record_model.proofs.SerialLocks.{place, wrote, touched, set_here, pass_all}
+use Rattle.record_model.specs.declared.words.Reply.TheVariants as reply
+use Rattle.record_model.specs.State as state
 
 -- what a session of these writes sees at a record of the table
 abbrev pub view : List Content → List state.Write → ℕ → Content

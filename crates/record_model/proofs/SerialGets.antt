@@ -1,14 +1,5 @@
 -- What a get outside sessions answers: one part of serial order.
-use Rattle.std.proofs.Common.{◌≡◌, ℕ, List, [], ◌∷◌, ◌++◌, length, ap, sym, ◌∙◌, subst}
-use Rattle.std.specs.Prelude.{IsTrue}
-use Rattle.std_lemmas.proofs.Options.{none_if_is_none}
-use Rattle.std.proofs.lemmas.Bool.{and_parts}
-use Rattle.record_model.specs.declared.words.Command.TheVariants.{Get}
-use Rattle.record_model.specs.declared.words.CacheLine.{CacheLine}
-use Rattle.record_model.specs.State.{Content, State, opened, content_at}
-use Rattle.record_model.specs.Step.{step, outcome, refusal, found, is_accepted}
-use Rattle.record_model.specs.Run.{Line, Turn, turn, state_at, after_commits, commits_among, commit_marks}
-use Rattle.record_model.specs.Serial.{GetsAreSerial, table_before}
+use Rattle.record_model.proofs.Citing.{◌≡◌, ℕ, List, [], ◌∷◌, ◌++◌, length, ap, sym, ◌∙◌, subst, and_parts, IsTrue, Line, Turn, turn, state_at, after_commits, commits_among, commit_marks, GetsAreSerial, table_before, Content, State, opened, content_at, step, outcome, refusal, found, is_accepted, CacheLine, Get, none_if_is_none}
 use Rattle.record_model.proofs.RunLaws.{IsRun, turns_are_run, commits_make_the_table}
 
 -- a turn of a run is one of the state before it

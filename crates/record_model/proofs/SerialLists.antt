@@ -1,10 +1,5 @@
 -- Lists, as serial order needs them.
-use Rattle.std.proofs.Common.{◌≡◌, ℕ, zero, suc, ◌+◌, ◌<◌, ◌≤◌, Bool, true, false, cond, List, [], ◌∷◌, length, Option, Some, None, refl, ap, ◌∙◌, arith}
-use Rattle.std.specs.Prelude.{◌==◌, filter_map, find, slice_index_or, slice_set, replicate, map}
-use Rattle.std.specs.List.{range_with_len, AllByRecursion, cons_option}
-use Rattle.std.proofs.lemmas.Bool.Decides.{nat_tests}
-use Rattle.std.proofs.lemmas.Bool.{cases_Bool, eqb-true, eqb-false}
-use Rattle.std.proofs.Common.{inl, inr, subst}
+use Rattle.record_model.proofs.Citing.{◌≡◌, ℕ, zero, suc, ◌+◌, ◌<◌, ◌≤◌, Bool, true, false, cond, List, [], ◌∷◌, length, Option, Some, None, refl, ap, ◌∙◌, arith, inl, inr, subst, cases_Bool, eqb-true, eqb-false, nat_tests, range_with_len, AllByRecursion, cons_option, ◌==◌, filter_map, find, slice_index_or, slice_set, replicate, map}
 
 -- Tests.
 

@@ -1,18 +1,10 @@
 -- No session writes what another one has touched.
 use Rattle.std.proofs.lemmas.Grind.{common_steps}
-use Rattle.std.proofs.Common.{◌≡◌, ℕ, suc, ◌+◌, ◌<◌, ◌≤◌, Bool, true, false, List, [], ◌∷◌, length, Option, Some, None, inl, inr, refl, ap, sym, ◌∙◌, subst, arith}
-use Rattle.std.specs.Prelude.{◌==◌, not, ◌&&◌, ◌||◌, ◌⊎◌, ◌-◌, find, slice_index_or, slice_set, map, option_map}
-use Rattle.std.specs.List.{list_any, range_with_len, AllByRecursion}
-use Rattle.std.proofs.lemmas.Bool.{or_left, cases_lt, or_cases, eqb-true, ne_eqb}
-use Rattle.std_lemmas.proofs.AllOf.{all_member}
-use Rattle.record_model.specs.declared.words.Command.{Command}
-use Rattle.record_model.specs.declared.words.Command.TheVariants.{Begin, Read, Write, Erase, Scan, Commit, Abort, Mark, Back}
-use Rattle.record_model.specs.declared.words.Reply.{Reply}
-use Rattle.record_model.specs.declared.words.Reply.TheVariants as reply
-use Rattle.record_model.specs.State.{Session, State, wrote_of, reads_of, is_other, busy_read, busy_write}
-use Rattle.record_model.specs.State as state
-use Rattle.record_model.specs.Step.{refusal, first_refusal, wants_active, wants_record, wants_short, may_read, may_write, ready, effect, having_read, having_written, having_marked, going_back}
+use Rattle.record_model.proofs.Citing.{◌≡◌, ℕ, suc, ◌+◌, ◌<◌, ◌≤◌, Bool, true, false, List, [], ◌∷◌, length, Option, Some, None, inl, inr, refl, ap, sym, ◌∙◌, subst, arith, or_left, cases_lt, or_cases, eqb-true, ne_eqb, list_any, range_with_len, AllByRecursion, ◌==◌, not, ◌&&◌, ◌||◌, ◌⊎◌, find, slice_index_or, slice_set, map, option_map, Session, State, wrote_of, reads_of, is_other, busy_read, busy_write, refusal, first_refusal, wants_active, wants_record, wants_short, may_read, may_write, ready, effect, having_read, having_written, having_marked, going_back, Command, Begin, Read, Write, Erase, Scan, Commit, Abort, Mark, Back, Reply, all_member}
+use Rattle.std.specs.Prelude.{◌-◌}
 use Rattle.record_model.proofs.SerialLists.{not_both, get_set_same, get_set_other, none_passes, each_of_map}
+use Rattle.record_model.specs.declared.words.Reply.TheVariants as reply
+use Rattle.record_model.specs.State as state
 
 abbrev pub place : List (Option Session) → ℕ → Option Session
 place sessions n = slice_index_or sessions n None

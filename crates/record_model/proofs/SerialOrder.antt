@@ -1,20 +1,6 @@
 -- Serial order, whatever the sessions' interleaving.
 use Rattle.std.proofs.lemmas.Grind.{common_steps}
-use Rattle.std.proofs.Common.{◌≡◌, ℕ, suc, ◌+◌, ◌*◌, ◌-◌, ◌<◌, ◌≤◌, Bool, true, false, List, [], ◌∷◌, ◌++◌, length, length-append, length-set, Option, Some, None, inl, inr, refl, ap, sym, ◌∙◌, subst, arith, add-one}
-use Rattle.std.specs.Prelude.{◌==◌, ◌&&◌, ◌||◌, slice_set, map, reverse, option_map, is_none, is_some, IsTrue, if◌then◌else◌}
-use Rattle.std.specs.List.{list_any, range_with_len}
-use mathlib.Core.List.{reverse_aux}
-use Rattle.record_model.specs.declared.words.Command.{Command}
-use Rattle.record_model.specs.declared.words.Command.TheVariants.{Begin, Read, Write, Erase, Scan, Commit, Abort, Get, Set, Mark, Back}
-use Rattle.record_model.specs.declared.words.CacheLine.{CacheLine}
-use Rattle.record_model.specs.declared.words.Reply.{Reply}
-use Rattle.record_model.specs.declared.words.Reply.TheVariants as reply
-use Rattle.record_model.specs.State.{Content, Session, State, opened, content_at, table_with, writes_of, seen}
-use Rattle.record_model.specs.State as state
-use Rattle.record_model.specs.Step.{Outcome, step, outcome, refusal, refuse_if, wants_active, wants_record, wants_short, wants_standing, may_read, may_write, ready, lacks_room, full, fills_page, carried_through, is_accepted, effect, answer, having_read, having_written, having_marked, going_back}
-use Rattle.record_model.specs.Run.{Line, Turn, line_step, turn, turns, replies, left_by, state_at, is_committed, commit_marks, commits_among, after_commits}
-use Rattle.record_model.specs.Serial.{lines_of, session_of, is_session, is_begin, is_begin_line, is_accepted_of, since_begin, committed_by, line_session, transaction, IsOfSession, IsTransaction, commits_before, table_before, opened_alone, Serial}
-use Rattle.record_model.specs.Laws.{IsSoundSession, AreSound}
+use Rattle.record_model.proofs.Citing.{◌≡◌, ℕ, suc, ◌+◌, ◌*◌, ◌-◌, ◌<◌, ◌≤◌, Bool, true, false, List, [], ◌∷◌, ◌++◌, length, length-append, length-set, Option, Some, None, inl, inr, refl, ap, sym, ◌∙◌, subst, arith, add-one, cases_Bool, or_parts, and_parts, not-true, eqb-true, eqb-false, reverse-reverse, list_any, range_with_len, ◌==◌, ◌&&◌, ◌||◌, slice_set, map, reverse, option_map, is_none, is_some, IsTrue, if◌then◌else◌, IsSoundSession, AreSound, Line, Turn, line_step, turn, turns, replies, left_by, state_at, is_committed, commit_marks, commits_among, after_commits, lines_of, session_of, is_session, is_begin, is_begin_line, is_accepted_of, since_begin, committed_by, line_session, transaction, IsOfSession, IsTransaction, commits_before, table_before, opened_alone, Serial, Content, Session, State, opened, content_at, table_with, writes_of, seen, Outcome, step, outcome, refusal, refuse_if, wants_active, wants_record, wants_short, wants_standing, may_read, may_write, ready, lacks_room, full, fills_page, carried_through, is_accepted, effect, answer, having_read, having_written, having_marked, going_back, CacheLine, Command, Begin, Read, Write, Erase, Scan, Commit, Abort, Get, Set, Mark, Back, Reply, none_if_is_none}
 use Rattle.record_model.proofs.StepLaws.{each_outcome, length_table_with, found_is, IsNoCommit, refusals, page_refusals, of_none, refused_changes_nothing}
 use Rattle.record_model.proofs.SessionLaws.{sessions_stay_sound}
 use Rattle.record_model.proofs.RunLaws.{IsRun, turns_are_run, state_after, one_commit_more, commits_make_the_table}
@@ -22,11 +8,11 @@ use Rattle.record_model.proofs.SerialGets.{turn_of_run, gets_are_serial}
 use Rattle.record_model.proofs.SerialLists.{not_both, same_is, get_set_other, get_none}
 use Rattle.record_model.proofs.SerialLocks.{place, wrote, touched, Apart, set_here, set_there, all_pass, untouched, locks_kept}
 use Rattle.record_model.proofs.SerialWhole.{since_is}
-use Rattle.std.proofs.lemmas.List.{reverse-reverse}
-use Rattle.std.proofs.lemmas.Bool.{cases_Bool, or_parts, and_parts, not-true, eqb-true, eqb-false}
-use Rattle.std_lemmas.proofs.Options.{none_if_is_none}
 use Rattle.record_model.proofs.SerialAlone.{alone, unrefused, step_through, commit_alone, set_alone}
 use Rattle.record_model.proofs.SerialSteps.{Standing, reply_more, state_more, one_turn, read_more, scan_more, write_more, erase_more, mark_more, back_more, begin_first}
+use mathlib.Core.List.{reverse_aux}
+use Rattle.record_model.specs.declared.words.Reply.TheVariants as reply
+use Rattle.record_model.specs.State as state
 
 -- A command of the session itself.
 

@@ -1,26 +1,13 @@
 -- What a session has been answered can be had again, alone, on each table that is the same where the session has read or written.
 use Rattle.std.proofs.lemmas.Grind.{common_steps}
-use Rattle.std.proofs.Common.{◌≡◌, ℕ, ◌+◌, ◌*◌, ◌-◌, ◌<◌, ◌≤◌, Bool, true, false, List, [], ◌∷◌, ◌++◌, length, length-append, Option, Some, None, refl, ap, sym, ◌∙◌, arith}
-use Rattle.std.specs.Prelude.{◌==◌, ◌||◌, filter_map, nat_le, nat_lt, option_map, unwrap_or}
-use Rattle.std.specs.List.{list_any, range_with_len}
-use Rattle.std.proofs.lemmas.Bool.{or_left, or_right}
-use Rattle.std_lemmas.proofs.AllOf.{each_member}
-use Rattle.std.proofs.lemmas.List.Folds.{list_any-append}
-use Rattle.record_model.specs.declared.words.Command.{Command}
-use Rattle.record_model.specs.declared.words.Command.TheVariants.{Begin, Read, Write, Erase, Scan, Mark, Back}
-use Rattle.record_model.specs.declared.words.Why.TheVariants.{NoRecord, BadMark}
-use Rattle.record_model.specs.declared.words.Reply.{Reply}
-use Rattle.record_model.specs.declared.words.Reply.TheVariants as reply
-use Rattle.record_model.specs.State.{Content, Session, State, content_at, last_write, writes_of, seen}
-use Rattle.record_model.specs.State as state
-use Rattle.record_model.specs.Step.{Outcome, step, refuse_if, wants_record, wants_short, wants_standing, answer, found, item, having_read, having_written, having_marked, going_back, dropped}
-use Rattle.record_model.specs.Run.{Line, Turn, line_step, turn, turns, replies, left_by, listings_after, is_quit}
-use Rattle.record_model.specs.Serial.{lines_of, opened_alone}
+use Rattle.record_model.proofs.Citing.{◌≡◌, ℕ, ◌+◌, ◌*◌, ◌-◌, ◌<◌, ◌≤◌, Bool, true, false, List, [], ◌∷◌, ◌++◌, length, length-append, Option, Some, None, refl, ap, sym, ◌∙◌, arith, or_left, or_right, list_any-append, list_any, range_with_len, ◌==◌, ◌||◌, filter_map, nat_le, nat_lt, option_map, unwrap_or, Line, Turn, line_step, turn, turns, replies, left_by, listings_after, is_quit, lines_of, opened_alone, Content, Session, State, content_at, last_write, writes_of, seen, Outcome, step, refuse_if, wants_record, wants_short, wants_standing, answer, found, item, having_read, having_written, having_marked, going_back, dropped, Command, Begin, Read, Write, Erase, Scan, Mark, Back, Reply, NoRecord, BadMark, each_member}
 use Rattle.record_model.proofs.RunLaws.{turns-append}
 use Rattle.record_model.proofs.SerialLists.{same_is, filter_map_same}
 use Rattle.record_model.proofs.SerialLocks.{place, wrote, touched}
 use Rattle.record_model.proofs.SerialWhole.{StartsWithBegin, starts_still}
 use Rattle.record_model.proofs.SerialAlone.{view, alone, here, read_alone, scan_alone, write_alone, erase_alone, mark_alone, back_alone, begin_alone}
+use Rattle.record_model.specs.declared.words.Reply.TheVariants as reply
+use Rattle.record_model.specs.State as state
 
 -- One line more.
 

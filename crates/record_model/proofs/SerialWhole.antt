@@ -1,16 +1,6 @@
 -- What a session's commands since its begin are.
-use Rattle.std.proofs.Common.{◌≡◌, ℕ, Bool, true, false, List, [], ◌∷◌, ◌++◌, append_assoc, Some, inl, inr, refl, ap, sym, ◌∙◌}
-use Rattle.std.specs.Prelude.{◌&&◌, ◌||◌, filter, reverse, IsTrue, if◌then◌else◌}
-use Rattle.std.specs.List.{list_any}
-use Rattle.std.proofs.lemmas.List.{reverse-append}
+use Rattle.record_model.proofs.Citing.{◌≡◌, ℕ, Bool, true, false, List, [], ◌∷◌, ◌++◌, append_assoc, Some, inl, inr, refl, ap, sym, ◌∙◌, cases_Bool, and_parts, reverse-append, list_any-append, list_any, ◌&&◌, ◌||◌, filter, reverse, IsTrue, if◌then◌else◌, Line, Turn, is_begin_line, is_accepted_of, since_begin, State, is_accepted, Begin}
 use Rattle.std.proofs.lemmas.List.Elements.{filter-append}
-use Rattle.std.proofs.lemmas.Bool.{cases_Bool, and_parts}
-use Rattle.std.proofs.lemmas.List.Folds.{list_any-append}
-use Rattle.record_model.specs.declared.words.Command.TheVariants.{Begin}
-use Rattle.record_model.specs.State.{State}
-use Rattle.record_model.specs.Step.{is_accepted}
-use Rattle.record_model.specs.Run.{Line, Turn}
-use Rattle.record_model.specs.Serial.{is_begin_line, is_accepted_of, since_begin}
 use Rattle.record_model.proofs.SerialLists.{not_both}
 
 -- an accepted command of the session

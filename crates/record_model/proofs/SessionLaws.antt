@@ -1,17 +1,8 @@
 -- What holds of an active session at each moment.
 use Rattle.std.proofs.lemmas.Grind.{common_steps}
-use Rattle.std.proofs.Common.{◌≡◌, ℕ, zero, suc, Bool, true, List, [], ◌∷◌, Option, Some, None, inl, inr, refl, sym, ◌∙◌, subst, arith}
-use Rattle.std.specs.Prelude.{◌⊎◌, slice_index_or, slice_set, take, option_map}
-use Rattle.std.specs.List.{list_any}
-use Rattle.record_model.specs.declared.words.Command.{Command}
-use Rattle.record_model.specs.declared.words.Command.TheVariants.{Begin, Read, Write, Erase, Scan, Commit, Abort, Mark, Back}
-use Rattle.record_model.specs.declared.words.CacheLine.{CacheLine}
-use Rattle.record_model.specs.declared.words.Reply.{Reply}
-use Rattle.record_model.specs.State.{Session, State}
-use Rattle.record_model.specs.State as state
-use Rattle.record_model.specs.Step.{outcome, refusal, ready, lacks_room, fills_page, effect, having_read, having_written, having_marked, going_back, left_standing}
-use Rattle.record_model.specs.Laws.{IsSoundSession, AreSound, SessionsStaySound}
+use Rattle.record_model.proofs.Citing.{◌≡◌, ℕ, zero, suc, Bool, true, List, [], ◌∷◌, Option, Some, None, inl, inr, refl, sym, ◌∙◌, subst, arith, list_any, ◌⊎◌, slice_index_or, slice_set, take, option_map, IsSoundSession, AreSound, SessionsStaySound, Session, State, outcome, refusal, ready, lacks_room, fills_page, effect, having_read, having_written, having_marked, going_back, left_standing, CacheLine, Command, Begin, Read, Write, Erase, Scan, Commit, Abort, Mark, Back, Reply}
 use Rattle.record_model.proofs.StepLaws.{each_outcome}
+use Rattle.record_model.specs.State as state
 
 -- A place has what was put there, or what it had.
 pub placed_or : (sessions : List (Option Session)) (n : ℕ) (v : Option Session) (k : ℕ) →

@@ -1,22 +1,9 @@
 -- What follows from the step of the model.
-use Rattle.std.proofs.Common.{◌≡◌, ℕ, ◌+◌, ◌-◌, Bool, true, false, List, [], ◌∷◌, length, Option, Some, None, refl, ap, ◌∙◌, arith, slice_set, ◌≤◌}
-use Rattle.std.specs.Prelude.{not, ◌&&◌, is_none, if◌then◌else◌, option_map, map}
-use Rattle.std.specs.List.{AllByRecursion, range_with_len}
+use Rattle.record_model.proofs.Citing.{◌≡◌, ℕ, ◌+◌, ◌-◌, Bool, true, false, List, [], ◌∷◌, length, Option, Some, None, refl, ap, ◌∙◌, arith, ◌≤◌, AllByRecursion, range_with_len, not, ◌&&◌, is_none, if◌then◌else◌, option_map, map, IsCountedIn, KeepsSizes, SizesStay, is_committed, Line, line_step, kept_by_checkpoint, Content, Session, State, table_with, session_at, writes_of, busy_read, busy_write, lacks_room, asks_for_checkpoint, Outcome, outcome, carried_through, full, fills_page, refusal, first_refusal, refuse_if, wants_active, wants_record, wants_short, wants_standing, may_read, may_write, ready, effect, answer, found, makes_checkpoint, is_accepted, step, CacheLine, Command, Begin, Read, Write, Erase, Scan, Commit, Abort, Get, Set, Mark, Back, Reply, Why, BadSession, NoRecord, TooLong, BadMark}
+use Rattle.std.proofs.Common.{slice_set}
 use Rattle.std.proofs.lemmas.Grind.{common_steps}
-use Rattle.record_model.specs.declared.words.Command.{Command}
-use Rattle.record_model.specs.declared.words.Command.TheVariants.{Begin, Read, Write, Erase, Scan, Commit, Abort, Get, Set, Mark, Back}
-use Rattle.record_model.specs.declared.words.CacheLine.{CacheLine}
-use Rattle.record_model.specs.declared.words.Why.{Why}
-use Rattle.record_model.specs.declared.words.Why.TheVariants.{BadSession, NoRecord, TooLong, BadMark}
-use Rattle.record_model.specs.declared.words.Reply.{Reply}
 use Rattle.record_model.specs.declared.words.Reply.TheVariants as reply
-use Rattle.record_model.specs.State.{kept_by_checkpoint, Content, Session, State, table_with, session_at, writes_of, busy_read, busy_write}
 use Rattle.record_model.specs.State as state
-use Rattle.record_model.specs.Step.{lacks_room, asks_for_checkpoint, Outcome, outcome, carried_through, full, fills_page, refusal, first_refusal, refuse_if, wants_active, wants_record, wants_short, wants_standing, may_read, may_write, ready, effect, answer, found}
-use Rattle.record_model.specs.Run.{is_committed}
-use Rattle.record_model.specs.Laws.{IsCountedIn, KeepsSizes, SizesStay}
-use Rattle.record_model.specs.Run.{Line, line_step}
-use Rattle.record_model.specs.Step.{makes_checkpoint, is_accepted, step}
 
 -- What holds of each outcome that a command whose tests let it through may have.
 pub each_outcome : (P : Outcome → Type 0) (s : State) (command : Command) (listing : List CacheLine) (lacks : Bool) (page : Option Reply) →

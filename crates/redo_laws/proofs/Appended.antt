@@ -1,48 +1,12 @@
 -- A record is appended beside the pages.
-use Rattle.image_changes.proofs.Sequence.{ring_kept}
+use Rattle.redo_laws.proofs.Citing.{◌≡◌, ℕ, ◌+◌, ◌*◌, ◌≤◌, ◌<◌, Bool, true, false, List, [], ◌∷◌, ◌++◌, map, refl, sym, ap, subst, ◌∙◌, arith, lt-ltb, AllByRecursion, range_with_len, if◌then◌else◌, Result, Ok, Err, OnOk, IfOk, Option, frame_of, Frame, Master, ring_kept, Reaches, IsReached, IsFrontOf, LeavesFront, AreRingsSoundUnder, KeepsRingsAll, next_block_under, logical_image_under, master_of, versions_on, version_in, kept_by, LeavesTableUnder, next_lsn, Entry, Version, log_from, AreBlock, LogRecord, LogList, sealed_if, changes_if, with_record, HasBlocks, LeavesLog, has_tail, end_of, LogStore, fits_beside, leaves_beside, sealed_beside, versions_beside, AreSealed, LeavesSealed, IsAhead, sealed_end, AreReady, LeavesPages, LeavesRings, IsStore, current, content_by, PageStore, Content, EndsWith, RepresentsLog, Represents, MayGrow, KeepsPages, blocks_to, RunsOn, leaves_weaker, Preserves, LeavesOnly, ChangesOnly, State, Image, IsQuiet, Geometry, Log, lsn_of, IsLogged}
 use Rattle.image_meaning.proofs.Beside.{rings_kept}
-use Rattle.page_store.proofs.Beside.{fits_beside, leaves_beside, sealed_beside, versions_beside}
-use Rattle.std.proofs.Common.{◌≡◌, ℕ, ◌+◌, ◌*◌, ◌≤◌, ◌<◌, Bool, true, false, List, [], ◌∷◌, ◌++◌, map, refl, sym, ap, subst, ◌∙◌, arith}
-use Rattle.log_laws.specs.Tail.{next_lsn}
-use Rattle.std.specs.Prelude.{if◌then◌else◌, Result, Ok, Err, OnOk, IfOk, Option}
-use Rattle.std.specs.List.{AllByRecursion, range_with_len}
-use Rattle.std.proofs.lemmas.Bool.{lt-ltb}
-use Rattle.site.specs.declared.outside.Dev.TheVariants.{Log}
-use Rattle.site.specs.declared.geometry.Geometry.{Geometry}
-use Rattle.site.specs.State.{State, Image, IsQuiet}
-use Rattle.site.specs.Calls.{Preserves}
-use Rattle.site.specs.Moments.{LeavesOnly, ChangesOnly}
-use Rattle.site.proofs.Laws.{leaves_weaker}
-use Rattle.record_model.specs.State.{Content}
-use Rattle.log_records.specs.declared.log_record.LogRecord.{LogRecord}
-use Rattle.log_records.specs.Spelling.{AreBlock}
-use Rattle.log_records.specs.Log.{Entry, Version, log_from}
-use Rattle.image_changes.specs.Changes.{Reaches}
-use Rattle.image_changes.specs.Reached.{IsReached, IsFrontOf, LeavesFront}
-use Rattle.log_store.specs.declared.store.LogStore.{LogStore}
-use Rattle.log_store.specs.LogList.{LogList, sealed_if, changes_if, with_record}
-use Rattle.log_store.specs.Representation as log_store
-use Rattle.log_store.specs.Representation.{HasBlocks, LeavesLog, has_tail, end_of}
-use Rattle.buffer_pool.specs.declared.frame.Frame.{Frame}
-use Rattle.write_ahead.specs.Forcing.{IsLogged}
-use Rattle.page_store.specs.declared.store.PageStore.{PageStore}
-use Rattle.page_store.specs.Representation.{IsStore, current, content_by}
-use Rattle.buffer_pool.specs.Frames.{frame_of}
-use Rattle.page_store.specs.Ahead.{AreSealed, LeavesSealed, IsAhead, sealed_end}
-use Rattle.page_store.specs.Leaves.{AreReady, LeavesPages, LeavesRings}
-use Rattle.checkpoint.specs.declared.master.Master.{Master}
-use Rattle.image_meaning.specs.Meaning.{next_block_under, logical_image_under, master_of, versions_on, version_in, kept_by}
-use Rattle.image_meaning.specs.Moments.{LeavesTableUnder}
-use Rattle.image_meaning.specs.Beside.{AreRingsSoundUnder, KeepsRingsAll}
 use Rattle.page_store.proofs.Rings.{all_front, sealing_keeps}
-use Rattle.redo_laws.specs.Running.{RunsOn}
-use Rattle.slotted_page.specs.Layout.{lsn_of}
-use Rattle.redo_laws.specs.Holding.{RepresentsLog, Represents, MayGrow, KeepsPages, blocks_to}
-use Rattle.redo_laws.specs.Committing.{EndsWith}
 use Rattle.redo_laws.proofs.Runs.{one_more}
 use Rattle.redo_laws.proofs.Standing.{last_of_all, next_more}
 use Rattle.redo_laws.proofs.Changed.{shows_same}
 use Rattle.redo_laws.proofs.Touched.{tail_blocks, hi_is, runs_sealed, leaves_table}
+use Rattle.log_store.specs.Representation as log_store
 
 -- the numbers of an append, on every site
 pub record IsNumbered (log log' : LogStore) (lsn : ℕ) (sealing : Bool) : Type 0 where

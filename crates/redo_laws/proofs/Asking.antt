@@ -1,26 +1,9 @@
 -- Calls that ask the cache for work, one after the other.
 use Rattle.std.proofs.lemmas.Grind.{common_steps}
-use Rattle.std.proofs.Common.{◌≡◌, ◌+◌, ◌*◌, ◌≤◌, Bool, true, false, List, [], ◌++◌, arith, refl, sym, ap, subst, ◌∙◌, ℕ}
-use Rattle.std.specs.Prelude.{Result, Ok, Err, IsErrOf, if◌then◌else◌, IsTrue, OnOk}
-use Rattle.site.specs.declared.outside.Dev.TheVariants.{Flash, Disk, Log}
-use Rattle.site.specs.declared.outside.Stop.{Stop}
-use Rattle.site.specs.State.{State, IsQuiet}
-use Rattle.site.specs.Calls.{SameReads, IsUnchanged, Preserves}
-use Rattle.site.proofs.Laws.{stays_honest}
-use Rattle.std.specs.List.{Contains}
-use Rattle.log_store.specs.declared.store.LogStore.{LogStore}
-use Rattle.page_store.specs.Staging.{pages_staged, HasQueueOn, Stages}
-use Rattle.site.specs.Moments.{ChangesOnly}
+use Rattle.redo_laws.proofs.Citing.{◌≡◌, ◌+◌, ◌*◌, ◌≤◌, Bool, true, false, List, [], ◌++◌, arith, refl, sym, ap, subst, ◌∙◌, ℕ, Contains, Result, Ok, Err, IsErrOf, if◌then◌else◌, OnOk, LogStore, unsynced_logged, counted_none, last_none, log_leaves, among_first, queue_same, stages_ok, stages_err, stages_as, stages_weaker, stages_then, stages_none, stages_still, stages_beside, cache_of, rules, pushes, pages_staged, HasQueueOn, Stages, PageStore, CacheOp, KeepsInvariantBeside, next_group, one_touch, one_change, ReadsFor, StepsMachine, StagesFor, Rules, Cache, Staged, touched, finds, misses, after_works, staged_by_works, stays_honest, ok_as, ok_always, SameReads, IsUnchanged, Preserves, ChangesOnly, State, IsQuiet, Flash, Disk, Log, Stop}
+use Rattle.std.specs.Prelude.{IsTrue}
 use Rattle.flash_cache.specs.OnDisk.{HasLastStaged}
-use Rattle.page_store.proofs.StagingLaws.{last_none, log_leaves, among_first, queue_same, stages_ok, stages_err, stages_as, stages_weaker, stages_then, stages_none, stages_still, stages_beside}
-use Rattle.redo_laws.specs.Calls.{KeepsInvariantBeside}
-use Rattle.record_model.specs.Touches.{CacheOp}
-use Rattle.second_chance.specs.Machine.{Rules, Cache, Staged, touched, finds, misses, after_works, staged_by_works}
-use Rattle.page_store.specs.declared.store.PageStore.{PageStore}
-use Rattle.page_store.specs.Caching.{cache_of, rules, pushes}
-use Rattle.redo_laws.specs.MachineSteps.{next_group, one_touch, one_change, ReadsFor, StepsMachine, StagesFor}
 use Rattle.redo_laws.proofs.Costs.{ops_compose, staged_add_up, reads_add_up, reads_for_more, touched_next, more_next}
-use Rattle.site.proofs.Working.{ok_as, ok_always}
 
 pub stop_is : {U : Type 0} (stop is : Stop) → IsErrOf {T = U} (Err stop) is → stop ≡ is
 stop_is stop is same = cc
@@ -61,12 +44,13 @@ stages_alone {result = result} {pages = pages} {before = before} {now = now} cha
   quiet = λ has. quiet has.fits.honest;
   writes = λ has calm. (let is = has.next in log_leaves pages.flash.geometry [] (next_group (cache_of pages)) before now (omega (arith, is)) calm (changes has.fits.honest));
   last = λ has calm. ok_always result (HasLastStaged pages.flash.geometry [] before now) (last_none pages.flash.geometry [] before now refl);
+  counted = λ has calm. counted_none result [] pages pages before now (unsynced_logged before now calm (changes has.fits.honest)) (ok_always result _ (omega arith)) (ok_always result _ refl);
   sizes = refl;
 }
 
 pub stages_read : {A : Type 0} {result : Result A Stop} {pages : PageStore} {before now : State} → (IsTrue before.honest → IsUnchanged before now) → Preserves before now → Stages result [] (next_group (cache_of pages)) pages pages before now
 stages_read {A} {result = result} {pages = pages} {before = before} {now = now} same goes =
-    stages_still (ok_always result _ refl) (omega arith) same refl (λ has. ok_always result (HasQueueOn pages now) (queue_same pages pages before now refl (ap (λ i. i.flash) (same has.fits.honest).image) (stays_honest before now goes has.fits.honest) has))
+    stages_still (ok_always result _ refl) (omega arith) same refl (ok_always result _ (omega arith)) (λ has. ok_always result (HasQueueOn pages now) (queue_same pages pages before now refl (ap (λ i. i.flash) (same has.fits.honest).image) (stays_honest before now goes has.fits.honest) has))
 
 -- no work
 pub no_reads : (r : Rules) (cache : Cache) (before now : State) → SameReads before now → ReadsFor r [] cache before now

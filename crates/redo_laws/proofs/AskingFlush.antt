@@ -1,18 +1,5 @@
 -- What a checkpoint asks of the page cache.
-use Rattle.std.proofs.Common.{◌≡◌, ◌⊎◌, List, [], arith, ap, append-nil}
-use Rattle.std.specs.Prelude.{⊤, Result, Ok, Err, OnOk, IfErr, IsErrOf}
-use Rattle.site.specs.declared.outside.Dev.TheVariants.{Log, Flash, Disk}
-use Rattle.site.specs.declared.outside.Stop.{Stop}
-use Rattle.site.specs.declared.outside.Stop.TheVariants.{Device, Worn}
-use Rattle.site.specs.State.{State}
-use Rattle.site.specs.Calls.{SameReads}
-use Rattle.record_model.specs.Touches.{CacheOp}
-use Rattle.second_chance.specs.Machine.{after_works, staged_by_works}
-use Rattle.page_store.specs.declared.store.PageStore.{PageStore}
-use Rattle.page_store.specs.Caching.{cache_of, rules}
-use Rattle.page_store.specs.Staging.{Stages}
-use Rattle.page_store.proofs.StagingLaws.{stages_as, stages_then}
-use Rattle.redo_laws.specs.MachineSteps.{StepsMachine, StagesFor, next_group}
+use Rattle.redo_laws.proofs.Citing.{◌≡◌, ◌⊎◌, List, [], arith, ap, append-nil, ⊤, Result, Ok, Err, OnOk, IfErr, IsErrOf, stages_as, stages_then, cache_of, rules, Stages, PageStore, CacheOp, StepsMachine, StagesFor, next_group, after_works, staged_by_works, SameReads, State, Log, Flash, Disk, Stop, Device, Worn}
 use Rattle.redo_laws.proofs.Costs.{more_next}
 use Rattle.redo_laws.proofs.AskingUndo.{not_worn_flash}
 

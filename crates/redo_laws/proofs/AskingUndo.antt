@@ -1,27 +1,10 @@
 -- What undo asks of the cache: calls on the log alone, and one Update after the other.
 use Rattle.std.proofs.lemmas.Grind.{common_steps}
-use Rattle.std.proofs.Common.{◌≡◌, ◌≢◌, ◌⊎◌, inl, inr, ◌+◌, ◌*◌, ◌<◌, ◌≤◌, true, List, [], ◌∷◌, ◌++◌, append_assoc, append-nil, Option, Some, arith, refl, sym, ap, ◌∙◌, ℕ}
-use Rattle.std.specs.Prelude.{Result, Ok, Err, OnOk, option_map, ⊤}
-use Rattle.std.specs.List.{cons_option}
+use Rattle.redo_laws.proofs.Citing.{◌≡◌, ◌⊎◌, inl, inr, ◌+◌, ◌*◌, ◌<◌, ◌≤◌, true, List, [], ◌∷◌, ◌++◌, append_assoc, append-nil, Some, arith, refl, sym, ap, ◌∙◌, ℕ, cons_option, Result, Ok, Err, OnOk, option_map, ⊤, Entry, number_of, stages_err, stages_as, stages_then, cache_of, rules, with_change, Stages, PageStore, CacheOp, touch, page_of, write_touch, next_group, one_touch, one_change, ReadsFor, StepsMachine, works_of, Rules, Cache, touched, staged_by_works, ok_as, SameReads, State, reads_of, Dev, Log, Flash, Disk, Stop, Device, Worn, Foreign}
+use Rattle.std.proofs.Common.{◌≢◌, Option}
 use Rattle.std.proofs.lemmas.List.Elements.{filter_map-append}
-use Rattle.site.specs.declared.outside.Dev.{Dev}
-use Rattle.site.specs.declared.outside.Dev.TheVariants.{Log, Flash, Disk}
-use Rattle.site.specs.declared.outside.Stop.{Stop}
-use Rattle.site.specs.declared.outside.Stop.TheVariants.{Device, Worn, Foreign}
-use Rattle.site.specs.State.{State, reads_of}
-use Rattle.site.specs.Calls.{SameReads}
-use Rattle.record_model.specs.Touches.{CacheOp, touch, page_of, write_touch}
-use Rattle.log_records.specs.Log.{Entry, number_of}
-use Rattle.second_chance.specs.Machine.{Rules, Cache, touched, staged_by_works}
-use Rattle.page_store.specs.declared.store.PageStore.{PageStore}
-use Rattle.page_store.specs.Caching.{cache_of, rules, with_change}
-use Rattle.page_store.specs.Staging.{Stages}
-use Rattle.page_store.proofs.StagingLaws.{stages_err, stages_as, stages_then}
-use Rattle.redo_laws.specs.MachineSteps.{next_group, one_touch, one_change, ReadsFor, StepsMachine}
-use Rattle.redo_laws.specs.UndoWorks.{works_of}
 use Rattle.redo_laws.proofs.Costs.{reads_add_up, more_next, touch_then_change}
 use Rattle.redo_laws.proofs.Asking.{change_reads, change_stages, asks_stopped}
-use Rattle.site.proofs.Working.{ok_as}
 
 -- Calls on the log alone.
 

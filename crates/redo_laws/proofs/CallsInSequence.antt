@@ -1,37 +1,8 @@
 -- Calls one behind the other, and a site of which only was read.
 use Rattle.std.proofs.lemmas.Grind.{common_steps}
-use Rattle.page_store.specs.Leaves.{AreReady}
-use Rattle.log_records.specs.Sound.{Means}
-use Rattle.log_records.specs.declared.log_record.LogRecord.{LogRecord}
-use Rattle.page_store.proofs.Beside.{fits_beside}
-use Rattle.image_meaning.proofs.UnchangedImages.{next_block_is}
-use Rattle.log_laws.proofs.Tails.{carries_nothing}
-use Rattle.std.proofs.Common.{◌≡◌, ℕ, ◌<◌, ◌≤◌, nat_lt, arith, append-nil, [], List, refl, sym, subst, ◌∙◌}
-use Rattle.std.specs.Prelude.{Option}
-use Rattle.site.specs.declared.outside.Dev.TheVariants.{Log}
-use Rattle.site.specs.declared.geometry.Geometry.{Geometry}
-use Rattle.site.specs.State.{State, Image, IsQuiet}
-use Rattle.site.specs.Calls.{Preserves, IsUnchanged}
-use Rattle.site.proofs.Laws.{in_sequence, holds_now, no_call, unchanged_calm, stays_honest, quiet_leaves}
-use Rattle.site.specs.Moments.{Leaves, LeavesOnly, ChangesOnly}
-use Rattle.image_changes.specs.Rings.{KeepsUnits, master_shape}
-use Rattle.record_model.specs.State.{Content}
-use Rattle.log_records.specs.Log.{Entry, log_from}
-use Rattle.log_store.specs.declared.store.LogStore.{LogStore}
-use Rattle.log_store.specs.Representation as log_store
-use Rattle.log_store.specs.Representation.{Finds, HasBlocks, has_tail, end_of}
-use Rattle.page_store.specs.Caching.{rules}
-use Rattle.slotted_page.specs.Layout.{lsn_of}
+use Rattle.redo_laws.proofs.Citing.{◌≡◌, ℕ, ◌<◌, ◌≤◌, nat_lt, arith, append-nil, [], List, refl, sym, subst, ◌∙◌, Option, Master, KeepsUnits, master_shape, next_block_is, AreRingsSoundUnder, logical_image_under, StandsUnder, kept_by, IsSoundUnder, LeavesTableUnder, carries_nothing, Entry, log_from, Means, LogRecord, Finds, HasBlocks, has_tail, end_of, LogStore, fits_beside, IsAhead, rules, AreReady, current, PageStore, Content, Invariant, Represents, RepresentsIn, ShowRecords, RunsOn, in_sequence, holds_now, no_call, unchanged_calm, stays_honest, quiet_leaves, Preserves, IsUnchanged, Leaves, LeavesOnly, ChangesOnly, State, Image, IsQuiet, Geometry, Log, lsn_of}
 use Rattle.page_store.proofs.Versions.{flash_later}
-use Rattle.page_store.specs.declared.store.PageStore.{PageStore}
-use Rattle.page_store.specs.Representation.{current}
-use Rattle.page_store.specs.Ahead.{IsAhead}
-use Rattle.checkpoint.specs.declared.master.Master.{Master}
-use Rattle.image_meaning.specs.Meaning.{logical_image_under, StandsUnder, kept_by, IsSoundUnder}
-use Rattle.image_meaning.specs.Moments.{LeavesTableUnder}
-use Rattle.image_meaning.specs.Beside.{AreRingsSoundUnder}
-use Rattle.redo_laws.specs.Running.{RunsOn}
-use Rattle.redo_laws.specs.Holding.{Invariant, Represents, RepresentsIn, ShowRecords}
+use Rattle.log_store.specs.Representation as log_store
 
 -- The ring of blocks is found on a site on which log and pages hold together.
 pub found_now : {g : Geometry} {log : LogStore} {pages : PageStore} {site : State} {newest : Option Master} {records : List Entry} {table : List Content} {commits : ℕ} → RepresentsIn g log pages site newest records table commits → Finds log site

@@ -1,26 +1,9 @@
 -- What a page shows behind one more record.
 use Rattle.std.proofs.lemmas.Grind.{common_steps}
+use Rattle.redo_laws.proofs.Citing.{◌≡◌, ◌⊎◌, inl, inr, ℕ, ◌+◌, ◌*◌, ◌/◌, ◌≤◌, ◌<◌, false, List, [], ◌∷◌, ◌++◌, length, None, Some, refl, sym, ap, subst, ◌∙◌, arith, cases_eq, ne_eqb, eq-eqb, none-some, same_Some, front_of, Master, versions_on, version_in, Redoes, AreKnown, ShowsAll, Entry, Version, number_of, is_on, is_number, shown, LogRecord, end_of, LogStore, IsAhead, current, Matches, IsStore, PageStore, Content, content_at, RepresentsLog, RepresentsIn, KeepsPages, Represents, State, Image, Geometry, lsn_of, slots_of}
 use Rattle.page_store.proofs.Fitting.{front_exists}
 use Rattle.log_laws.proofs.Shown.{shown_push}
-use Rattle.std.proofs.Common.{◌≡◌, ◌≢◌, ◌⊎◌, inl, inr, ℕ, ◌+◌, ◌*◌, ◌/◌, ◌≤◌, ◌<◌, false, List, [], ◌∷◌, ◌++◌, length, Option, None, Some, refl, sym, ap, subst, ◌∙◌, arith}
-use Rattle.std.proofs.lemmas.Bool.{cases_eq, ne_eqb, eq-eqb}
-use Rattle.std.proofs.lemmas.Option.{none-some, same_Some}
-use Rattle.site.specs.declared.geometry.Geometry.{Geometry}
-use Rattle.site.specs.State.{State, Image}
-use Rattle.record_model.specs.State.{Content, content_at}
-use Rattle.log_records.specs.declared.log_record.LogRecord.{LogRecord}
-use Rattle.slotted_page.specs.Layout.{lsn_of, slots_of}
-use Rattle.log_store.specs.declared.store.LogStore.{LogStore}
-use Rattle.log_store.specs.Representation.{end_of}
-use Rattle.page_store.specs.declared.store.PageStore.{PageStore}
-use Rattle.page_store.specs.Representation.{current, Matches, IsStore}
-use Rattle.page_store.specs.Ahead.{IsAhead}
-use Rattle.buffer_pool.specs.Frames.{front_of}
-use Rattle.checkpoint.specs.declared.master.Master.{Master}
-use Rattle.image_meaning.specs.Meaning.{versions_on, version_in}
-use Rattle.redo_laws.specs.Holding.{RepresentsLog, RepresentsIn, KeepsPages, Represents}
-use Rattle.log_records.specs.Log.{Entry, Version, number_of, is_on, is_number, shown}
-use Rattle.image_meaning.specs.Redone.{Redoes, AreKnown, ShowsAll}
+use Rattle.std.proofs.Common.{◌≢◌, Option}
 use Rattle.flash_cache.proofs.Given.{all_append}
 
 pub known_more : (log : List Entry) (page from to : ℕ) → from ≤ to → AreKnown log page from → AreKnown log page to

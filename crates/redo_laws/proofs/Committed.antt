@@ -1,53 +1,17 @@
 -- A Commit is appended and sealed.
 use Rattle.std.proofs.lemmas.Grind.{common_steps}
-use Rattle.image_meaning.proofs.UnchangedImages.{next_block_is}
+use Rattle.redo_laws.proofs.Citing.{◌≡◌, ℕ, ◌+◌, ◌≤◌, ◌<◌, true, false, List, [], ◌∷◌, ◌++◌, inl, inr, refl, sym, ap, subst, ◌∙◌, arith, none-some, Master, Reaches, LeavesFront, next_block_is, AreRingsSoundUnder, next_block_under, logical_image_under, master_of, versions_on, version_in, kept_by, LeavesTableUnder, LeavesEitherUnder, ShowsAll, carries_more, carries_nothing, commits_more, sealed_tail, tail_with_commit, whole_more, whole_sealed, Follows, sealed, next_entries, writes_in, Carries, whole, next_lsn, Entry, Version, LogicalImage, HasRoom, commit_numbers, commit_count, AreBlock, block_len, owed, owed_by, LogRecord, LogList, sealed_if, changes_if, HasBlocks, LeavesLog, has_tail, end_of, LogStore, fits_beside, AreSealed, LeavesSealed, LeavesPages, LeavesRings, IsStore, current, PageStore, Content, table_with, MayCommit, EndsWith, Represents, RunsOn, leaves_weaker, each_both, each_weaker, in_sequence, holds_now, Preserves, Leaves, LeavesOnly, ChangesOnly, State, Snapshot, IsQuiet, Geometry, Log, lsn_of, end_forced}
 use Rattle.log_laws.proofs.Appends.{commit_follows}
 use Rattle.log_laws.proofs.Owing.{owed_closing}
 use Rattle.log_laws.proofs.Seals.{sealed_count}
-use Rattle.log_laws.proofs.Tails.{carries_more, carries_nothing, commits_more, sealed_tail, tail_with_commit, whole_more, whole_sealed}
-use Rattle.page_store.proofs.Beside.{fits_beside}
-use Rattle.std.proofs.Common.{◌≡◌, ℕ, ◌+◌, ◌≤◌, ◌<◌, true, false, List, [], ◌∷◌, ◌++◌, inl, inr, refl, sym, ap, subst, ◌∙◌, arith, Option}
-use Rattle.std.proofs.lemmas.Option.{none-some}
-use Rattle.site.specs.declared.outside.Dev.TheVariants.{Log}
-use Rattle.site.specs.declared.geometry.Geometry.{Geometry}
-use Rattle.site.specs.State.{State, Snapshot, IsQuiet}
-use Rattle.site.specs.Calls.{Preserves}
-use Rattle.site.specs.Moments.{Leaves, LeavesOnly, ChangesOnly}
-use Rattle.site.proofs.Laws.{leaves_weaker, each_both, each_weaker, in_sequence, holds_now}
-use Rattle.record_model.specs.State.{Content, table_with}
-use Rattle.log_records.specs.declared.log_record.LogRecord.{LogRecord}
+use Rattle.std.proofs.Common.{Option}
 use Rattle.log_records.specs.declared.log_record.LogRecord.TheVariants.{Commit}
-use Rattle.log_records.specs.Spelling.{AreBlock, block_len}
-use Rattle.log_records.specs.Log.{Entry, Version}
-use Rattle.log_records.specs.Unfinished.{owed, owed_by}
-use Rattle.log_records.specs.Sound.{LogicalImage, HasRoom, commit_numbers, commit_count}
-use Rattle.log_laws.specs.Follow.{Follows, sealed, next_entries, writes_in}
-use Rattle.log_laws.specs.Tail.{Carries, whole, next_lsn}
-use Rattle.image_changes.specs.Changes.{Reaches}
-use Rattle.image_changes.specs.Reached.{LeavesFront}
-use Rattle.slotted_page.specs.Layout as page
-use Rattle.slotted_page.specs.Layout.{lsn_of}
-use Rattle.log_store.specs.declared.store.LogStore.{LogStore}
-use Rattle.log_store.specs.LogList.{LogList, sealed_if, changes_if}
-use Rattle.log_store.specs.Representation as log_store
-use Rattle.log_store.specs.Representation.{HasBlocks, LeavesLog, has_tail, end_of}
-use Rattle.write_ahead.specs.Forcing.{end_forced}
-use Rattle.page_store.specs.declared.store.PageStore.{PageStore}
-use Rattle.page_store.specs.Representation.{IsStore, current}
-use Rattle.page_store.specs.Ahead.{AreSealed, LeavesSealed}
-use Rattle.page_store.specs.Leaves.{LeavesPages, LeavesRings}
-use Rattle.checkpoint.specs.declared.master.Master.{Master}
-use Rattle.image_meaning.specs.Meaning.{next_block_under, logical_image_under, master_of, versions_on, version_in, kept_by}
-use Rattle.image_meaning.specs.Redone.{ShowsAll}
-use Rattle.image_meaning.specs.Moments.{LeavesTableUnder, LeavesEitherUnder}
-use Rattle.image_meaning.specs.Beside.{AreRingsSoundUnder}
-use Rattle.redo_laws.specs.Running.{RunsOn}
-use Rattle.redo_laws.specs.Holding.{Represents}
-use Rattle.redo_laws.specs.Committing.{MayCommit, EndsWith}
 use Rattle.redo_laws.proofs.Standing.{more_blocks, stands_now, current_sound, last_of_all}
 use Rattle.redo_laws.proofs.Touched.{tail_blocks}
 use Rattle.redo_laws.proofs.Appended.{logged_more, versions_same, current_same, more_sealed, pages_stay, rings_now}
 use Rattle.redo_laws.proofs.Changed.{off_page}
+use Rattle.slotted_page.specs.Layout as page
+use Rattle.log_store.specs.Representation as log_store
 
 -- A tail whose last record is a Commit is sealed.
 module _ (p : LogicalImage) (front : List LogRecord) (txn number lsn : ℕ) (records : List Entry) (table : List Content) (commits : ℕ) (runs : RunsOn p front records table commits) (next : lsn ≡ next_lsn p front)

@@ -1,14 +1,8 @@
 -- What work costs the cache: the groups that it appends, and the pages that it reads.
-use Rattle.site.specs.State.{State}
-use Rattle.std.proofs.Common.{◌≡◌, ℕ, ◌+◌, ◌≤◌, Bool, List, [], ◌∷◌, ◌++◌, arith, refl, append_assoc, ◌∙◌}
-use Rattle.std.specs.Prelude.{if◌then◌else◌}
+use Rattle.redo_laws.proofs.Citing.{◌≡◌, ℕ, ◌+◌, ◌≤◌, Bool, List, [], ◌∷◌, ◌++◌, arith, refl, append_assoc, ◌∙◌, if◌then◌else◌, pushes, rules, CacheOp, touch, flush, next_group, finds_in, misses_in, NumbersRise, ReadsFor, Rules, Cache, with_room, touched, apply_op, after_works, staged_by_works, State}
 use Rattle.second_chance.proofs.GroupCounts.{front_next}
-use Rattle.record_model.specs.Touches.{CacheOp, touch, flush}
 use Rattle.std_lemmas.proofs.Bools.{or_true}
 use Rattle.page_store.specs.Laws.{TouchThenChange}
-use Rattle.second_chance.specs.Machine.{Rules, Cache, with_room, touched, apply_op, after_works, staged_by_works}
-use Rattle.page_store.specs.Caching.{pushes, rules}
-use Rattle.redo_laws.specs.MachineSteps.{next_group, finds_in, misses_in, NumbersRise, ReadsFor}
 use Rattle.page_store.proofs.Numbers.{first_next, flushed_next}
 
 -- Work after work.

@@ -1,21 +1,7 @@
 -- How calls end, each known by its record.
-use Rattle.std.proofs.Common.{arith}
-use Rattle.std.proofs.Common.{◌≡◌, inl, Bool, List}
-use Rattle.std.specs.Prelude.{Result, Ok, Err}
-use Rattle.site.specs.declared.outside.Stop.{Stop}
-use Rattle.site.specs.declared.outside.Stop.TheVariants.{Memory}
-use Rattle.site.specs.declared.geometry.Geometry.{Geometry}
-use Rattle.site.specs.State.{State, Snapshot, IsQuiet}
-use Rattle.site.specs.Moments.{Leaves, LeavesOnly}
-use Rattle.site.proofs.Laws.{in_sequence, leaves_weaker}
-use Rattle.image_changes.specs.Changes.{Change}
-use Rattle.log_store.specs.declared.store.LogStore.{LogStore}
-use Rattle.log_store.specs.LogList.{LogList}
-use Rattle.page_store.specs.declared.store.PageStore.{PageStore}
-use Rattle.page_store.specs.Calls as page_store
-use Rattle.redo_laws.specs.Calls.{Ends}
+use Rattle.redo_laws.proofs.Citing.{arith, ◌≡◌, inl, Bool, List, Result, Ok, Err, Change, LogList, LogStore, PageStore, Ends, in_sequence, leaves_weaker, err_again, no_error, Leaves, LeavesOnly, State, Snapshot, IsQuiet, Geometry, Stop, Memory}
 use Rattle.redo_laws.proofs.Asking.{stop_is}
-use Rattle.site.proofs.Working.{err_again, no_error}
+use Rattle.page_store.specs.Calls as page_store
 
 pub ends_ok : {T : Type 0} {x : T} {g : Geometry} {before now : State} {P : Snapshot → Type 0} → (IsQuiet before → LeavesOnly before now P) → Ends {T = T} (Ok x) g before now P
 ends_ok {T = T} {x = x} moments = grind (arith, no_error)

@@ -1,37 +1,10 @@
 -- The tail is sealed beside the pages.
-use Rattle.page_store.proofs.Beside.{fits_beside}
-use Rattle.std.proofs.Common.{◌≡◌, ℕ, ◌+◌, ◌≤◌, ◌<◌, Bool, true, false, List, [], ◌∷◌, ◌++◌, true≢false, sym, ap, subst, ◌∙◌, arith, nat_lt, inl, inr}
-use Rattle.std.specs.Prelude.{Some, if◌then◌else◌, Result, Ok, Err, OnOk, IfErr, IsErrOf, ◌≢◌, ◌⊎◌, Option}
-use Rattle.std.specs.List.{AllByRecursion}
-use Rattle.std.proofs.lemmas.Bool.{lt-ltb}
-use Rattle.site.specs.declared.outside.Dev.{Dev}
-use Rattle.site.specs.declared.outside.Dev.TheVariants.{Log}
-use Rattle.site.specs.declared.outside.Stop.{Stop}
-use Rattle.site.specs.declared.outside.Stop.TheVariants.{Device, Worn}
-use Rattle.site.specs.State.{State, IsQuiet}
-use Rattle.site.specs.Calls.{Preserves}
-use Rattle.site.specs.Moments.{ChangesOnly}
-use Rattle.record_model.specs.State.{Content}
-use Rattle.log_records.specs.declared.log_record.LogRecord.{LogRecord}
-use Rattle.log_records.specs.Spelling.{AreBlock, block_len}
-use Rattle.log_records.specs.Log.{Entry, Version}
-use Rattle.slotted_page.specs.Layout.{lsn_of}
-use Rattle.image_changes.specs.Rings.{Masters}
-use Rattle.image_changes.specs.Changes.{Reaches, ring_of}
-use Rattle.log_store.specs.declared.store.LogStore.{LogStore}
-use Rattle.log_store.specs.LogList.{LogList, sealed_if, changes_if}
-use Rattle.log_store.specs.Representation as log_store
-use Rattle.log_store.specs.Representation.{has_tail, end_of}
-use Rattle.write_ahead.specs.Forcing.{end_forced}
-use Rattle.page_store.specs.declared.store.PageStore.{PageStore}
-use Rattle.page_store.specs.Representation.{current}
-use Rattle.checkpoint.specs.declared.master.Master.{Master}
-use Rattle.image_meaning.specs.Meaning.{versions_on, version_in, kept_by}
-use Rattle.image_meaning.specs.Redone.{ShowsAll}
-use Rattle.redo_laws.specs.Holding.{Represents, blocks_to}
+use Rattle.redo_laws.proofs.Citing.{◌≡◌, ℕ, ◌+◌, ◌≤◌, ◌<◌, Bool, true, false, List, [], ◌∷◌, ◌++◌, true≢false, sym, ap, subst, ◌∙◌, arith, nat_lt, inl, inr, lt-ltb, AllByRecursion, if◌then◌else◌, Result, Ok, Err, OnOk, IfErr, IsErrOf, ◌≢◌, Option, Master, Reaches, ring_of, Masters, versions_on, version_in, kept_by, ShowsAll, Entry, Version, AreBlock, block_len, LogRecord, LogList, sealed_if, changes_if, has_tail, end_of, LogStore, fits_beside, current, PageStore, Content, Represents, blocks_to, Preserves, ChangesOnly, State, IsQuiet, Dev, Log, Stop, Device, Worn, lsn_of, end_forced}
+use Rattle.std.specs.Prelude.{Some, ◌⊎◌}
 use Rattle.redo_laws.proofs.Standing.{last_of_all}
 use Rattle.redo_laws.proofs.Touched.{tail_blocks, runs_sealed}
 use Rattle.redo_laws.proofs.Appended.{logged_more, versions_same, current_same, moved, more_sealed, rings_now}
+use Rattle.log_store.specs.Representation as log_store
 
 -- what sealing a tail has done on an honest site
 pub record IsForced (log log' : LogStore) (list : LogList) (site new : State) : Type 0 where

@@ -1,35 +1,12 @@
 -- The numbers of the rings in what a call has left.
 use Rattle.std.proofs.lemmas.Grind.{common_steps}
-use Rattle.image_changes.proofs.Sequence.{ring_kept}
-use Rattle.std.proofs.Common.{◌≡◌, ◌+◌, ◌*◌, ◌≤◌, Bool, true, false, List, [], ◌∷◌, ◌++◌, length, refl, ap, arith, ℕ}
-use Rattle.std.specs.Prelude.{Result, Ok, Err, OnOk, Some, ◌≢◌, if◌then◌else◌}
-use Rattle.std.specs.List.{AllByRecursion}
-use Rattle.std.proofs.lemmas.List.{length-append}
+use Rattle.redo_laws.proofs.Citing.{◌≡◌, ◌+◌, ◌*◌, ◌≤◌, Bool, true, false, List, [], ◌∷◌, ◌++◌, length, refl, ap, arith, ℕ, length-append, AllByRecursion, Result, Ok, Err, OnOk, ◌≢◌, if◌then◌else◌, ring_kept, Change, AppendsMaster, Reaches, ring_of, IsReached, IsFrontOf, LeavesFront, Masters, Blocks, log_shape, master_shape, KeepsUnits, LogList, changes_if, LeavesLog, has_tail, LogStore, calls_logged, paid, cost_reached, AreReady, LeavesPages, PageStore, blocks_to, HasNumbers, SkipsNone, hi_of, Units, each_both, each_weaker, leaves_weaker, ok_as, Leaves, LeavesOnly, ChangesOnly, State, Image, Snapshot, IsQuiet, Geometry, Log, Stop, end_forced}
+use Rattle.std.specs.Prelude.{Some}
 use Rattle.std_lemmas.proofs.AllOf.{all_left}
-use Rattle.site.specs.declared.geometry.Geometry.{Geometry}
-use Rattle.site.specs.State.{State, Image, Snapshot}
-use Rattle.site.specs.declared.outside.Dev.TheVariants.{Log}
-use Rattle.site.specs.declared.outside.Stop.{Stop}
-use Rattle.site.specs.Moments.{Leaves, LeavesOnly, ChangesOnly}
-use Rattle.site.proofs.Laws.{each_both, each_weaker, leaves_weaker}
-use Rattle.sealed_ring.specs.Ring.{hi_of, Units}
-use Rattle.image_changes.specs.Rings.{Masters, Blocks, log_shape, master_shape, KeepsUnits}
-use Rattle.image_changes.specs.Changes.{Change, AppendsMaster, Reaches, ring_of}
-use Rattle.image_changes.specs.Reached.{IsReached, IsFrontOf, LeavesFront}
-use Rattle.image_changes.specs.Costs.{CallsForUnits}
-use Rattle.image_changes.proofs.Counting.{calls_quiet, paid, cost_reached}
-use Rattle.log_store.specs.declared.store.LogStore.{LogStore}
-use Rattle.log_store.specs.LogList.{LogList, changes_if}
-use Rattle.log_store.specs.Representation.{LeavesLog, has_tail}
-use Rattle.write_ahead.specs.Forcing.{end_forced}
-use Rattle.page_store.specs.declared.store.PageStore.{PageStore}
-use Rattle.page_store.specs.Leaves.{AreReady, LeavesPages}
-use Rattle.redo_laws.specs.Holding.{blocks_to}
-use Rattle.redo_laws.specs.Numbers.{HasNumbers, SkipsNone}
+use Rattle.page_store.specs.Costs.{CallsForUnits}
 use Rattle.redo_laws.proofs.Touched.{tail_blocks}
 use Rattle.redo_laws.proofs.Forced.{seals_only, same_blocks}
 use Rattle.redo_laws.proofs.RingNumbers.{leaves_more}
-use Rattle.site.proofs.Working.{ok_as}
 
 -- the ring's next block is the one behind the blocks that are held
 pub ready_next : (pages : PageStore) (log : LogStore) (list : LogList) (site : State) → AreReady pages log list site → log.ring.hi ≡ list.first + length list.blocks
@@ -59,17 +36,18 @@ paid_if true list hi hi' next = let five : paid (changes_if true list) ≡ 5 = r
 paid_if false list hi hi' next = let none : paid (changes_if false list) ≡ 0 = refl in omega (arith, none, next)
 
 -- a call on the log makes so many calls of the site
-pub log_calls : {T : Type 0} (r : Result T Stop) (g : Geometry) (hi hi' : ℕ) (list : LogList) (sealing : Bool) (site new : State) → ChangesOnly Log site new → OnOk r (Reaches g (changes_if sealing list) site.image new.image)
+pub log_calls : {T : Type 0} (r : Result T Stop) (g : Geometry) (hi hi' : ℕ) (list : LogList) (sealing : Bool) (site new : State) → IsQuiet site → ChangesOnly Log site new → OnOk r (Reaches g (changes_if sealing list) site.image new.image)
     → OnOk r (hi' ≡ (if sealing then hi + 1 else hi)) → OnOk r (length new.past + 5 * hi ≡ length site.past + 5 * hi') → OnOk r (CallsForUnits g site new)
-log_calls (Ok x) g hi hi' list sealing site new changes reaches next calls = grind (arith, cost_reached, paid, paid_if, calls_quiet)
-log_calls (Err e) g hi hi' list sealing site new changes reaches next calls = grind (arith)
+log_calls (Ok x) g hi hi' list sealing site new quiet changes reaches next calls =
+    calls_logged g site new quiet changes (omega (arith, cost_reached g (changes_if sealing list) site.image new.image reaches, paid_if sealing list hi hi' next, calls))
+log_calls (Err e) g hi hi' list sealing site new quiet changes reaches next calls = tt
 
 -- so does one that appends a master unit
-pub save_calls : (g : Geometry) (unit : List ℕ) (site new : State) → ChangesOnly Log site new → Reaches g (AppendsMaster unit ∷ []) site.image new.image → length new.past ≡ length site.past + 5 → CallsForUnits g site new
-save_calls g unit site new changes reaches calls =
+pub save_calls : (g : Geometry) (unit : List ℕ) (site new : State) → IsQuiet site → ChangesOnly Log site new → Reaches g (AppendsMaster unit ∷ []) site.image new.image → length new.past ≡ length site.past + 5 → CallsForUnits g site new
+save_calls g unit site new quiet changes reaches calls =
     let cost = cost_reached g (AppendsMaster unit ∷ []) site.image new.image reaches in
     let five : paid (AppendsMaster unit ∷ []) ≡ 5 = refl in
-    calls_quiet g site new changes.only.grown changes.only.now.told (omega (arith, cost, five, calls))
+    calls_logged g site new quiet changes (omega (arith, cost, five, calls))
 
 -- a call on pages
 pub pages_skip : {T : Type 0} (r : Result T Stop) (g : Geometry) (given : ℕ → List ℕ) (log log' : LogStore) (list : LogList) (sealing : Bool) (site new : State) → log.ring.hi ≡ list.first + length list.blocks → (sealing ≡ true → has_tail log ≡ true)

@@ -1,3 +1,4 @@
+mod Citing
 pub mod Runs
 pub mod Standing
 pub mod Touched

@@ -1,11 +1,5 @@
 -- The transactions that a master names, one after the other.
-use Rattle.std.proofs.Common.{arith}
-use Rattle.std.proofs.Common.{◌≡◌, ℕ, zero, suc, true, List, [], ◌∷◌, map, Some}
-use Rattle.std.specs.Prelude.{slice_get}
-use Rattle.std.proofs.lemmas.Bool.{eq-eqb}
-use Rattle.std.proofs.lemmas.Option.{none-some, same_Some}
-use Rattle.checkpoint.specs.declared.pairs.Pair.{Pair}
-use Rattle.log_records.specs.Sound.{Active}
+use Rattle.redo_laws.proofs.Citing.{arith, ◌≡◌, ℕ, zero, suc, true, List, [], ◌∷◌, map, Some, eq-eqb, none-some, same_Some, slice_get, Pair, Active}
 use Rattle.analysis.specs.Taken.{is_named}
 
 abbrev pub actives : List Pair → List Active

@@ -1,22 +1,7 @@
 -- A log that goes on whole_stays_orderly orderly.
-use Rattle.std.proofs.Common.{arith}
 use Rattle.std.proofs.lemmas.Grind.{common_steps}
-use Rattle.std.proofs.Common.{◌≡◌, ℕ, List, [], ◌∷◌, ◌++◌, Option, sym, ap, subst, ◌∙◌}
-use Rattle.site.specs.declared.geometry.Geometry.{Geometry}
-use Rattle.site.specs.State.{State}
-use Rattle.record_model.specs.State.{Content}
-use Rattle.log_records.specs.declared.log_record.LogRecord.{LogRecord}
-use Rattle.log_records.specs.Log.{Entry, Version}
-use Rattle.log_records.specs.Sound.{LogicalImage, IsOrderly, AreOrderly}
-use Rattle.log_laws.proofs.Tails.{InTurn-left, carries_more, whole_more, whole_stays_orderly}
-use Rattle.log_laws.specs.Follow.{Follows, next_entries}
-use Rattle.log_laws.specs.Tail.{Carries, whole, next_lsn}
-use Rattle.log_store.specs.declared.store.LogStore.{LogStore}
-use Rattle.page_store.specs.declared.store.PageStore.{PageStore}
-use Rattle.checkpoint.specs.declared.master.Master.{Master}
-use Rattle.image_meaning.specs.Meaning.{logical_image_under, master_of, versions_on}
-use Rattle.redo_laws.specs.Running.{RunsOn}
-use Rattle.redo_laws.specs.Committing.{EndsWith}
+use Rattle.redo_laws.proofs.Citing.{arith, ◌≡◌, ℕ, List, [], ◌∷◌, ◌++◌, sym, ap, subst, ◌∙◌, Master, logical_image_under, master_of, versions_on, InTurn-left, carries_more, whole_more, whole_stays_orderly, Follows, next_entries, Carries, whole, next_lsn, Entry, Version, LogicalImage, IsOrderly, AreOrderly, LogRecord, LogStore, PageStore, Content, EndsWith, RunsOn, State, Geometry}
+use Rattle.std.proofs.Common.{Option}
 
 -- the sealed records of an orderly log are orderly
 pub sealed_orderly : (p : LogicalImage) (tail : List LogRecord) (records : List Entry) (table : List Content) (commits : ℕ) → RunsOn p tail records table commits → AreOrderly records → AreOrderly p.log

@@ -1,16 +1,7 @@
 -- Active transactions in the records that a checkpoint keeps.
-use Rattle.std.proofs.Common.{arith}
+use Rattle.redo_laws.proofs.Citing.{arith, ◌≡◌, ℕ, ◌==◌, ◌||◌, ◌&&◌, not, Bool, true, false, true≢false, List, [], ◌∷◌, map, refl, sym, ap, list_any, Option, Master, Pair, master_of, IsActive, Entry, is_loser, Active, Write}
 use Rattle.redo_laws.specs.Checkpointing.{AreUnfinished, KeepUnfinished}
-use Rattle.image_meaning.specs.Meaning.{master_of}
-use Rattle.checkpoint.specs.declared.master.Master.{Master}
-use Rattle.record_model.specs.State.{Write}
-use Rattle.std.proofs.Common.{◌≡◌, ℕ, ◌==◌, ◌||◌, ◌&&◌, not, Bool, true, false, true≢false, List, [], ◌∷◌, map, refl, sym, ap}
-use Rattle.std.specs.Prelude.{Option, Some}
-use Rattle.std.specs.List.{list_any}
-use Rattle.log_records.specs.Log.{Entry, is_loser}
-use Rattle.log_records.specs.Sound.{Active}
-use Rattle.log_laws.specs.Follow.{IsActive}
-use Rattle.checkpoint.specs.declared.pairs.Pair.{Pair}
+use Rattle.std.specs.Prelude.{Some}
 
 named_any : (pairs : List Pair) (t : ℕ) → list_any (λ (a : Active). a.begin == t) (map (λ pair. record { begin = pair.begin; last = pair.last }) pairs) ≡ list_any (λ pair. pair.begin == t) pairs
 named_any [] t = refl

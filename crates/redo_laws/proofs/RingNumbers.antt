@@ -1,18 +1,5 @@
 -- How the numbers of the rings add up over calls.
-use Rattle.std.proofs.Common.{◌≡◌, ◌+◌, ◌≤◌, refl, sym, subst, arith, ℕ}
-use Rattle.std.specs.Prelude.{Result, Ok, Err}
-use Rattle.site.specs.declared.geometry.Geometry.{Geometry}
-use Rattle.site.specs.State.{State, Image, Snapshot, IsQuiet, snapshot_of}
-use Rattle.site.specs.Calls.{IsUnchanged}
-use Rattle.site.specs.Moments.{Leaves, LeavesOnly}
-use Rattle.site.proofs.Laws.{holds_now, in_sequence, leaves_weaker, no_call, quiet_leaves, unchanged_calm}
-use Rattle.sealed_ring.specs.Ring.{hi_of}
-use Rattle.image_changes.specs.Rings.{log_shape, master_shape}
-use Rattle.image_changes.proofs.Counting.{calls_then, calls_unchanged}
-use Rattle.log_store.specs.declared.store.LogStore.{LogStore}
-use Rattle.redo_laws.specs.Holding.{blocks_to}
-use Rattle.redo_laws.specs.Numbers.{HasNumbers, SkipsNone}
-use Rattle.site.proofs.Working.{ok_as, ok_always}
+use Rattle.redo_laws.proofs.Citing.{◌≡◌, ◌+◌, ◌≤◌, refl, sym, subst, arith, ℕ, Result, Ok, Err, log_shape, master_shape, LogStore, calls_then, calls_unchanged, blocks_to, HasNumbers, SkipsNone, hi_of, holds_now, in_sequence, leaves_weaker, no_call, quiet_leaves, unchanged_calm, ok_as, ok_always, IsUnchanged, Leaves, LeavesOnly, State, Image, Snapshot, IsQuiet, snapshot_of, Geometry}
 
 -- More numbers.
 

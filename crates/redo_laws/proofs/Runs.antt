@@ -1,25 +1,8 @@
 -- The log as a list goes on, and the pages have other versions.
 use Rattle.std.proofs.lemmas.Grind.{common_steps}
-use Rattle.image_meaning.proofs.Behind.{carries_still, shown_stays}
-use Rattle.image_meaning.proofs.OtherVersions.{versions_mean}
-use Rattle.image_meaning.proofs.Versions.{length-versions}
+use Rattle.redo_laws.proofs.Citing.{◌≡◌, ℕ, ◌+◌, ◌*◌, ◌<◌, List, [], ◌∷◌, ◌++◌, None, refl, sym, ap, subst, ◌∙◌, arith, Master, carries_still, shown_stays, versions_mean, length-versions, ReplaceAll, logical_image_under, versions_on, ShowsAll, carries_more, carries_nothing, commits_stay, sealed_tail, sealed_tail_means, whole_more, whole_sealed, Follows, sealed, next_entries, whole, next_lsn, Entry, Version, shown, LogicalImage, HasRoom, commit_numbers, commit_number, AreBlock, LogRecord, Content, RunsOn, Image, Geometry}
 use Rattle.log_laws.proofs.Commits.{table_none}
-use Rattle.log_laws.proofs.Tails.{carries_more, carries_nothing, commits_stay, sealed_tail, sealed_tail_means, whole_more, whole_sealed}
-use Rattle.std.proofs.Common.{◌≡◌, ℕ, ◌+◌, ◌*◌, ◌<◌, List, [], ◌∷◌, ◌++◌, None, refl, sym, ap, subst, ◌∙◌, arith, Option}
-use Rattle.site.specs.declared.geometry.Geometry.{Geometry}
-use Rattle.site.specs.State.{Image}
-use Rattle.record_model.specs.State.{Content}
-use Rattle.log_records.specs.declared.log_record.LogRecord.{LogRecord}
-use Rattle.log_records.specs.Spelling.{AreBlock}
-use Rattle.log_records.specs.Log.{Entry, Version, shown}
-use Rattle.log_records.specs.Sound.{LogicalImage, HasRoom, commit_numbers, commit_number}
-use Rattle.log_laws.specs.Follow.{Follows, sealed, next_entries}
-use Rattle.log_laws.specs.Tail.{whole, next_lsn}
-use Rattle.checkpoint.specs.declared.master.Master.{Master}
-use Rattle.image_meaning.specs.Meaning.{logical_image_under, versions_on}
-use Rattle.image_meaning.specs.Redone.{ShowsAll}
-use Rattle.image_meaning.specs.LogicalImages.{ReplaceAll}
-use Rattle.redo_laws.specs.Running.{RunsOn}
+use Rattle.std.proofs.Common.{Option}
 
 -- the tail is sealed, and a new one begins
 pub resealed : (p : LogicalImage) (tail : List LogRecord) (records : List Entry) (table : List Content) (commits : ℕ) → RunsOn p tail records table commits → AreBlock tail → HasRoom (sealed p tail) → RunsOn (sealed p tail) [] records table commits

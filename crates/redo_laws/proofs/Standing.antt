@@ -1,42 +1,14 @@
 -- What a crash leaves of log and pages that hold together.
-use Rattle.image_meaning.proofs.Behind.{sealed_page_replaces}
-use Rattle.image_meaning.proofs.OtherVersions.{version_replaces_itself}
+use Rattle.redo_laws.proofs.Citing.{◌≡◌, ◌⊎◌, inl, inr, ℕ, zero, suc, ◌+◌, ◌*◌, ◌<◌, ◌==◌, ◌||◌, List, [], ◌∷◌, ◌++◌, None, Some, IsTrue, refl, sym, ap, subst, ◌∙◌, arith, lt-ltb, ne_eqb, length-append, none-some, AllByRecursion, frame_of, Frame, Master, version_on, IsCleanOn, sealed_page_replaces, version_replaces_itself, next_block_is, length-versions, version_is, AreRingsSoundUnder, ReplaceAll, logical_image_under, next_block_under, versions_on, version_in, StandsUnder, kept_by, ShowsAll, sealed, Entry, LogicalImage, LogRecord, HasBlocks, AreSealed, sealed_end, IsPage, IsStore, current, content_by, PageStore, Content, RunsOn, Image, Geometry, lsn_of}
 use Rattle.image_meaning.proofs.Replacing.{replace_all}
 use Rattle.image_meaning.proofs.Seals.{blocks_sealed}
-use Rattle.image_meaning.proofs.UnchangedImages.{next_block_is}
-use Rattle.image_meaning.proofs.Versions.{length-versions, version_is}
-use Rattle.std.proofs.Common.{◌≡◌, ◌⊎◌, inl, inr, ℕ, zero, suc, ◌+◌, ◌*◌, ◌<◌, ◌==◌, ◌||◌, List, [], ◌∷◌, ◌++◌, Option, None, Some, IsTrue, refl, sym, ap, subst, ◌∙◌, arith}
+use Rattle.std.proofs.Common.{Option}
 use Rattle.std.specs.Prelude.{nat_lt}
-use Rattle.std.specs.List.{AllByRecursion}
-use Rattle.std.proofs.lemmas.Bool.{lt-ltb, ne_eqb}
-use Rattle.std.proofs.lemmas.Option.{none-some}
-use Rattle.std.proofs.lemmas.List.{length-append}
-use Rattle.site.specs.declared.geometry.Geometry.{Geometry}
-use Rattle.site.specs.State.{Image}
-use Rattle.record_model.specs.State.{Content}
-use Rattle.log_records.specs.declared.log_record.LogRecord.{LogRecord}
-use Rattle.log_records.specs.Log.{Entry}
-use Rattle.log_records.specs.Sound.{LogicalImage}
-use Rattle.log_laws.specs.Follow.{sealed}
 use Rattle.log_laws.specs.NewImage.{Replaces}
-use Rattle.slotted_page.specs.Layout as page
-use Rattle.slotted_page.specs.Layout.{lsn_of}
-use Rattle.log_store.specs.Representation.{HasBlocks}
-use Rattle.flash_cache.specs.Representation.{version_on, IsCleanOn}
-use Rattle.buffer_pool.specs.declared.frame.Frame.{Frame}
-use Rattle.buffer_pool.specs.Frames.{frame_of}
-use Rattle.page_store.specs.declared.store.PageStore.{PageStore}
-use Rattle.page_store.specs.Representation.{IsPage, IsStore, current, content_by}
-use Rattle.write_ahead.specs.Forcing as ahead
-use Rattle.page_store.specs.Ahead.{AreSealed, sealed_end}
-use Rattle.checkpoint.specs.declared.master.Master.{Master}
-use Rattle.image_meaning.specs.Meaning.{logical_image_under, next_block_under, versions_on, version_in, StandsUnder, kept_by}
-use Rattle.image_meaning.specs.Redone as redone
-use Rattle.image_meaning.specs.Redone.{ShowsAll}
-use Rattle.image_meaning.specs.LogicalImages.{ReplaceAll}
-use Rattle.image_meaning.specs.Beside.{AreRingsSoundUnder}
-use Rattle.redo_laws.specs.Running.{RunsOn}
 use Rattle.redo_laws.proofs.Runs.{reversioned, shows_still}
+use Rattle.slotted_page.specs.Layout as page
+use Rattle.write_ahead.specs.Forcing as ahead
+use Rattle.image_meaning.specs.Redone as redone
 
 -- A version's LSN is one of a sealed block.
 logged_number : (n end : ℕ) → (0 < n → n < end) → IsTrue ((n == 0) || nat_lt n end)

@@ -1,39 +1,8 @@
 -- Log and pages that hold together, while pages come and go.
-use Rattle.image_meaning.proofs.UnchangedImages.{next_block_is}
-use Rattle.std.proofs.Common.{◌≡◌, ◌⊎◌, inl, inr, ℕ, ◌≤◌, ◌<◌, Bool, true, false, List, [], ◌∷◌, ◌++◌, refl, sym, subst, ◌∙◌, arith}
-use Rattle.std.proofs.lemmas.Bool.{and_parts}
-use Rattle.std.specs.Prelude.{if◌then◌else◌, Option}
-use Rattle.std.proofs.lemmas.List.{length-append}
-use Rattle.site.specs.declared.geometry.Geometry.{Geometry}
-use Rattle.site.specs.State.{State, Snapshot, snapshot_of}
-use Rattle.site.specs.Moments.{Leaves, LeavesOnly}
-use Rattle.site.proofs.Laws.{each_both, each_weaker}
-use Rattle.record_model.specs.State.{Content}
-use Rattle.log_records.specs.declared.log_record.LogRecord.{LogRecord}
-use Rattle.log_records.specs.Spelling.{AreBlock, block_len}
-use Rattle.log_records.specs.Log.{Entry}
-use Rattle.log_records.specs.Sound.{LogicalImage, HasRoom}
-use Rattle.log_laws.specs.Follow.{sealed}
-use Rattle.slotted_page.specs.Layout as page
-use Rattle.log_store.specs.declared.store.LogStore.{LogStore}
-use Rattle.log_store.specs.LogList.{LogList, sealed_if}
-use Rattle.log_store.specs.Representation.{HasBlocks, has_tail, end_of}
-use Rattle.slotted_page.specs.Layout.{lsn_of}
-use Rattle.flash_cache.specs.Representation.{version_on}
-use Rattle.write_ahead.specs.Forcing.{end_forced, forces}
-use Rattle.page_store.specs.declared.store.PageStore.{PageStore}
-use Rattle.page_store.specs.Representation.{IsStore, current}
-use Rattle.page_store.specs.Ahead.{AreSealed, LeavesSealed, IsAhead}
-use Rattle.page_store.specs.Leaves.{AreReady, LeavesPages, LeavesRings, KeepsCurrent}
-use Rattle.checkpoint.specs.declared.master.Master.{Master}
-use Rattle.image_meaning.specs.Meaning.{next_block_under, logical_image_under, versions_on, version_in, kept_by}
-use Rattle.image_meaning.specs.Redone.{ShowsAll}
-use Rattle.image_meaning.specs.Moments.{LeavesTableUnder}
-use Rattle.image_meaning.specs.Beside.{AreRingsSoundUnder}
-use Rattle.redo_laws.specs.Running.{RunsOn}
-use Rattle.redo_laws.specs.Holding.{RepresentsIn, Represents}
+use Rattle.redo_laws.proofs.Citing.{◌≡◌, ◌⊎◌, inl, inr, ℕ, ◌≤◌, ◌<◌, Bool, true, false, List, [], ◌∷◌, ◌++◌, refl, sym, subst, ◌∙◌, arith, and_parts, length-append, if◌then◌else◌, Option, Master, version_on, next_block_is, AreRingsSoundUnder, next_block_under, logical_image_under, versions_on, version_in, kept_by, LeavesTableUnder, ShowsAll, sealed, Entry, LogicalImage, HasRoom, AreBlock, block_len, LogRecord, LogList, sealed_if, HasBlocks, has_tail, end_of, LogStore, AreSealed, LeavesSealed, IsAhead, AreReady, LeavesPages, LeavesRings, KeepsCurrent, IsStore, current, PageStore, Content, RepresentsIn, Represents, RunsOn, each_both, each_weaker, Leaves, LeavesOnly, State, Snapshot, snapshot_of, Geometry, lsn_of, end_forced, forces}
 use Rattle.redo_laws.proofs.Runs.{resealed}
 use Rattle.redo_laws.proofs.Standing.{more_blocks, runs_now, shows_now, stands_now, current_sound, last_of_all}
+use Rattle.slotted_page.specs.Layout as page
 
 abbrev pub tail_blocks : Bool → ℕ
 tail_blocks b = if b then 1 else 0

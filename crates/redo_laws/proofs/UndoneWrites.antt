@@ -1,17 +1,6 @@
 -- What undoing an active transaction asks of the page cache: the pages of its writes that stand.
-use Rattle.std.proofs.Common.{arith}
-use Rattle.redo_laws.specs.MachineSteps.{undo_one_works}
-use Rattle.redo_laws.specs.UndoWorks.{works_of}
-use Rattle.image_meaning.specs.Meaning.{master_of}
-use Rattle.checkpoint.specs.declared.master.Master.{Master}
-use Rattle.std.proofs.Common.{◌≡◌, ◌-◌, ◌≤◌, List, [], ◌∷◌, length, take, drop, sym, ap, ◌∙◌}
-use Rattle.std.specs.Prelude.{map, reverse, ℕ, Option}
-use Rattle.std.proofs.lemmas.List.{reverse-append, map-append}
-use Rattle.record_model.specs.State.{Write}
-use Rattle.record_model.specs.Touches.{CacheOp, write_touch}
-use Rattle.log_records.specs.Log.{Entry}
-use Rattle.log_records.specs.Unfinished.{left_open}
-use Rattle.log_laws.specs.Follow.{IsActive}
+use Rattle.redo_laws.proofs.Citing.{arith, ◌≡◌, ◌-◌, ◌≤◌, List, [], ◌∷◌, length, take, drop, sym, ap, ◌∙◌, reverse-append, map-append, reverse, Option, Master, master_of, IsActive, Entry, left_open, Write, CacheOp, write_touch, undo_one_works, works_of}
+use Rattle.std.specs.Prelude.{map, ℕ}
 use Rattle.log_laws.proofs.Standing.{writes_of, writes_more, standing_taken}
 
 abbrev touches_of : List Write → List CacheOp

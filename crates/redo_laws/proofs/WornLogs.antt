@@ -1,15 +1,9 @@
 -- A log that is worn stands at its end, and where a log ends.
-use Rattle.std.proofs.Common.{◌≡◌, inl, ◌^◌, ℕ, sym, ap, subst, ◌∙◌, arith}
-use Rattle.site.specs.State.{State, content_of}
+use Rattle.redo_laws.proofs.Citing.{◌≡◌, inl, ◌^◌, ℕ, sym, ap, subst, ◌∙◌, arith, log_shape, master_shape, has_tail, LogStore, IsLogWorn, blocks_to, hi_of, State, content_of}
 use Rattle.sealed_ring.specs.declared.ring.Ring.{Ring}
 use Rattle.sealed_ring.specs.declared.slots.Shape.{Shape}
-use Rattle.sealed_ring.specs.Ring.{hi_of}
 use Rattle.sealed_ring.specs.Ready.{Matches}
-use Rattle.log_store.specs.declared.store.LogStore.{LogStore}
 use Rattle.log_store.specs.Representation as log_store
-use Rattle.log_store.specs.Representation.{has_tail}
-use Rattle.image_changes.specs.Rings.{log_shape, master_shape}
-use Rattle.redo_laws.specs.Holding.{IsLogWorn, blocks_to}
 
 -- a log that takes no more blocks changes nothing, and its ring stands at its end
 pub log_at_end : (log : LogStore) (old new : State) → log_store.Finds log old → new ≡ old → log.ring.hi ≡ 2 ^ 40 → IsLogWorn log.geometry new.image

@@ -1,41 +1,12 @@
 -- Calls one after the other, each known by its record.
 use Rattle.std.proofs.lemmas.Grind.{common_steps}
-use Rattle.redo_laws.proofs.AskingUndo.{not_worn_flash}
-use Rattle.std.proofs.Common.{◌≡◌, ◌≢◌, ◌⊎◌, inl, inr, ◌+◌, ◌≤◌, List, refl, sym, subst, ◌∙◌, arith, Option, ℕ}
-use Rattle.std.specs.Prelude.{Result, Ok, Err, OnOk, IfOk, IfErr, IsErrOf, IsTrue, ◌<◌}
-use Rattle.site.specs.declared.geometry.Geometry.{Geometry}
-use Rattle.site.specs.declared.outside.Dev.{Dev}
-use Rattle.site.specs.declared.outside.Dev.TheVariants.{Log, Flash, Disk}
-use Rattle.site.specs.declared.outside.Stop.{Stop}
-use Rattle.site.specs.declared.outside.Stop.TheVariants.{Device, Worn, Foreign, Memory}
-use Rattle.site.specs.State.{State, Snapshot, IsQuiet}
-use Rattle.site.specs.Moments.{LeavesOnly, ChangesOnly, SameBut}
-use Rattle.site.specs.Calls.{IsUnchanged, FaultRose}
-use Rattle.site.proofs.Laws.{no_call, changes_in_sequence, stays_honest}
-use Rattle.record_model.specs.State.{Content}
-use Rattle.log_records.specs.Log.{Entry}
-use Rattle.sealed_ring.specs.Ring.{hi_of}
-use Rattle.image_changes.specs.Rings.{log_shape, KeepsUnits, master_shape}
-use Rattle.log_store.specs.declared.store.LogStore.{LogStore}
-use Rattle.log_store.specs.Representation as log_store
-use Rattle.log_store.specs.Representation.{end_of}
-use Rattle.log_store.proofs.NextBlocks as blocks
-use Rattle.page_store.specs.declared.store.PageStore.{PageStore}
-use Rattle.page_store.proofs.NextUnits.{next_nothing, next_then, next_failed, next_answered, next_refused, next_read, next_logged}
-use Rattle.page_store.specs.Stopping.{MayStop}
-use Rattle.checkpoint.specs.declared.master.Master.{Master}
-use Rattle.image_meaning.specs.Moments.{LeavesTableUnder, LeavesFor}
+use Rattle.redo_undo.proofs.Names.{◌≡◌, ◌≢◌, ◌⊎◌, inl, inr, ◌+◌, ◌≤◌, List, refl, sym, subst, ◌∙◌, arith, Option, ℕ, Result, Ok, Err, OnOk, IfOk, IfErr, IsErrOf, IsTrue, Master, log_shape, KeepsUnits, master_shape, LeavesTableUnder, LeavesFor, Entry, end_of, LogStore, next_nothing, next_then, next_failed, next_answered, next_refused, next_read, next_logged, MayStop, PageStore, Content, not_worn_flash, and_then, going_still, holds_still, leaves_still, units_then, ends_answered, ends_behind, ends_failed, ends_leaving, skips_not_saved, skips_still, hi_on, unchanged, then_skips, skips_again, skips_answered, skips_weaker, skips_on, KeepsInvariant, LogsNothing, KeepsInvariantBeside, ReadsOne, Keeps, KeepsBeside, Invariant, Represents, Opening, IsRedoing, LeavesOpened, hi_of, no_call, changes_in_sequence, stays_honest, ok_as, ok_always, no_error, of_error, err_as, err_always, calls_nothing, calls_then, calls_failed, calls_answered, calls_refused, IsUnchanged, FaultRose, LeavesOnly, ChangesOnly, SameBut, State, Snapshot, IsQuiet, Geometry, Dev, Log, Flash, Disk, Stop, Device, Worn, Foreign, Memory}
+use Rattle.std.specs.Prelude.{◌<◌}
 use Rattle.redo_undo.proofs.Saved.{then_for}
-use Rattle.redo_laws.specs.Holding.{Invariant, Represents}
-use Rattle.redo_laws.specs.Calls.{KeepsInvariant, LogsNothing, KeepsInvariantBeside, ReadsOne, Keeps, KeepsBeside}
-use Rattle.redo_undo.specs.Redoing.{Opening, IsRedoing, LeavesOpened}
 use Rattle.redo_undo.proofs.Redoings.{nothing_happens, then_read}
-use Rattle.redo_laws.proofs.RingNumbers.{skips_still, hi_on, unchanged, then_skips, skips_again, skips_answered, skips_weaker, skips_on}
 use Rattle.site.specs.Work.{Calls}
-use Rattle.redo_laws.proofs.Endings.{ends_answered, ends_behind, ends_failed, ends_leaving}
-use Rattle.redo_laws.proofs.CallsInSequence.{and_then, going_still, holds_still, leaves_still, units_then}
-use Rattle.redo_laws.proofs.LeftNumbers.{skips_not_saved}
-use Rattle.site.proofs.Working.{ok_as, ok_always, no_error, of_error, err_as, err_always, calls_nothing, calls_then, calls_failed, calls_answered, calls_refused}
+use Rattle.log_store.specs.Representation as log_store
+use Rattle.log_store.proofs.NextBlocks as blocks
 
 -- The errors of calls on the log.
 

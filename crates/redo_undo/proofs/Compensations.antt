@@ -1,37 +1,8 @@
 -- Undoing an Update.
-use Rattle.image_meaning.proofs.UnchangedImages.{next_block_is}
-use Rattle.image_meaning.proofs.Versions.{length-versions}
-use Rattle.log_laws.proofs.Losers.{loser_is_not_closed}
-use Rattle.log_laws.proofs.Owing.{owed_clr}
-use Rattle.log_laws.proofs.Tails.{whole_is_undoable}
-use Rattle.log_laws.proofs.UndoingSteps.{clr_is_written, first_read, undo_step, update_is_last}
-use Rattle.std.proofs.Common.{◌≡◌, ℕ, ◌+◌, ◌-◌, ◌*◌, ◌≤◌, ◌<◌, ◌==◌, ◌||◌, Bool, true, false, List, [], ◌∷◌, ◌++◌, length, Option, None, Some, true≢false, refl, sym, ap, subst, ◌∙◌, arith}
-use Rattle.std.specs.Prelude.{if◌then◌else◌, find}
-use Rattle.std.proofs.lemmas.Option.{none-some, same_Some}
-use Rattle.site.specs.declared.geometry.Geometry.{Geometry}
-use Rattle.site.specs.State.{State, Image}
-use Rattle.record_model.specs.State.{Content}
-use Rattle.log_records.specs.declared.log_record.LogRecord.{LogRecord}
-use Rattle.log_records.specs.declared.log_record.LogRecord.TheVariants.{Begin, Update, Clr, Commit, End}
-use Rattle.log_records.specs.Unfinished.{is_clr, left_open, owed}
-use Rattle.log_records.specs.Log.{Entry, Version, txn_by, txn_of, number_of, before_of, is_closed, is_update, log_from, entries_from, entries_of}
-use Rattle.log_laws.specs.UndoLaws.{IsLink, goes_back}
-use Rattle.log_records.specs.Sound.{LogicalImage, IsLoserChain, AreOrderly}
-use Rattle.log_laws.specs.Follow.{Follows, IsUndoable}
-use Rattle.log_laws.specs.Tail.{whole}
-use Rattle.log_laws.specs.Analysis.{Unfinished, IsUnfinished}
+use Rattle.redo_undo.proofs.Names.{◌≡◌, ℕ, ◌+◌, ◌-◌, ◌*◌, ◌≤◌, ◌<◌, ◌==◌, ◌||◌, Bool, true, false, List, [], ◌∷◌, ◌++◌, length, Option, None, Some, true≢false, refl, sym, ap, subst, ◌∙◌, arith, none-some, same_Some, if◌then◌else◌, find, Master, next_block_is, length-versions, master_of, logical_image_under, versions_on, kept_by, loser_is_not_closed, owed_clr, whole_is_undoable, clr_is_written, first_read, undo_step, update_is_last, Unfinished, IsUnfinished, Follows, IsUndoable, whole, IsLink, goes_back, Entry, Version, txn_by, txn_of, number_of, before_of, is_closed, is_update, log_from, entries_from, entries_of, LogicalImage, IsLoserChain, AreOrderly, is_clr, left_open, owed, LogRecord, Begin, Update, Clr, Commit, End, entries, at_lsn, LogStore, PageStore, Content, Represents, MayGrow, blocks_to, IsAt, IsStepOf, IsWanted, Undone, Compensate, Pass, UndoCursor, State, Image, Geometry}
 use Rattle.log_laws.specs.UndoSteps.{IsToUndo}
-use Rattle.log_store.specs.declared.store.LogStore.{LogStore}
-use Rattle.log_store.specs.LogList.{entries, at_lsn}
-use Rattle.page_store.specs.declared.store.PageStore.{PageStore}
-use Rattle.checkpoint.specs.declared.master.Master.{Master}
-use Rattle.image_meaning.specs.Meaning.{master_of, logical_image_under, versions_on, kept_by}
-use Rattle.redo_laws.specs.Holding.{Represents, MayGrow, blocks_to}
-use Rattle.redo_undo.specs.declared.undo.UndoCursor.{UndoCursor}
 use Rattle.redo_undo.specs.declared.undo.Wanted.{Wanted}
 use Rattle.redo_undo.specs.declared.undo.Step.{Step}
-use Rattle.redo_undo.specs.declared.undo.Step.TheVariants.{Compensate, Pass}
-use Rattle.redo_undo.specs.Undoing.{IsAt, IsStepOf, IsWanted, Undone}
 
 -- a record that is found by its LSN
 found_by : (b : Bool) (e u : Entry) (rest : Option Entry) (last : Option LogRecord) → (rest ≡ Some u → last ≡ Some u.rec) →

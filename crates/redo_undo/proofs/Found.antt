@@ -1,43 +1,9 @@
 -- Undoing what analysis has found, record by record.
-use Rattle.image_meaning.proofs.UnchangedImages.{next_block_is}
-use Rattle.log_laws.proofs.Listing.{listed_is_loser, loser_is_listed}
-use Rattle.log_laws.proofs.Losers.{loser_is_not_closed}
-use Rattle.log_laws.proofs.Owing.{owed_closing, owed_none}
-use Rattle.log_laws.proofs.Tails.{whole_in_order, whole_is_undoable}
-use Rattle.log_laws.proofs.Undoing.{top_stands, unfinished_from_top}
-use Rattle.log_laws.proofs.UndoingSteps.{chain_goes_on, first_read, undo_end}
+use Rattle.redo_undo.proofs.Names.{◌≡◌, ℕ, ◌+◌, ◌-◌, ◌*◌, ◌≤◌, ◌<◌, ◌&&◌, ◌||◌, not, Bool, true, false, List, [], ◌∷◌, ◌++◌, length, Option, None, Some, true≢false, refl, sym, ap, subst, ◌∙◌, arith, append_assoc, append-nil, ltb-false, or_parts, length-append, length-map, none-some, same_Some, list_any, if◌then◌else◌, filter, find, ActiveIsUnfinished, Open, found_in, IsTop, Remains, IsTable, is_active, open_at, listed, Analysis, Loser, Master, next_block_is, kept_by, logical_image_under, master_of, versions_on, listed_is_loser, loser_is_listed, loser_is_not_closed, owed_closing, owed_none, whole_in_order, whole_is_undoable, top_stands, unfinished_from_top, chain_goes_on, first_read, undo_end, Unfinished, IsUnfinished, Follows, IsUndoable, next_lsn, top_lsn, Entry, is_of, is_update, is_loser, is_closed, entries_of, AreOrderly, IsInOrder, IsLoserChain, last_number, is_known, left_open, owed, owed_by, End, has_tail, LogStore, PageStore, Content, Represents, MayGrow, blocks_to, IsOf, Remain, AreUpTo, IsUndoing, IsNextUndo, UndoesSome, UndoesAll, State}
 use Rattle.analysis.proofs.Pending.{all_found}
 use Rattle.redo_undo.proofs.NextRecords.{order_ends}
 use Rattle.log_laws.proofs.Orders.{InTurn-append_all}
-use Rattle.std.proofs.Common.{◌≡◌, ℕ, ◌+◌, ◌-◌, ◌*◌, ◌≤◌, ◌<◌, ◌&&◌, ◌||◌, not, Bool, true, false, List, [], ◌∷◌, ◌++◌, length, Option, None, Some, true≢false, refl, sym, ap, subst, ◌∙◌, arith, append_assoc, append-nil}
-use Rattle.std.specs.List.{list_any}
-use Rattle.std.specs.Prelude.{if◌then◌else◌, map, filter, find, ◌==◌}
-use Rattle.std.proofs.lemmas.List.{length-append, length-map}
-use Rattle.std.proofs.lemmas.Option.{none-some, same_Some}
-use Rattle.site.specs.State.{State}
-use Rattle.record_model.specs.State.{Content}
-use Rattle.log_records.specs.declared.log_record.LogRecord.TheVariants.{End}
-use Rattle.log_records.specs.Log.{Entry, is_of, is_update, is_loser, is_closed, entries_of}
-use Rattle.log_records.specs.Unfinished.{left_open, owed, owed_by}
-use Rattle.log_records.specs.Sound.{AreOrderly, IsInOrder, IsLoserChain, last_number, is_known}
-use Rattle.log_laws.specs.Follow.{Follows, IsUndoable}
-use Rattle.log_laws.specs.Tail.{next_lsn}
-use Rattle.log_laws.specs.Analysis.{Unfinished, IsUnfinished}
-use Rattle.log_laws.specs.UndoLaws.{top_lsn}
-use Rattle.log_store.specs.declared.store.LogStore.{LogStore}
-use Rattle.log_store.specs.Representation.{has_tail}
-use Rattle.std.proofs.lemmas.Bool.{ltb-false, or_parts}
-use Rattle.page_store.specs.declared.store.PageStore.{PageStore}
-use Rattle.checkpoint.specs.declared.master.Master.{Master}
-use Rattle.image_meaning.specs.Meaning.{kept_by, logical_image_under, master_of, versions_on}
-use Rattle.analysis.specs.declared.analysis.Analysis.{Analysis}
-use Rattle.analysis.specs.declared.analysis.Loser.{Loser}
-use Rattle.analysis.specs.Open.{Open, found_in, IsTop, Remains}
-use Rattle.analysis.specs.Table.{listed}
-use Rattle.analysis.specs.Read.{IsTable, is_active, open_at}
-use Rattle.redo_laws.specs.Holding.{Represents, MayGrow, blocks_to}
-use Rattle.redo_laws.specs.UndoingAll.{IsOf, Remain, AreUpTo, IsUndoing, IsNextUndo, UndoesSome, UndoesAll}
-use Rattle.analysis.specs.Laws.{ActiveIsUnfinished}
+use Rattle.std.specs.Prelude.{map, ◌==◌}
 use Rattle.redo_undo.proofs.Compensations.{chain}
 
 -- LSNs.

@@ -1,38 +1,8 @@
 -- The records of an opened log are judged, one after the other.
-use Rattle.std.proofs.Common.{◌≡◌, ℕ, ◌+◌, ◌-◌, ◌*◌, ◌≤◌, List, [], ◌∷◌, ◌++◌, length, take, append-nil, sym, subst, ◌∙◌, arith}
-use Rattle.std.specs.Prelude.{Option, Some, None, flat_map}
-use Rattle.std.specs.List.{AllByRecursion}
-use Rattle.std.proofs.lemmas.List.{length-append}
-use Rattle.site.specs.State.{State}
-use Rattle.site.specs.declared.geometry.Geometry.{Geometry}
-use Rattle.checkpoint.specs.declared.master.Master.{Master}
-use Rattle.log_records.specs.declared.log_record.LogRecord.{LogRecord}
-use Rattle.log_records.specs.Spelling.{spelling, AreBlock}
-use Rattle.log_records.specs.Log.{Entry, entries_from, log_from}
-use Rattle.log_records.specs.Sound.{IsInOrder}
-use Rattle.log_records.proofs.Blocks.{some_octet}
-use Rattle.log_records.proofs.Entries.{in_order_from, in_order_left}
-use Rattle.image_meaning.specs.Meaning.{kept_by, next_block_under}
-use Rattle.image_meaning.proofs.Versions.{length-versions}
-use Rattle.log_judge.specs.declared.judge.Sizes.{Sizes}
-use Rattle.log_judge.specs.Judging.{IsOfSizes}
-use Rattle.log_store.specs.declared.store.LogStore.{LogStore}
-use Rattle.page_store.specs.declared.store.PageStore.{PageStore}
-use Rattle.redo_undo.specs.declared.redo_pass.Redone.{Redone}
-use Rattle.redo_undo.specs.Redoing.{Opening, opened, IsReadable, IsReading}
-use Rattle.log_laws.proofs.BlockRecords.{IsPast, past_none}
-use Rattle.log_records.specs.Spelling.{IsBlock, used_by}
+use Rattle.redo_undo.proofs.Names.{◌≡◌, ℕ, ◌+◌, ◌-◌, ◌*◌, ◌≤◌, List, [], ◌∷◌, ◌++◌, length, take, append-nil, sym, subst, ◌∙◌, arith, length-append, AllByRecursion, flat_map, Master, log_shape, length-versions, kept_by, next_block_under, IsOfSizes, HasHeard, Sizes, IsPast, past_none, some_octet, in_order_from, in_order_left, Entry, entries_from, log_from, IsInOrder, spelling, AreBlock, IsBlock, used_by, LogRecord, LogList, LogStore, fits_beside, PageStore, only_read, Opening, opened, IsReadable, IsReading, Redone, IsRing, hi_of, stays_honest, Preserves, IsUnchanged, State, Image, Geometry}
+use Rattle.std.specs.Prelude.{Option, Some, None}
 use Rattle.redo_undo.proofs.TakenRecords.{none_read}
-use Rattle.log_judge.specs.Judging.{HasHeard}
-use Rattle.site.specs.Calls.{Preserves, IsUnchanged}
-use Rattle.site.specs.State.{Image}
-use Rattle.page_store.proofs.Beside.{fits_beside}
-use Rattle.redo_laws.proofs.CallsInSequence.{only_read}
-use Rattle.site.proofs.Laws.{stays_honest}
 use Rattle.log_store.specs.Representation as log_store
-use Rattle.log_store.specs.LogList.{LogList}
-use Rattle.sealed_ring.specs.Ring.{IsRing, hi_of}
-use Rattle.image_changes.specs.Rings.{log_shape}
 
 -- The LSNs of blocks ascend.
 

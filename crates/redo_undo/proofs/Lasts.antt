@@ -1,19 +1,6 @@
 -- Where an unfinished transaction has begun.
-use Rattle.log_laws.proofs.Tails.{whole_in_order}
-use Rattle.log_laws.proofs.Parts.{in_order_filter}
-use Rattle.std.proofs.Common.{◌≡◌, ℕ, ◌≤◌, Bool, true, false, List, [], ◌∷◌, ◌++◌, length, refl, sym, ap, subst, ◌∙◌, arith, ◌*◌}
-use Rattle.std.specs.Prelude.{if◌then◌else◌, filter, Option}
-use Rattle.site.specs.State.{State}
-use Rattle.record_model.specs.State.{Content}
-use Rattle.log_records.specs.Log.{Entry, is_of}
-use Rattle.log_records.specs.Sound.{IsInOrder}
-use Rattle.log_laws.specs.Tail.{next_lsn}
-use Rattle.log_laws.specs.Analysis.{Unfinished, IsUnfinished}
-use Rattle.log_store.specs.declared.store.LogStore.{LogStore}
-use Rattle.page_store.specs.declared.store.PageStore.{PageStore}
-use Rattle.checkpoint.specs.declared.master.Master.{Master}
-use Rattle.image_meaning.specs.Meaning.{logical_image_under, kept_by}
-use Rattle.redo_laws.specs.Holding.{Represents}
+use Rattle.redo_undo.proofs.Names.{◌≡◌, ℕ, ◌≤◌, Bool, true, false, List, [], ◌∷◌, ◌++◌, length, refl, sym, ap, subst, ◌∙◌, arith, ◌*◌, if◌then◌else◌, filter, Master, logical_image_under, kept_by, in_order_filter, whole_in_order, Unfinished, IsUnfinished, next_lsn, Entry, is_of, IsInOrder, LogStore, PageStore, Content, Represents, State}
+use Rattle.std.specs.Prelude.{Option}
 use Rattle.redo_undo.proofs.Compensations.{chain}
 
 -- what passes a test stands in the list

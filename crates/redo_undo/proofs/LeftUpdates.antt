@@ -1,5 +1,5 @@
 -- Nothing is left.
-use Rattle.std.proofs.Common.{◌≡◌, List, [], ◌∷◌, length, refl, arith}
+use Rattle.redo_undo.proofs.Names.{◌≡◌, List, [], ◌∷◌, length, refl, arith}
 
 pub none_of : {X : Type 0} (xs : List X) → 0 ≡ length xs → xs ≡ []
 none_of [] is = refl

@@ -1,3 +1,4 @@
+mod Names
 pub mod NextUnits
 pub mod Compensations
 pub mod Rollbacks

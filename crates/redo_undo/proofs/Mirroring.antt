@@ -1,40 +1,12 @@
 -- What single calls on log and pages make of the machine that mirrors them.
 use Rattle.std.proofs.lemmas.Grind.{common_steps}
-use Rattle.std.proofs.Common.{◌≡◌, ◌≢◌, ◌⊎◌, inl, inr, ℕ, ◌+◌, ◌*◌, ◌^◌, ◌<◌, ◌≤◌, Bool, true, false, nat_lt, nat_le, List, [], ◌∷◌, ◌++◌, map, filter, Some, refl, sym, ap, subst, ◌∙◌, arith, lt-ltb, le-leb, eqb-true, eq-eqb, ltb-false}
-use Rattle.std.specs.Prelude.{Result, Ok, Err, OnOk, IfOk, IfErr, IsErrOf, if◌then◌else◌}
-use Rattle.std.specs.List.{list_any}
-use Rattle.std.proofs.lemmas.Bool.{and_from}
-use Rattle.site.specs.declared.outside.Dev.{Dev}
-use Rattle.site.specs.declared.outside.Dev.TheVariants.{Log, Flash, Disk}
-use Rattle.site.specs.declared.outside.Stop.{Stop}
-use Rattle.site.specs.declared.outside.Stop.TheVariants.{Device, Worn, Memory}
-use Rattle.site.specs.State.{State, Image}
-use Rattle.site.proofs.Working.{err_again, no_error, of_error}
-use Rattle.slotted_page.specs.Layout.{lsn_of}
-use Rattle.buffer_pool.specs.declared.frame.Frame.{Frame}
-use Rattle.log_records.specs.Spelling.{block_len, used_by}
-use Rattle.record_model.specs.Touches.{touch, flush}
-use Rattle.second_chance.specs.Machine.{Rules, PoolPage, Cache, touched, flushed}
+use Rattle.redo_undo.proofs.Names.{◌≡◌, ◌≢◌, ◌⊎◌, inl, inr, ℕ, ◌+◌, ◌*◌, ◌^◌, ◌<◌, ◌≤◌, Bool, true, false, nat_lt, List, [], ◌∷◌, ◌++◌, map, Some, refl, sym, ap, subst, ◌∙◌, arith, eqb-true, and_from, list_any, Result, Ok, Err, OnOk, IfOk, IfErr, IsErrOf, if◌then◌else◌, Frame, block_len, used_by, LogList, has_tail, end_of, LogStore, AreLogged, pushed_by_touch, cache_of, rules, pool_page, next_group, changed_front, with_change, pushes, IsStore, current, MayStop, PageStore, touch, flush, touched_next, Mirrors, touch_work, force_work, flush_work, never_past, log_past, flash_past, sealed_next, sealed_used, first_of_one, Machine, cached, logged, changed, apply_op, past_end, front_changed, pushed_by, Performs, Rules, PoolPage, Cache, touched, flushed, err_again, no_error, of_error, State, Image, Dev, Log, Flash, Disk, Stop, Device, Worn, Memory, lsn_of, is_unsealed, end_now, end_forced, forces}
+use Rattle.std.proofs.Common.{nat_le, filter, lt-ltb, le-leb, eq-eqb, ltb-false}
 use Rattle.ring_machine.specs.Tail.{Tail, sealed_if, waits}
-use Rattle.ring_machine.specs.Machine.{Machine, cached, logged, changed, apply_op, past_end, front_changed, pushed_by}
-use Rattle.ring_machine.specs.Performing.{Performs}
-use Rattle.ring_machine.proofs.Works.{first_of_one}
-use Rattle.ring_machine.proofs.Ends.{never_past, log_past, flash_past, sealed_next, sealed_used}
-use Rattle.log_store.specs.declared.store.LogStore.{LogStore}
-use Rattle.log_store.specs.LogList as log_list
-use Rattle.log_store.specs.LogList.{LogList}
-use Rattle.log_store.specs.Representation as log_store
-use Rattle.log_store.specs.Representation.{has_tail, end_of}
-use Rattle.write_ahead.specs.Forcing.{is_unsealed, end_now, end_forced, forces}
-use Rattle.page_store.specs.declared.store.PageStore.{PageStore}
-use Rattle.page_store.specs.Representation as page_store
-use Rattle.page_store.specs.Representation.{IsStore, current}
-use Rattle.page_store.specs.Caching.{cache_of, rules, pool_page, next_group, changed_front, with_change, pushes}
-use Rattle.page_store.specs.Ahead.{AreLogged, pushed_by_touch}
-use Rattle.page_store.specs.Stopping.{MayStop}
-use Rattle.redo_undo.specs.Mirroring.{Mirrors, touch_work, force_work, flush_work}
-use Rattle.redo_laws.proofs.Costs.{touched_next}
 use Rattle.redo_undo.proofs.PushedPages.{sealed_off, pushed_waits, none_waits}
+use Rattle.log_store.specs.LogList as log_list
+use Rattle.log_store.specs.Representation as log_store
+use Rattle.page_store.specs.Representation as page_store
 
 -- A tail that is sealed, or isn't.
 

@@ -1,26 +1,6 @@
 -- What calls on a store make of the machine that mirrors it.
-use Rattle.std.proofs.Common.{◌≡◌, ◌⊎◌, ℕ, ◌+◌, ◌^◌, ◌≤◌, false, List, [], ◌∷◌, ◌++◌, refl, sym, ap, ◌∙◌, arith}
-use Rattle.std.specs.Prelude.{Result, Ok, Err, OnOk, IfErr, IsErrOf}
-use Rattle.std.specs.List.{list_any}
-use Rattle.std.proofs.lemmas.Bool.{or_from}
+use Rattle.redo_undo.proofs.Names.{◌≡◌, ◌⊎◌, ℕ, ◌+◌, ◌^◌, ◌≤◌, false, List, [], ◌∷◌, ◌++◌, refl, sym, ap, ◌∙◌, arith, or_from, list_any, Result, Ok, Err, OnOk, IfErr, IsErrOf, Entry, rules, current, Mirrors, MirrorsStore, PerformsStore, clrs_for, TransactionStore, saves_one, masters_stay, clr_saves_none, never_past, masters_past, performs_with, first_of_one, ends, RingOp, save, Performs, Ring, no_error, State, Image, Log, Stop, Device, Worn}
 use Rattle.std.proofs.lemmas.List.Folds.{list_any-append}
-use Rattle.site.specs.declared.outside.Dev.TheVariants.{Log}
-use Rattle.site.specs.declared.outside.Stop.{Stop}
-use Rattle.site.specs.declared.outside.Stop.TheVariants.{Device, Worn}
-use Rattle.site.specs.State.{State, Image}
-use Rattle.site.proofs.Working.{no_error}
-use Rattle.log_records.specs.Log.{Entry}
-use Rattle.ring_machine.specs.Machine.{RingOp, save}
-use Rattle.ring_machine.specs.Commands.{ends}
-use Rattle.ring_machine.specs.Performing.{Performs}
-use Rattle.ring_machine.proofs.Works.{first_of_one}
-use Rattle.ring_machine.proofs.Ends.{saves_one, masters_stay, clr_saves_none, never_past, masters_past}
-use Rattle.ring_machine.proofs.Performing.{performs_with}
-use Rattle.sealed_ring.specs.declared.ring.Ring.{Ring}
-use Rattle.page_store.specs.Representation.{current}
-use Rattle.page_store.specs.Caching.{rules}
-use Rattle.redo_undo.specs.declared.store.TransactionStore.{TransactionStore}
-use Rattle.redo_undo.specs.Mirroring.{Mirrors, MirrorsStore, PerformsStore, clrs_for}
 use Rattle.redo_undo.proofs.Mirroring.{HasNumbersLeft}
 
 -- a call on log and pages, as one of a store that saves no master unit

@@ -1,34 +1,6 @@
 -- The next record of an opened log is redone.
-use Rattle.image_meaning.proofs.Redos.{next_is_redone}
-use Rattle.image_meaning.proofs.UnchangedImages.{next_block_is}
-use Rattle.image_meaning.proofs.Versions.{length-versions}
-use Rattle.log_records.proofs.Entries.{in_order_least}
-use Rattle.std_lemmas.proofs.AllOf.{all_between}
-use Rattle.log_laws.proofs.Losers.{last_number_of}
-use Rattle.std.proofs.lemmas.List.Elements.{filter-append}
-use Rattle.std.proofs.Common.{◌≡◌, ◌≢◌, ◌⊎◌, inl, inr, ℕ, ◌+◌, ◌-◌, ◌*◌, ◌/◌, ◌≤◌, ◌<◌, List, [], ◌∷◌, ◌++◌, length, map, Some, refl, sym, ap, subst, ◌∙◌, arith, true, Bool}
-use Rattle.std.specs.List.{AllByRecursion}
-use Rattle.std.proofs.lemmas.Bool.{cases_eq, lt-ltb, cond-true}
-use Rattle.std.proofs.lemmas.Option.{same_Some}
-use Rattle.site.specs.State.{State, Image}
-use Rattle.log_records.specs.declared.log_record.LogRecord.{LogRecord}
-use Rattle.log_records.specs.Log.{Entry, log_from, number_of, version_at}
-use Rattle.log_records.specs.Sound.{LogicalImage, IsInOrder, IsInTable, last_lsn, last_number, before_block}
-use Rattle.slotted_page.specs.Layout.{lsn_of}
-use Rattle.log_store.specs.declared.store.LogStore.{LogStore}
-use Rattle.buffer_pool.specs.Frames.{front_of}
-use Rattle.write_ahead.specs.Forcing.{end_forced}
-use Rattle.page_store.specs.declared.store.PageStore.{PageStore}
-use Rattle.page_store.specs.Representation.{current, Matches}
-use Rattle.page_store.specs.Ahead.{IsAhead}
-use Rattle.image_meaning.specs.Meaning.{versions_on, version_in, kept_by, next_block_under}
-use Rattle.image_meaning.specs.Redone.{IsRedone, AreKnown, Redoes}
-use Rattle.analysis.specs.Taken.{Steps, StepsOn, is_taken}
-use Rattle.redo_laws.specs.Holding.{IsOnPage}
-use Rattle.redo_laws.proofs.Changed.{front_is_current, known_more}
-use Rattle.std.specs.Prelude.{filter, nat_lt}
-use Rattle.redo_undo.specs.Redoing.{Opening, opened, IsFrom, IsRedoing, heard_of}
-use Rattle.flash_cache.proofs.Given.{all_append}
+use Rattle.redo_undo.proofs.Names.{◌≡◌, ◌≢◌, ◌⊎◌, inl, inr, ℕ, ◌+◌, ◌-◌, ◌*◌, ◌/◌, ◌≤◌, ◌<◌, List, [], ◌∷◌, ◌++◌, length, map, Some, refl, sym, ap, subst, ◌∙◌, arith, true, Bool, cases_eq, lt-ltb, cond-true, filter-append, same_Some, AllByRecursion, filter, Steps, StepsOn, is_taken, front_of, all_append, next_is_redone, next_block_is, length-versions, versions_on, version_in, kept_by, next_block_under, IsRedone, AreKnown, Redoes, last_number_of, in_order_least, Entry, log_from, number_of, version_at, LogicalImage, IsInOrder, IsInTable, last_lsn, last_number, before_block, LogRecord, LogStore, IsAhead, current, Matches, PageStore, front_is_current, known_more, IsOnPage, Opening, opened, IsFrom, IsRedoing, heard_of, State, Image, lsn_of, all_between, end_forced}
+use Rattle.std.specs.Prelude.{nat_lt}
 
 pub filter_split : (test : Entry → Bool) (front : List Entry) (e : Entry) (rest : List Entry) → test e ≡ true → filter test (front ++ e ∷ rest) ≡ filter test front ++ e ∷ filter test rest
 filter_split test front e rest here = filter-append test front (e ∷ rest) ∙ ap (λ (l : List Entry). filter test front ++ l) (cond-true (test e) (e ∷ filter test rest) (filter test rest) here)

@@ -1,25 +1,9 @@
 -- The next units of a store's rings over an honest site, whatever stands there: calls one after the other.
-use Rattle.std.proofs.Common.{arith}
-use Rattle.std.proofs.Common.{◌≡◌, ◌≢◌, ◌⊎◌, inl, inr, refl, ap, sym, subst, ◌∙◌}
-use Rattle.std.specs.Prelude.{◌^◌, Result, Ok, Err, OnOk, IfErr, IsErrOf}
-use Rattle.site.specs.declared.outside.Dev.{Dev}
-use Rattle.site.specs.declared.outside.Dev.TheVariants.{Log, Flash, Disk}
-use Rattle.site.specs.declared.outside.Stop.{Stop}
-use Rattle.site.specs.declared.outside.Stop.TheVariants.{Device, Worn}
-use Rattle.site.specs.State.{State as Site}
-use Rattle.site.specs.Moments.{ChangesOnly}
-use Rattle.site.proofs.Working.{no_error, err_again, err_as, of_error}
-use Rattle.sealed_ring.specs.Ring.{hi_of}
-use Rattle.image_changes.specs.Rings.{master_shape, segment_shape}
+use Rattle.redo_undo.proofs.Names.{arith, ◌≡◌, ◌≢◌, ◌⊎◌, inl, inr, refl, ap, sym, subst, ◌∙◌, Result, Ok, Err, OnOk, IfErr, IsErrOf, master_shape, segment_shape, MayStop, PageStore, IsSpent, AreNext, KeepsNext, sizes_of, TransactionStore, hi_of, no_error, err_again, err_as, of_error, ChangesOnly, State as Site, Dev, Log, Flash, Disk, Stop, Device, Worn}
+use Rattle.std.specs.Prelude.{◌^◌}
 use Rattle.flash_cache.specs.Representation as flash_cache
 use Rattle.log_store.specs.Representation as log_store
-use Rattle.page_store.specs.declared.store.PageStore.{PageStore}
 use Rattle.page_store.specs.Calls as pages
-use Rattle.page_store.specs.Stopping.{MayStop}
-use Rattle.redo_laws.specs.Holding.{IsSpent}
-use Rattle.redo_undo.specs.declared.store.TransactionStore.{TransactionStore}
-use Rattle.redo_undo.specs.Stores.{sizes_of}
-use Rattle.redo_undo.specs.StoreCalls.{AreNext, KeepsNext}
 
 -- a call of log and pages
 pub store_next : {T : Type 0} {r : Result T Stop} {old new : TransactionStore} {before now : Site} → old.log.geometry ≡ sizes_of old → new.masters ≡ old.masters → IfErr r (λ stop. MayStop stop) →

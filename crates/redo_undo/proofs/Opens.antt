@@ -1,20 +1,8 @@
 -- Lists of active transactions.
-use Rattle.std.proofs.Common.{Bool, true, false, true≢false, ◌==◌, ◌⊎◌, inl, inr, nat_eq, get_or, append_assoc, ◌≡◌, ◌≢◌, ℕ, suc, ◌+◌, ◌≤◌, ◌<◌, cond, List, [], ◌∷◌, ◌++◌, length, Option, None, Some, refl, sym, ap, subst, ◌∙◌, arith}
-use Rattle.std.specs.Prelude.{map, filter, drop, option_map, IfNone}
-use Rattle.std.specs.List.{AllByRecursion, list_any}
-use Rattle.std.proofs.lemmas.Bool.{cases_eq, ne_eqb, eq-eqb, eqb-true}
-use Rattle.std.proofs.lemmas.List.{length-map}
-use Rattle.std.proofs.lemmas.List.Sums.{sum_by-cons}
-use Rattle.std.proofs.lemmas.Option.{none-some, same_Some}
-use Rattle.std_lemmas.proofs.AllOf.{all_both, all_left, all_right}
-use Rattle.analysis.specs.declared.analysis.Loser.{Loser}
-use Rattle.analysis.specs.Open.{Open, owed_one, owed_for, found_in, updates_of, left_in, LeavesSame, DropsOne, AscendFrom, Replaces, TakesOut}
+use Rattle.redo_undo.proofs.Names.{Bool, true, false, true≢false, ◌==◌, ◌⊎◌, inl, inr, nat_eq, get_or, append_assoc, ◌≡◌, ◌≢◌, ℕ, suc, ◌+◌, ◌≤◌, ◌<◌, cond, List, [], ◌∷◌, ◌++◌, length, Option, None, Some, refl, sym, ap, subst, ◌∙◌, arith, cases_eq, ne_eqb, eq-eqb, length-map, sum_by-cons, none-some, same_Some, AllByRecursion, list_any, filter, option_map, IfNone, Open, owed_one, owed_for, found_in, updates_of, left_in, LeavesSame, DropsOne, AscendFrom, Replaces, TakesOut, Descend, IsOrder, loser_of, Loser, all_append, IsOf, Remain, HasNone, none_remains, all_both, all_left, all_right}
+use Rattle.std.specs.Prelude.{map, drop}
+use Rattle.std.proofs.lemmas.Bool.{eqb-true}
 use Rattle.analysis.specs.declared.order.Order.{Order}
-use Rattle.analysis.specs.Order.{Descend, IsOrder}
-use Rattle.analysis.specs.Read.{loser_of}
-use Rattle.redo_undo.specs.Mirroring.{none_remains}
-use Rattle.redo_laws.specs.UndoingAll.{IsOf, Remain, HasNone}
-use Rattle.flash_cache.proofs.Given.{all_append}
 
 -- A transaction stands there once.
 

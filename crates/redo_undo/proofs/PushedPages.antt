@@ -1,30 +1,11 @@
 -- The pages that a touch pushes, by the machine and by the pool, and whether one of them waits for the log.
-use Rattle.std.proofs.Common.{◌≡◌, ℕ, zero, suc, ◌+◌, ◌*◌, ◌<◌, Bool, true, false, not, ◌&&◌, ◌||◌, nat_lt, nat_le, List, [], ◌∷◌, map, filter, reverse, take, Some, refl, sym, ap, subst, ◌∙◌, arith}
-use Rattle.std.specs.Prelude.{if◌then◌else◌}
-use Rattle.std.specs.List.{AllByRecursion, list_any}
-use Rattle.std.proofs.lemmas.Bool.{and_right, ltb-true, lt-leb}
-use Rattle.std_lemmas.proofs.AllOf.{all_both, all_filter, all_reverse, all_take, all_weaker}
-use Rattle.std_lemmas.proofs.Lists.{any_map, map_map, map_reverse_aux}
-use Rattle.site.specs.State.{Image}
-use Rattle.slotted_page.specs.Layout.{lsn_of}
-use Rattle.buffer_pool.specs.declared.frame.Frame.{Frame}
-use Rattle.buffer_pool.specs.Frames.{frame_of}
-use Rattle.record_model.specs.Touches.{touch}
+use Rattle.redo_undo.proofs.Names.{◌≡◌, ℕ, zero, suc, ◌+◌, ◌*◌, ◌<◌, Bool, true, false, not, ◌&&◌, ◌||◌, nat_lt, List, [], ◌∷◌, map, reverse, take, Some, refl, sym, ap, subst, ◌∙◌, arith, and_right, ltb-true, lt-leb, AllByRecursion, list_any, if◌then◌else◌, frame_of, Frame, has_tail, LogStore, AreLogged, evicted, pushed_by_touch, cache_of, rules, pool_page, IsStore, IsPage, PageStore, touch, Mirrors, Machine, pushed_with, pushed_by, Rules, PoolPage, Cache, pool_mark, lacks_room, Image, lsn_of, all_both, all_filter, all_reverse, all_take, all_weaker, any_map, map_map, map_reverse_aux, IsLogged, is_unsealed, end_now, end_forced, forces}
+use Rattle.std.proofs.Common.{nat_le, filter}
 use Rattle.second_chance.specs.declared.plan.PoolMark.{PoolMark}
 use Rattle.second_chance.specs.Queue.{Queue}
-use Rattle.second_chance.specs.Machine.{Rules, PoolPage, Cache, pool_mark, lacks_room}
 use Rattle.ring_machine.specs.Tail.{waits}
-use Rattle.ring_machine.specs.Machine.{Machine, pushed_with, pushed_by}
-use Rattle.log_store.specs.declared.store.LogStore.{LogStore}
-use Rattle.log_store.specs.Representation.{has_tail}
-use Rattle.write_ahead.specs.Forcing.{IsLogged, is_unsealed, end_now, end_forced, forces}
 use Rattle.page_store.proofs.Saving.{found_all}
-use Rattle.page_store.specs.declared.store.PageStore.{PageStore}
-use Rattle.page_store.specs.Representation.{IsStore, IsPage}
-use Rattle.page_store.specs.Caching.{cache_of, rules, pool_page}
 use Rattle.page_store.specs.Pulling.{movable, evicted_of, evicted_frames}
-use Rattle.page_store.specs.Ahead.{AreLogged, evicted, pushed_by_touch}
-use Rattle.redo_undo.specs.Mirroring.{Mirrors}
 
 -- The pages are those of the frames.
 

@@ -1,33 +1,8 @@
 -- What redo asks of the cache.
-use Rattle.redo_laws.proofs.Costs.{touch_then_change}
-use Rattle.site.proofs.Working.{no_error, ok_always}
-use Rattle.std.proofs.Common.{◌≡◌, ◌≢◌, inl, inr, ℕ, ◌-◌, ◌/◌, ◌≤◌, ◌<◌, nat_lt, Bool, true, false, List, [], ◌∷◌, ◌++◌, Option, Some, None, append-nil, append_assoc, refl, sym, ap, subst, ◌∙◌, arith, ◌*◌}
-use Rattle.std.specs.Prelude.{if◌then◌else◌, ⊤, Result, Ok, Err, filter_map, option_map, nat_le}
-use Rattle.std.proofs.lemmas.Bool.{le-leb, lt-ltb, le-ltb, cond-true, cond-false, lt-leb}
-use Rattle.std.proofs.lemmas.List.Elements.{filter_map-append}
-use Rattle.site.specs.declared.outside.Dev.{Dev}
-use Rattle.site.specs.declared.outside.Dev.TheVariants.{Log, Flash, Disk}
-use Rattle.site.specs.declared.outside.Stop.{Stop}
-use Rattle.site.specs.declared.outside.Stop.TheVariants.{Worn}
-use Rattle.site.specs.State.{State, reads_of}
-use Rattle.record_model.specs.Touches.{CacheOp, touch, page_of}
-use Rattle.log_records.specs.Log.{Entry, version_at, number_of, log_from}
-use Rattle.log_records.specs.Restart.{redo_touch}
-use Rattle.log_records.specs.Sound.{from_block, last_lsn}
-use Rattle.slotted_page.specs.Layout.{lsn_of}
-use Rattle.log_store.specs.declared.store.LogStore.{LogStore}
-use Rattle.page_store.specs.declared.store.PageStore.{PageStore}
-use Rattle.page_store.specs.Representation.{current}
-use Rattle.page_store.specs.Caching.{cache_of, rules, with_change}
-use Rattle.redo_undo.specs.Redoing.{AsksAtRest, Opening, opened, touches_of, IsFrom, IsRedoing, asked_of}
+use Rattle.redo_undo.proofs.Names.{◌≡◌, ◌≢◌, inl, inr, ℕ, ◌-◌, ◌/◌, ◌≤◌, ◌<◌, nat_lt, Bool, true, false, List, [], ◌∷◌, ◌++◌, Option, Some, None, append-nil, append_assoc, refl, sym, ap, subst, ◌∙◌, arith, ◌*◌, le-leb, lt-ltb, le-ltb, cond-true, cond-false, lt-leb, filter_map-append, if◌then◌else◌, ⊤, Result, Ok, Err, filter_map, option_map, nat_le, kept_by, Entry, version_at, number_of, log_from, redo_touch, from_block, last_lsn, LogStore, stages_none, stages_between, cache_of, rules, with_change, current, PageStore, CacheOp, touch, page_of, change_reads, change_stages, asks_nothing, asks_ok, asks_then, asks_stopped, change_stopped, touch_then_change, one_touch, one_change, StepsMachine, PerformsAtRest, AsksAtRest, Opening, opened, touches_of, IsFrom, IsRedoing, asked_of, no_error, ok_always, State, reads_of, Dev, Log, Flash, Disk, Stop, Worn, lsn_of}
 use Rattle.page_store.specs.Staging.{Stages}
-use Rattle.page_store.proofs.StagingLaws.{stages_none, stages_between}
-use Rattle.redo_laws.specs.MachineSteps.{next_group, one_touch, one_change, StepsMachine}
-use Rattle.redo_undo.specs.Mirroring.{PerformsAtRest}
-use Rattle.redo_laws.proofs.Asking.{change_reads, change_stages, asks_nothing, asks_ok, asks_then, asks_stopped}
-use Rattle.redo_laws.proofs.AskingUndo.{change_stopped}
+use Rattle.redo_laws.specs.MachineSteps.{next_group}
 use Rattle.redo_undo.proofs.Resting.{change_rests, change_rests_stopped, rests_answered, rests_nothing, rests_refused, rests_stopped, rests_then}
-use Rattle.image_meaning.specs.Meaning.{kept_by}
 use Rattle.redo_undo.proofs.NextRecords.{last_below, page_exists}
 
 -- nothing is asked yet

@@ -1,52 +1,18 @@
 -- Log and pages while the records of an opened log are redone.
+use Rattle.redo_undo.proofs.Names.{◌≡◌, ◌⊎◌, inl, inr, ◌+◌, ◌*◌, ◌<◌, ◌==◌, ◌||◌, ◌&&◌, nat_lt, Bool, false, List, [], append-nil, length, refl, sym, ap, subst, ◌∙◌, arith, ℕ, true≢false, AllByRecursion, frame_of, Frame, Master, version_on, IsCleanOn, log_shape, KeepsUnits, master_shape, redone_is_current, redone_replaces, version_is_redone, next_block_is, length-versions, version_is, AreRingsSoundUnder, IsSoundUnder, StandsUnder, logical_image_under, versions_on, version_in, kept_by, next_block_under, IsRedone, AreKnown, ShowsAll, Entry, Version, log_from, Means, LogRecord, LogList, sealed_if, HasBlocks, has_tail, end_of, LogStore, fits_beside, IsAhead, sealed_end, AreReady, LeavesPages, LeavesRings, KeepsCurrent, IsStore, current, content_by, PageStore, Content, units_then, only_read, opened_holds, Represents, ShowRecords, IsOpened, Opening, opened, IsFrom, LeavesOpened, IsRedoing, IsRing, hi_of, each_both, each_weaker, no_call, unchanged_calm, stays_honest, quiet_leaves, Preserves, IsUnchanged, Leaves, LeavesOnly, State, Image, Snapshot, snapshot_of, IsQuiet, Geometry, lsn_of, IsLogged, end_forced, forces}
 use Rattle.image_meaning.proofs.Behind.{shows_still}
 use Rattle.image_meaning.proofs.OtherVersions.{version_replaces_itself, versions_are_sound, versions_mean}
-use Rattle.image_meaning.proofs.Redos.{redone_is_current, redone_replaces, version_is_redone}
 use Rattle.image_meaning.proofs.Replacing.{replace_all}
-use Rattle.image_meaning.proofs.UnchangedImages.{next_block_is}
-use Rattle.image_meaning.proofs.Versions.{length-versions, version_is}
-use Rattle.page_store.proofs.Beside.{fits_beside}
-use Rattle.std.proofs.Common.{◌≡◌, ◌⊎◌, inl, inr, ◌+◌, ◌*◌, ◌<◌, ◌==◌, ◌||◌, ◌&&◌, nat_lt, Bool, false, IsTrue, List, [], append-nil, length, refl, sym, ap, subst, ◌∙◌, arith, ℕ, true≢false}
+use Rattle.std.proofs.Common.{IsTrue}
 use Rattle.std.specs.Prelude.{Option}
-use Rattle.std.specs.List.{AllByRecursion}
 use Rattle.std.proofs.lemmas.Bool.Decides.{nat_tests}
-use Rattle.site.specs.declared.geometry.Geometry.{Geometry}
-use Rattle.site.specs.State.{State, Image, Snapshot, snapshot_of, IsQuiet}
-use Rattle.site.specs.Calls.{Preserves, IsUnchanged}
-use Rattle.site.specs.Moments.{Leaves, LeavesOnly}
-use Rattle.site.proofs.Laws.{each_both, each_weaker, no_call, unchanged_calm, stays_honest, quiet_leaves}
-use Rattle.sealed_ring.specs.Ring.{IsRing, hi_of}
-use Rattle.image_changes.specs.Rings.{log_shape, KeepsUnits, master_shape}
-use Rattle.record_model.specs.State.{Content}
-use Rattle.log_records.specs.declared.log_record.LogRecord.{LogRecord}
-use Rattle.log_records.specs.Log.{Entry, Version, log_from}
-use Rattle.log_records.specs.Sound.{Means}
-use Rattle.log_records.specs.Sound as lists
 use Rattle.log_laws.specs.NewImage.{Replaces}
-use Rattle.slotted_page.specs.Layout as page
-use Rattle.slotted_page.specs.Layout.{lsn_of}
-use Rattle.log_store.specs.declared.store.LogStore.{LogStore}
-use Rattle.log_store.specs.LogList.{LogList, sealed_if}
-use Rattle.log_store.specs.Representation as log_store
-use Rattle.log_store.specs.Representation.{HasBlocks, has_tail, end_of}
-use Rattle.flash_cache.specs.Representation.{version_on, IsCleanOn}
-use Rattle.buffer_pool.specs.declared.frame.Frame.{Frame}
-use Rattle.buffer_pool.specs.Frames.{frame_of}
-use Rattle.write_ahead.specs.Forcing.{IsLogged, end_forced, forces}
-use Rattle.page_store.specs.declared.store.PageStore.{PageStore}
-use Rattle.page_store.specs.Representation.{IsStore, current, content_by}
-use Rattle.page_store.specs.Ahead.{IsAhead, sealed_end}
-use Rattle.page_store.specs.Leaves.{AreReady, LeavesPages, LeavesRings, KeepsCurrent}
-use Rattle.image_meaning.specs.Meaning.{IsSoundUnder, StandsUnder, logical_image_under, versions_on, version_in, kept_by, next_block_under}
-use Rattle.image_meaning.specs.Redone.{IsRedone, AreKnown, ShowsAll}
 use Rattle.image_meaning.specs.LogicalImages.{ReplaceAll}
-use Rattle.image_meaning.specs.Beside.{AreRingsSoundUnder}
-use Rattle.redo_laws.specs.Holding.{Represents, ShowRecords}
-use Rattle.redo_undo.specs.Redoing.{IsOpened, Opening, opened, IsFrom, LeavesOpened, IsRedoing}
-use Rattle.checkpoint.specs.declared.master.Master.{Master}
-use Rattle.redo_laws.proofs.CallsInSequence.{units_then, only_read, opened_holds}
 use Rattle.redo_laws.proofs.Standing.{current_sound}
 use Rattle.redo_laws.proofs.Empties.{logged_below}
+use Rattle.log_records.specs.Sound as lists
+use Rattle.slotted_page.specs.Layout as page
+use Rattle.log_store.specs.Representation as log_store
 
 -- an empty tail is never forced
 pub never_forced : (log : LogStore) (contents : List (List ℕ)) → log.used ≡ 2 → forces log contents ≡ false

@@ -1,27 +1,7 @@
 -- Work of the cache while a log is redone: its tail has no records, so no page waits for one, and no block is sealed.
-use Rattle.std.proofs.Common.{◌≡◌, ◌≢◌, ℕ, ◌^◌, ◌≤◌, Bool, true, false, nat_lt, List, [], ◌∷◌, ◌++◌, map, Some, refl, sym, ap, ◌∙◌, arith}
-use Rattle.std.specs.Prelude.{Result, Ok, Err, OnOk, IfErr, IsErrOf, if◌then◌else◌}
-use Rattle.std.specs.List.{list_any}
-use Rattle.std.proofs.lemmas.List.{map-append}
-use Rattle.site.specs.declared.outside.Dev.{Dev}
-use Rattle.site.specs.declared.outside.Dev.TheVariants.{Log, Flash, Disk}
-use Rattle.site.specs.declared.outside.Stop.{Stop}
-use Rattle.site.specs.declared.outside.Stop.TheVariants.{Worn}
-use Rattle.site.proofs.Working.{err_again, no_error, of_error, ok_always}
-use Rattle.record_model.specs.Touches.{CacheOp, touch}
-use Rattle.second_chance.specs.Machine.{Rules, Cache, touched}
-use Rattle.second_chance.specs.Machine as cache
+use Rattle.redo_undo.proofs.Names.{◌≡◌, ◌≢◌, ℕ, ◌^◌, ◌≤◌, Bool, true, false, nat_lt, List, [], ◌∷◌, ◌++◌, map, Some, refl, sym, ap, ◌∙◌, arith, map-append, list_any, Result, Ok, Err, OnOk, IfErr, IsErrOf, if◌then◌else◌, cache_of, rules, next_group, pushes, with_change, MayStop, PageStore, CacheOp, touch, touched_next, touch_then_change, one_touch, one_change, resting, PerformsAtRest, never_past, flash_past, performs_answered, performs_as, performs_by, performs_nothing, performs_refused, performs_stopped, performs_then, first_of_one, Machine, cached, apply_op, pushed_by, past_end, first_worn, Rules, Cache, touched, err_again, no_error, of_error, ok_always, Dev, Log, Flash, Disk, Stop, Worn}
 use Rattle.ring_machine.specs.Tail.{waits, empty_at, sealed_if}
-use Rattle.ring_machine.specs.Machine.{Machine, cached, apply_op, pushed_by, past_end, first_worn}
-use Rattle.ring_machine.proofs.Works.{first_of_one}
-use Rattle.ring_machine.proofs.Ends.{never_past, flash_past}
-use Rattle.ring_machine.proofs.Performing.{performs_answered, performs_as, performs_by, performs_nothing, performs_refused, performs_stopped, performs_then}
-use Rattle.page_store.specs.declared.store.PageStore.{PageStore}
-use Rattle.page_store.specs.Caching.{cache_of, rules, next_group, pushes, with_change}
-use Rattle.page_store.specs.Stopping.{MayStop}
-use Rattle.redo_laws.specs.MachineSteps.{one_touch, one_change}
-use Rattle.redo_undo.specs.Mirroring.{resting, PerformsAtRest}
-use Rattle.redo_laws.proofs.Costs.{touched_next, touch_then_change}
+use Rattle.second_chance.specs.Machine as cache
 
 -- The machine rests.
 

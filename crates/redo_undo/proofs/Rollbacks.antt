@@ -1,30 +1,7 @@
 -- Undoing a transaction, CLR by CLR, and its End.
-use Rattle.log_laws.proofs.Losers.{loser_is_closed, loser_is_not_closed, loser_stays}
-use Rattle.log_laws.proofs.Owing.{owed_closing}
-use Rattle.log_laws.proofs.UndoingSteps.{chain_ends, undo_end}
-use Rattle.std.proofs.Common.{◌≡◌, ◌≢◌, ℕ, ◌+◌, ◌-◌, ◌^◌, ◌≤◌, true, List, [], ◌∷◌, ◌++◌, length, refl, sym, ap, subst, ◌∙◌, arith, append_assoc, append-nil, Option}
-use Rattle.std.proofs.lemmas.Bool.{ne_eqb}
-use Rattle.std.proofs.lemmas.List.{length-append}
-use Rattle.site.specs.State.{State}
-use Rattle.site.specs.declared.geometry.Geometry.{Geometry}
-use Rattle.record_model.specs.State.{Content}
-use Rattle.log_records.specs.declared.log_record.LogRecord.TheVariants.{End}
-use Rattle.log_records.specs.Log.{Entry, txn_of, is_loser}
-use Rattle.log_records.specs.Unfinished.{is_clr, left_open, owed, owed_by}
-use Rattle.log_records.specs.Sound.{AreOrderly}
-use Rattle.log_laws.specs.Follow.{Follows}
-use Rattle.log_laws.specs.Analysis.{Unfinished, IsUnfinished, after_clr, past_clr}
-use Rattle.log_laws.specs.UndoLaws.{IsUndoChain}
-use Rattle.log_store.specs.declared.store.LogStore.{LogStore}
-use Rattle.page_store.specs.declared.store.PageStore.{PageStore}
-use Rattle.checkpoint.specs.declared.master.Master.{Master}
-use Rattle.image_meaning.specs.Meaning.{logical_image_under, master_of, versions_on}
-use Rattle.redo_undo.specs.declared.undo.UndoCursor.{UndoCursor}
-use Rattle.redo_laws.specs.Holding.{Invariant, Represents, MayGrow, blocks_to}
-use Rattle.redo_undo.specs.Undoing.{IsAt, Undone, Passed}
-use Rattle.redo_undo.specs.Rollback.{AreClrsOf, Compensates, RollsBack}
+use Rattle.redo_undo.proofs.Names.{◌≡◌, ◌≢◌, ℕ, ◌+◌, ◌-◌, ◌^◌, ◌≤◌, true, List, [], ◌∷◌, ◌++◌, length, refl, sym, ap, subst, ◌∙◌, arith, append_assoc, append-nil, Option, ne_eqb, length-append, Master, all_append, logical_image_under, master_of, versions_on, loser_is_closed, loser_is_not_closed, loser_stays, owed_closing, chain_ends, undo_end, Unfinished, IsUnfinished, after_clr, past_clr, Follows, IsUndoChain, Entry, txn_of, is_loser, AreOrderly, is_clr, left_open, owed, owed_by, End, LogStore, PageStore, Content, Invariant, Represents, MayGrow, blocks_to, AreClrsOf, Compensates, IsAt, Undone, Passed, UndoCursor, State, Geometry}
+use Rattle.redo_undo.specs.Rollback.{RollsBack}
 use Rattle.redo_undo.proofs.Compensations.{chain}
-use Rattle.flash_cache.proofs.Given.{all_append}
 
 -- nothing is compensated yet
 unfoldable pub starts : (log : LogStore) (pages : PageStore) (site : State) (newest : Option Master) (records : List Entry) (table : List Content) (commits : ℕ) (x : Unfinished) (first : UndoCursor) → Represents log pages site newest records table commits → IsUnfinished records x → IsAt first x →

@@ -1,37 +1,12 @@
 -- Room in the page in front of the pool, as soundness has it.
 use Rattle.std.proofs.lemmas.Grind.{common_steps}
-use Rattle.std.proofs.Common.{◌≡◌, ℕ, ◌+◌, ◌*◌, ◌/◌, ◌%◌, ◌<◌, ◌≤◌, ◌==◌, suc, cond, List, [], ◌∷◌, ◌++◌, length, Option, Some, None, refl, sym, ap, subst, ◌∙◌, arith, get_or-set_same, get_or-set_other}
-use Rattle.std.specs.Prelude.{sum_by, slice_set}
-use Rattle.std.specs.List.{range_with_len}
-use Rattle.std.proofs.Math.Nat.{le-max_left}
-use Rattle.std.proofs.lemmas.Bool.{eq-eqb, ne_eqb}
-use Rattle.std.proofs.lemmas.List.Sums.{sum_by-cons}
-use Rattle.site.specs.State.{State}
-use Rattle.record_model.specs.State.{Content, content_at, length_of, page_room}
-use Rattle.log_records.specs.Log.{Entry, Version, log_from, number_of, after_of, shown}
+use Rattle.redo_undo.proofs.Names.{◌≡◌, ℕ, ◌+◌, ◌*◌, ◌/◌, ◌%◌, ◌<◌, ◌≤◌, ◌==◌, suc, cond, List, [], ◌∷◌, ◌++◌, length, Option, Some, None, refl, sym, ap, subst, ◌∙◌, arith, get_or-set_same, get_or-set_other, le-max_left, eq-eqb, ne_eqb, sum_by-cons, range_with_len, sum_by, slice_set, front_of, Master, next_is_redone, length-versions, kept_by, version_in, versions_on, AreKnown, IsRedone, Redoes, shown_push, Follows, IsUndoable, Entry, Version, log_from, number_of, after_of, shown, Fields, InTurn, redone, LogStore, front_exists, IsStore, current, PageStore, Content, content_at, length_of, page_room, front_is_current, front_shows, IsOnPage, MayGrow, Represents, IsRedoing, Opening, opened, State, content_length, lsn_of, slots_of, total_length}
 use Rattle.log_records.specs.Room.{total_on, HasOpenRoom}
-use Rattle.log_records.specs.Sound.{Master as Fields, InTurn, redone}
-use Rattle.log_laws.specs.Follow.{Follows, IsUndoable}
 use Rattle.log_laws.proofs.Follow.{undoable_behind}
 use Rattle.log_laws.proofs.Rooms.{room_behind}
 use Rattle.log_laws.proofs.Seals.{undoable_behind_all}
-use Rattle.log_laws.proofs.Shown.{shown_push}
-use Rattle.slotted_page.specs.Layout.{content_length, lsn_of, slots_of, total_length}
 use Rattle.slotted_page.proofs.Slots.{length-slots_of}
-use Rattle.buffer_pool.specs.Frames.{front_of}
-use Rattle.log_store.specs.declared.store.LogStore.{LogStore}
-use Rattle.page_store.specs.declared.store.PageStore.{PageStore}
-use Rattle.page_store.specs.Representation.{IsStore, current}
-use Rattle.page_store.proofs.Fitting.{front_exists}
-use Rattle.checkpoint.specs.declared.master.Master.{Master}
-use Rattle.image_meaning.specs.Meaning.{kept_by, version_in, versions_on}
-use Rattle.image_meaning.specs.Redone.{AreKnown, IsRedone, Redoes}
-use Rattle.image_meaning.proofs.Redos.{next_is_redone}
-use Rattle.image_meaning.proofs.Versions.{length-versions}
-use Rattle.redo_laws.specs.Holding.{IsOnPage, MayGrow, Represents}
-use Rattle.redo_laws.proofs.Changed.{front_is_current, front_shows}
 use Rattle.redo_undo.specs.Fitting.{FitsFront, HasRoomInFront}
-use Rattle.redo_undo.specs.Redoing.{IsRedoing, Opening, opened}
 
 pub fits_as : (pages : PageStore) (k n : ℕ) (a b : Content) → k ≡ n → a ≡ b → FitsFront pages k a → FitsFront pages n b
 fits_as pages k n a b at is fits = subst (λ (c : Content). FitsFront pages n c) is (subst (λ (m : ℕ). FitsFront pages m a) at fits)

@@ -1,78 +1,19 @@
 -- A master is saved over flushed pages and an empty tail.
+use Rattle.redo_undo.proofs.Names.{◌≡◌, ◌⊎◌, inl, inr, ℕ, ◌+◌, ◌-◌, ◌*◌, ◌/◌, ◌≤◌, ◌<◌, ◌==◌, Bool, true, false, List, [], ◌∷◌, map, drop, Option, Some, refl, sym, ap, subst, ◌∙◌, arith, append-nil, length, cond-true, cond-false, le-leb, lt-ltb, length-append, sum_by-cons, none-some, same_Some, list_any, AllByRecursion, if◌then◌else◌, filter, flat_map, max, nat_le, slice_get, sum_by, frame_of, Frame, seen, unit, IsUnit, master_in, Master, version_on, AppendsMaster, Makes, Reaches, ReadsAs, LeavesFront, Masters, Blocks, log_shape, KeepsUnits, master_shape, under_leaves_for, redone_is_current, version_is_redone, length-versions, version_is, IsFlushed, IsMasterOf, first_block, oldest_needed, logical_image_under, kept_by, versions_on, version_in, IsSoundUnder, LeavesFor, AreKnown, ShowsAll, listed_is_loser, loser_is_listed, in_order_filter, carries_nothing, whole_is_undoable, IsUndoable, whole, some_octet, Entry, Version, version_at, is_loser, entries_of, is_of, Active, LogicalImage, AreOrderly, from_block, last_lsn, active_in, before_block, IsInOrder, IsSound, IsLoserChain, used_by, spelling, losers, owed, owed_by, open_updates, LogRecord, has_tail, end_of, LogStore, fits_beside, versions_beside, AreLogged, cache_of, pool_page, current, PageStore, Content, current_same, more_sealed, sound_there, nothing_happens, hi_is, AreUnfinished, MayBeMade, begins_of, KeepUnfinished, IsSaved, Represents, blocks_to, Finds, Units, FitsIn, IsRing, hi_of, Ring, Shape, wants_flush, stays_honest, holds_now, in_sequence, Preserves, ChangesOnly, Leaves, LeavesOnly, State, Image, content_of, IsQuiet, Geometry, Log, Flash, Disk, lsn_of, all_member, each_member, end_forced}
 use Rattle.image_meaning.proofs.Flushes.{oldest_is_there}
-use Rattle.image_meaning.proofs.Leaving.{under_leaves_for}
-use Rattle.image_meaning.proofs.Redos.{redone_is_current, version_is_redone}
-use Rattle.image_meaning.proofs.Versions.{length-versions, version_is}
-use Rattle.log_laws.proofs.Listing.{listed_is_loser, loser_is_listed}
-use Rattle.log_laws.proofs.Tails.{carries_nothing, whole_is_undoable}
 use Rattle.log_store.proofs.Standing.{holds_beside}
-use Rattle.page_store.proofs.Beside.{fits_beside, versions_beside}
 use Rattle.std_lemmas.proofs.Bools.{same_bools}
-use Rattle.std_lemmas.proofs.AllOf.{all_member, each_member}
-use Rattle.log_laws.proofs.Parts.{in_order_filter}
-use Rattle.log_records.proofs.Blocks.{some_octet}
-use Rattle.std.proofs.Common.{◌≡◌, ◌⊎◌, inl, inr, ℕ, ◌+◌, ◌-◌, ◌*◌, ◌/◌, ◌≤◌, ◌<◌, ◌==◌, Bool, true, false, List, [], ◌∷◌, map, drop, Option, Some, refl, sym, ap, subst, ◌∙◌, arith, append-nil, length}
-use Rattle.std.specs.Prelude.{if◌then◌else◌, filter, flat_map, max, nat_le, nat_lt, slice_get, sum_by}
-use Rattle.std.specs.List.{list_any, AllByRecursion}
-use Rattle.std.proofs.lemmas.List.{length-append}
-use Rattle.std.proofs.lemmas.List.Sums.{sum_by-cons}
-use Rattle.std.proofs.lemmas.Option.{none-some, same_Some}
-use Rattle.site.specs.declared.outside.Dev.TheVariants.{Log, Flash, Disk}
-use Rattle.site.specs.declared.geometry.Geometry.{Geometry}
-use Rattle.site.specs.State.{State, Image, content_of, IsQuiet}
-use Rattle.site.specs.Calls.{Preserves}
-use Rattle.site.proofs.Laws.{stays_honest, holds_now, in_sequence}
-use Rattle.site.specs.Moments.{ChangesOnly, Leaves, LeavesOnly}
-use Rattle.record_model.specs.State.{Content}
-use Rattle.log_records.specs.declared.log_record.LogRecord.{LogRecord}
-use Rattle.log_records.specs.Spelling.{used_by, spelling}
-use Rattle.log_records.specs.Log.{Entry, Version, version_at, is_loser, entries_of, is_of}
-use Rattle.log_records.specs.Unfinished.{losers, owed, owed_by, open_updates}
-use Rattle.log_laws.specs.Tail.{whole}
-use Rattle.log_records.specs.Sound.{Active, LogicalImage, AreOrderly, from_block, last_lsn, active_in, before_block, IsInOrder, IsSound, IsLoserChain}
-use Rattle.log_store.specs.declared.store.LogStore.{LogStore}
-use Rattle.log_store.specs.Representation as log_store
-use Rattle.log_store.specs.Representation.{has_tail, end_of}
-use Rattle.slotted_page.specs.Layout.{lsn_of}
-use Rattle.buffer_pool.specs.declared.frame.Frame.{Frame}
-use Rattle.buffer_pool.specs.Frames.{frame_of}
-use Rattle.second_chance.specs.Machine.{wants_flush}
-use Rattle.flash_cache.specs.Representation.{version_on}
-use Rattle.checkpoint.specs.declared.master.Master.{Master}
+use Rattle.std.specs.Prelude.{nat_lt}
 use Rattle.checkpoint.specs.declared.pairs.Pair.{Pair}
 use Rattle.checkpoint.specs.Actives.{Ascend}
-use Rattle.checkpoint.specs.Units.{unit, IsUnit, master_in}
-use Rattle.checkpoint.specs.Newest.{seen}
-use Rattle.sealed_ring.specs.declared.ring.Ring.{Ring}
-use Rattle.sealed_ring.specs.declared.slots.Shape.{Shape}
-use Rattle.sealed_ring.specs.Ready.{Finds}
-use Rattle.sealed_ring.specs.Ring.{Units, FitsIn, IsRing, hi_of}
-use Rattle.image_changes.specs.Rings.{Masters, Blocks, log_shape, KeepsUnits, master_shape}
-use Rattle.image_changes.specs.Changes.{AppendsMaster, Makes, Reaches, ReadsAs}
-use Rattle.write_ahead.specs.Forcing.{end_forced}
-use Rattle.page_store.specs.declared.store.PageStore.{PageStore}
-use Rattle.page_store.specs.Representation.{current}
-use Rattle.page_store.specs.Caching.{cache_of, pool_page}
-use Rattle.page_store.specs.Ahead.{AreLogged}
-use Rattle.image_meaning.specs.Meaning.{logical_image_under, kept_by, versions_on, version_in, IsSoundUnder}
-use Rattle.image_meaning.specs.Moments.{LeavesFor}
 use Rattle.image_meaning.specs.Changes.{MaySave}
-use Rattle.image_meaning.specs.Flushed.{IsFlushed, IsMasterOf, first_block, oldest_needed}
-use Rattle.image_meaning.specs.Redone.{AreKnown, ShowsAll}
-use Rattle.redo_laws.specs.Holding.{Represents, blocks_to}
-use Rattle.redo_laws.specs.Checkpointing.{AreUnfinished, MayBeMade, begins_of, KeepUnfinished, IsSaved}
-use Rattle.redo_laws.proofs.CallsInSequence.{sound_there, nothing_happens}
-use Rattle.redo_laws.proofs.Touched.{hi_is}
 use Rattle.image_meaning.proofs.Naming.{master_is_saved}
 use Rattle.image_meaning.proofs.Beside.{rings_saved}
 use Rattle.image_meaning.proofs.Saves.{checkpoint_may_save, logical_image_saved, sound_saved, means_saved, orderly_saved}
 use Rattle.image_meaning.proofs.CheckpointMoments.{save_stands}
 use Rattle.checkpoint.proofs.UnitParts.{unit_read}
-use Rattle.redo_laws.proofs.Appended.{current_same, more_sealed}
-use Rattle.log_laws.specs.Follow.{IsUndoable}
-use Rattle.std.proofs.lemmas.Bool.{cond-true, cond-false, le-leb, lt-ltb}
 use Rattle.redo_undo.proofs.NextRecords.{order_ends}
-use Rattle.image_changes.specs.Reached.{LeavesFront}
+use Rattle.log_store.specs.Representation as log_store
 
 -- the oldest of some transactions
 pub first_is : (next : ℕ) (pairs : List Pair) (pair : Pair) → slice_get pairs 0 ≡ Some pair → first_block next (begins_of pairs) ≡ pair.begin / 512

@@ -1,24 +1,8 @@
 -- Calls of a store one after the other, each known by its record.
-use Rattle.std.proofs.Common.{◌≡◌, ◌+◌, ◌≤◌, List, refl, subst, ◌∙◌, arith, ℕ}
-use Rattle.std.specs.Prelude.{Result, Ok, Err, OnOk, IsTrue}
-use Rattle.site.specs.declared.outside.Stop.{Stop}
-use Rattle.site.specs.declared.outside.Stop.TheVariants.{Memory}
-use Rattle.site.specs.declared.geometry.Geometry.{Geometry}
-use Rattle.site.specs.State.{State as Site, Snapshot, IsQuiet}
-use Rattle.site.specs.Moments.{LeavesOnly}
-use Rattle.site.proofs.Laws.{holds_now, leaves_weaker, stays_honest}
-use Rattle.record_model.specs.State.{Content}
-use Rattle.image_meaning.specs.Moments.{LeavesFor}
-use Rattle.image_meaning.specs.Meaning.{StandsFor}
-use Rattle.redo_undo.specs.Stores.{sizes_of, MayWork}
-use Rattle.redo_laws.specs.Numbers.{SkipsNone}
-use Rattle.redo_laws.proofs.RingNumbers.{skips_on, then_skips, skips_again, skips_answered, skips_refused, skips_weaker}
-use Rattle.redo_undo.specs.declared.store.TransactionStore.{TransactionStore}
-use Rattle.redo_laws.proofs.Endings.{ends_answered, ends_behind, ends_failed, ends_leaving, ends_no_memory, ends_ok, leaves_late}
-use Rattle.site.proofs.Working.{ok_as, calls_then, calls_answered, calls_failed}
+use Rattle.redo_undo.proofs.Names.{◌≡◌, ◌+◌, ◌≤◌, List, refl, subst, ◌∙◌, arith, ℕ, Result, Ok, Err, OnOk, IsTrue, StandsFor, LeavesFor, Content, ends_answered, ends_behind, ends_failed, ends_leaving, ends_no_memory, ends_ok, leaves_late, skips_on, then_skips, skips_again, skips_answered, skips_refused, skips_weaker, SkipsNone, sizes_of, MayWork, TransactionStore, holds_now, leaves_weaker, stays_honest, ok_as, calls_then, calls_answered, calls_failed, LeavesOnly, State as Site, Snapshot, IsQuiet, Geometry, Stop, Memory}
 use Rattle.redo_undo.proofs.NextUnits.{next_then, next_answered, next_failed, store_next}
-use Rattle.redo_laws.specs.Calls as calls
 use Rattle.redo_undo.specs.StoreCalls.{KeepsInvariant, Keeps}
+use Rattle.redo_laws.specs.Calls as calls
 
 -- Of a result.
 

@@ -1,32 +1,10 @@
 -- A session's transaction is undone, CLR by CLR, and its End is logged.
-use Rattle.checkpoint.specs.declared.master.Master.{Master as Saved}
-use Rattle.std.proofs.Common.{Option, ◌≡◌, ℕ, Bool, cond, take, ◌+◌, ◌-◌, ◌*◌, ◌≤◌, List, [], ◌∷◌, ◌++◌, length, refl, sym, ap, subst, ◌∙◌, arith}
-use Rattle.std.proofs.lemmas.Bool.{and_right, eq-eqb, ne_eqb}
-use Rattle.std.proofs.lemmas.List.Elements.{filter-append}
+use Rattle.redo_undo.proofs.Names.{Option, ◌≡◌, ℕ, Bool, cond, take, ◌+◌, ◌-◌, ◌*◌, ◌≤◌, List, [], ◌∷◌, ◌++◌, length, refl, sym, ap, subst, ◌∙◌, arith, and_right, eq-eqb, ne_eqb, filter-append, Master as Saved, master_of, logical_image_under, active_stays, entries_other, entries_own, loser_stays, open_more, whole_is_undoable, whole_in_order, active_is_unfinished, IsUnfinished, IsActive, IsUndoable, next_lsn, Entry, txn_of, is_of, is_update, is_closing, entries_of, updates_in, IsInOrder, IsOpen, Fields as Master, open_updates, owed, End, Content, Write, blocks_to, AreClrsOf, ConcernsOnly, RollsBack, GoesBack, sizes_of, TransactionStore, Finds, State}
 use Rattle.log_laws.proofs.Pendings.{not_closing}
 use Rattle.std.proofs.lemmas.List.{append_assoc, append-nil}
-use Rattle.site.specs.State.{State}
-use Rattle.sealed_ring.specs.Ready.{Finds}
-use Rattle.record_model.specs.State.{Content, Write}
-use Rattle.log_records.specs.declared.log_record.LogRecord.TheVariants.{End}
-use Rattle.log_records.specs.Log.{Entry, txn_of, is_of, is_update, is_closing, entries_of, updates_in}
-use Rattle.log_records.specs.Unfinished.{open_updates, owed}
-use Rattle.log_records.specs.Sound.{IsInOrder, IsOpen, Master}
-use Rattle.log_laws.specs.Follow.{IsActive, IsUndoable}
-use Rattle.log_laws.specs.Tail.{next_lsn}
-use Rattle.log_laws.specs.Analysis.{IsUnfinished}
-use Rattle.log_laws.proofs.Losers.{active_stays, entries_other, entries_own, loser_stays, open_more}
 use Rattle.log_laws.proofs.Standing.{standing_dropped}
-use Rattle.log_laws.proofs.Tails.{whole_is_undoable}
-use Rattle.log_laws.proofs.Tails.{whole_in_order}
-use Rattle.log_laws.proofs.UndoingSteps.{active_is_unfinished}
-use Rattle.image_meaning.specs.Meaning.{master_of, logical_image_under}
-use Rattle.redo_laws.specs.Holding.{blocks_to}
+use Rattle.redo_undo.specs.Stores.{Represents}
 use Rattle.redo_undo.specs.Rollback as undone
-use Rattle.redo_undo.specs.Rollback.{AreClrsOf}
-use Rattle.redo_undo.specs.declared.store.TransactionStore.{TransactionStore}
-use Rattle.redo_undo.specs.Stores.{sizes_of, Represents}
-use Rattle.redo_undo.specs.StoreRollback.{ConcernsOnly, RollsBack, GoesBack}
 
 -- one more record of the transaction
 pub concerns_more : (newest : Option Saved) (txn : ℕ) (before now : List Entry) (e : Entry) → txn_of e ≡ txn → ConcernsOnly newest txn before now → ConcernsOnly newest txn before (now ++ e ∷ [])

@@ -1,33 +1,9 @@
 -- The records of a block are taken, one after the other.
-use Rattle.analysis.specs.Laws.{OneTable, TableOfUnfinished}
-use Rattle.std.proofs.Common.{◌≡◌, ℕ, suc, ◌+◌, ◌-◌, ◌*◌, ◌≤◌, ◌<◌, List, [], ◌∷◌, ◌++◌, length, take, drop, append-nil, refl, sym, ap, subst, ◌∙◌, arith, true, map}
-use Rattle.std.specs.Prelude.{⊤, Result, Ok, Err, Option}
-use Rattle.site.specs.Calls.{Preserves, IsUnchanged}
-use Rattle.record_model.specs.State.{Content}
-use Rattle.site.specs.State.{State}
-use Rattle.log_records.specs.declared.log_record.LogRecord.{LogRecord}
-use Rattle.log_records.specs.Log.{Entry, entries_from, log_from}
-use Rattle.log_records.specs.Spelling.{IsBlock, used_by}
-use Rattle.log_store.specs.declared.store.LogStore.{LogStore}
-use Rattle.log_store.specs.LogList.{LogList, sealed_block}
+use Rattle.redo_undo.proofs.Names.{◌≡◌, ℕ, suc, ◌+◌, ◌-◌, ◌*◌, ◌≤◌, ◌<◌, List, [], ◌∷◌, ◌++◌, length, take, drop, append-nil, refl, sym, ap, subst, ◌∙◌, arith, true, map, ⊤, Result, Ok, Err, OneTable, TableOfUnfinished, IsAnalysis, IsTable, open_at, listed, is_taken, Steps, taken, TakenTable, Analysis, seen, Master, master_of, kept_by, saved_by, logical_image_under, HasHeard, IsPast, past_none, block_of, log_split, log_take, take_whole, Entry, entries_from, log_from, LogicalImage, IsSound, IsBlock, used_by, losers, LogRecord, LogList, sealed_block, LogStore, PageStore, Content, AsksAtRest, IsOpened, Opening, HasTaken, asked_of, opened, heard_of, Redone, Preserves, IsUnchanged, State}
+use Rattle.std.specs.Prelude.{Option}
 use Rattle.log_store.specs.Representation.{Finds}
-use Rattle.image_meaning.specs.Meaning.{master_of, kept_by, saved_by, logical_image_under}
 use Rattle.log_judge.specs.declared.judge.Judge.{Judge}
-use Rattle.log_judge.specs.Judging.{HasHeard}
-use Rattle.analysis.specs.Read.{IsAnalysis, IsTable, open_at}
-use Rattle.analysis.specs.declared.analysis.Analysis.{Analysis}
-use Rattle.page_store.specs.declared.store.PageStore.{PageStore}
-use Rattle.redo_undo.specs.declared.redo_pass.Redone.{Redone}
-use Rattle.redo_undo.specs.Redoing.{AsksAtRest, IsOpened, Opening, HasTaken, asked_of, opened, heard_of}
-use Rattle.log_laws.proofs.BlockRecords.{IsPast, past_none}
-use Rattle.log_laws.proofs.LogBlocks.{block_of, log_split, log_take, take_whole}
 use Rattle.redo_undo.proofs.Redoings.{redoing_still, begins}
-use Rattle.checkpoint.specs.declared.master.Master.{Master}
-use Rattle.checkpoint.specs.Newest.{seen}
-use Rattle.analysis.specs.Taken.{is_taken, Steps, taken, TakenTable}
-use Rattle.log_records.specs.Sound.{LogicalImage, IsSound}
-use Rattle.log_records.specs.Unfinished.{losers}
-use Rattle.analysis.specs.Table.{listed}
 use Rattle.redo_undo.proofs.RedoWorks.{nothing_asked}
 
 -- up to a place of a block all records are taken, and the cache was asked for their work

@@ -1,29 +1,5 @@
 -- Calls that undo, one after the other.
-use Rattle.std.proofs.Common.{◌≡◌, ◌≢◌, ◌⊎◌, inl, inr, ℕ, ◌+◌, ◌-◌, ◌≤◌, List, [], ◌++◌, Option, sym, subst, refl, arith}
-use Rattle.std.specs.Prelude.{Result, Ok, Err, OnOk, IfErr, IsErrOf}
-use Rattle.site.specs.declared.outside.Dev.{Dev}
-use Rattle.site.specs.declared.outside.Dev.TheVariants.{Log}
-use Rattle.site.specs.declared.outside.Stop.{Stop}
-use Rattle.site.specs.declared.outside.Stop.TheVariants.{Device, Worn, Memory, Foreign}
-use Rattle.site.specs.State.{State, Image}
-use Rattle.site.proofs.Working.{no_error, of_error, calls_nothing}
-use Rattle.redo_laws.proofs.RingNumbers.{unchanged}
-use Rattle.record_model.specs.State.{Content}
-use Rattle.record_model.specs.Touches.{CacheOp}
-use Rattle.log_records.specs.Log.{Entry}
-use Rattle.ring_machine.specs.Machine.{RingOp}
-use Rattle.ring_machine.proofs.Performing.{performs_answered, performs_as, performs_by, performs_failed, performs_from, performs_nothing, performs_refused, performs_stopped, performs_then}
-use Rattle.log_store.specs.declared.store.LogStore.{LogStore}
-use Rattle.page_store.specs.declared.store.PageStore.{PageStore}
-use Rattle.checkpoint.specs.declared.master.Master.{Master}
-use Rattle.image_meaning.specs.Moments.{LeavesTableUnder}
-use Rattle.redo_laws.specs.Holding.{Invariant, Represents}
-use Rattle.redo_laws.specs.Calls.{KeepsInvariant, KeepsInvariantBeside, KeepsBeside, ReadsOne}
-use Rattle.redo_laws.proofs.CallsInSequence.{some_group}
-use Rattle.redo_laws.proofs.Asking.{asks_err, asks_nothing, asks_ok, asks_same, asks_stopped, asks_then, no_asks, stages_log, stages_read}
-use Rattle.redo_laws.proofs.AskingUndo.{asks_later, asks_refused, log_alone}
-use Rattle.redo_undo.specs.Mirroring.{Mirrors, PerformsOn}
-use Rattle.redo_undo.specs.UndoCalls.{UndoesWork, taken_by}
+use Rattle.redo_undo.proofs.Names.{◌≡◌, ◌≢◌, ◌⊎◌, inl, inr, ℕ, ◌+◌, ◌-◌, ◌≤◌, List, [], ◌++◌, Option, sym, subst, refl, arith, Result, Ok, Err, OnOk, IfErr, IsErrOf, Master, LeavesTableUnder, Entry, LogStore, PageStore, Content, CacheOp, asks_err, asks_nothing, asks_ok, asks_same, asks_stopped, asks_then, no_asks, stages_log, stages_read, asks_later, asks_refused, log_alone, some_group, unchanged, KeepsInvariant, KeepsInvariantBeside, KeepsBeside, ReadsOne, Invariant, Represents, Mirrors, PerformsOn, UndoesWork, taken_by, performs_answered, performs_as, performs_by, performs_failed, performs_from, performs_nothing, performs_refused, performs_stopped, performs_then, RingOp, no_error, of_error, calls_nothing, State, Image, Dev, Log, Stop, Device, Worn, Memory, Foreign}
 use Rattle.redo_undo.proofs.Calling.{calls_read, keeps_answered, keeps_appended, keeps_failed, keeps_few, keeps_nothing, keeps_unchanged, keeps_read, keeps_then}
 
 -- before any call

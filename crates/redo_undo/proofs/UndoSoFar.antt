@@ -1,30 +1,6 @@
 -- What undoing has done for some CLRs of a transaction.
-use Rattle.std.proofs.Common.{◌≡◌, ℕ, ◌+◌, ◌≤◌, ◌<◌, Bool, true, List, [], ◌∷◌, ◌++◌, drop, take, append_assoc, append-nil, sym, ap, ◌∙◌, arith, length}
-use Rattle.std.specs.Prelude.{Ok, Err, ⊤, Option, Result, IfOk, OnOk, if◌then◌else◌}
-use Rattle.std.proofs.lemmas.Bool.{eq-eqb, ne_eqb}
-use Rattle.site.specs.declared.outside.Stop.{Stop}
-use Rattle.std.proofs.lemmas.List.{length-append}
-use Rattle.std.proofs.lemmas.List.Elements.{filter_map-append}
-use Rattle.site.specs.State.{State}
-use Rattle.record_model.specs.State.{Content}
-use Rattle.log_records.specs.Log.{Entry, is_update, updates_in}
-use Rattle.log_records.specs.Restart.{undo_touch}
-use Rattle.log_records.specs.Unfinished.{left_open}
-use Rattle.log_laws.specs.Analysis.{Unfinished, IsUnfinished}
-use Rattle.log_laws.proofs.OpenUpdates.{left_after_clr}
-use Rattle.log_laws.proofs.UndoingSteps.{update_is_last}
-use Rattle.log_store.specs.declared.store.LogStore.{LogStore}
-use Rattle.page_store.specs.declared.store.PageStore.{PageStore}
-use Rattle.checkpoint.specs.declared.master.Master.{Master}
-use Rattle.ring_machine.specs.Restart.{clr_work}
-use Rattle.redo_laws.specs.Calls.{KeepsInvariant}
-use Rattle.redo_laws.specs.Holding.{Represents, blocks_to}
-use Rattle.redo_laws.specs.UndoWorks.{works_of}
-use Rattle.redo_undo.specs.declared.undo.UndoCursor.{UndoCursor}
-use Rattle.redo_undo.specs.Mirroring.{clrs_for}
-use Rattle.redo_undo.specs.Undoing.{IsAt, Undone, Passed, clrs_logged}
-use Rattle.redo_undo.specs.Rollback.{Compensates}
-use Rattle.redo_undo.specs.UndoCalls.{UndoesWork}
+use Rattle.redo_undo.proofs.Names.{◌≡◌, ℕ, ◌+◌, ◌≤◌, ◌<◌, Bool, true, List, [], ◌∷◌, ◌++◌, drop, take, append_assoc, append-nil, sym, ap, ◌∙◌, arith, length, eq-eqb, ne_eqb, length-append, filter_map-append, Ok, Err, ⊤, Result, IfOk, OnOk, if◌then◌else◌, Master, left_after_clr, update_is_last, Unfinished, IsUnfinished, Entry, is_update, updates_in, undo_touch, left_open, LogStore, PageStore, Content, KeepsInvariant, Represents, blocks_to, works_of, clrs_for, Compensates, UndoesWork, IsAt, Undone, Passed, clrs_logged, UndoCursor, clr_work, State, Stop}
+use Rattle.std.specs.Prelude.{Option}
 use Rattle.redo_undo.proofs.Rollbacks.{starts, goes_on, passes_on}
 use Rattle.redo_undo.proofs.UndoCalls.{undoes_answered, undoes_as, undoes_few, undoes_nothing, undoes_then}
 use Rattle.redo_undo.proofs.UndoneWork.{clrs_more}

@@ -1,29 +1,6 @@
 -- The numbers of the rings while records of an opened log are redone.
-use Rattle.std.proofs.Common.{◌≡◌, ◌+◌, Bool, false, List, [], length, refl, sym, subst, arith}
-use Rattle.std.specs.Prelude.{Result, OnOk}
-use Rattle.site.specs.declared.outside.Stop.{Stop}
-use Rattle.site.specs.declared.geometry.Geometry.{Geometry}
-use Rattle.site.specs.State.{State}
-use Rattle.site.specs.Moments.{LeavesOnly}
-use Rattle.site.proofs.Laws.{leaves_weaker}
-use Rattle.sealed_ring.specs.Ring.{hi_of}
-use Rattle.image_changes.specs.Rings.{master_shape}
-use Rattle.image_changes.specs.Costs.{CallsForUnits}
-use Rattle.log_records.specs.Log.{Entry}
-use Rattle.log_store.specs.declared.store.LogStore.{LogStore}
-use Rattle.log_store.specs.LogList.{LogList}
-use Rattle.page_store.specs.declared.store.PageStore.{PageStore}
-use Rattle.page_store.specs.Representation.{current}
-use Rattle.page_store.specs.Leaves.{LeavesPages}
-use Rattle.image_meaning.specs.Meaning.{kept_by}
-use Rattle.redo_laws.specs.Holding.{blocks_to}
-use Rattle.redo_undo.specs.Redoing.{Opening, IsRedoing}
-use Rattle.redo_laws.specs.Numbers.{HasNumbers, SkipsNone}
-use Rattle.redo_laws.proofs.WornLogs.{sealed_hi}
+use Rattle.redo_undo.proofs.Names.{◌≡◌, ◌+◌, Bool, false, List, [], length, refl, sym, subst, arith, Result, OnOk, master_shape, kept_by, Entry, LogList, LogStore, CallsForUnits, LeavesPages, current, PageStore, masters_same, skips_on, sealed_hi, blocks_to, HasNumbers, SkipsNone, Opening, IsRedoing, hi_of, leaves_weaker, ok_as, LeavesOnly, State, Geometry, Stop}
 use Rattle.redo_undo.proofs.Redoings.{leaves_so, blocks_left}
-use Rattle.redo_laws.proofs.RingNumbers.{skips_on}
-use Rattle.site.proofs.Working.{ok_as}
-use Rattle.redo_laws.proofs.LeftNumbers.{masters_same}
 
 -- While records are redone the log ends with the blocks that it was opened with.
 module _ (o : Opening) (log : LogStore) (pages : PageStore) (site : State) (front : List Entry) (h : IsRedoing o log pages site front) where

@@ -1,44 +1,10 @@
 -- Undoing what analysis has found: which Updates are compensated, and what the cache has done for them.
-use Rattle.log_records.specs.Restart.{undo_touch}
-use Rattle.std.proofs.lemmas.List.Elements.{filter_map-append}
-use Rattle.redo_laws.specs.Calls.{KeepsInvariant}
+use Rattle.redo_undo.proofs.Names.{◌≡◌, ℕ, ◌+◌, ◌≤◌, ◌<◌, ◌==◌, true, List, [], ◌∷◌, ◌++◌, length, Option, Some, refl, sym, ap, subst, ◌∙◌, append_assoc, append-nil, ◌*◌, arith, add-one, length-reverse, filter_map-append, none-some, same_Some, Ok, Err, ⊤, find, option_map, ActiveIsUnfinished, Open, IsTop, Remains, IsTable, listed, Analysis, Master, kept_by, logical_image_under, Fall, left_falls, found_by_lsn, top_stands, Unfinished, next_lsn, Entry, txn_of, is_loser, last_where, undo_touch, AreOrderly, IsInOrder, left_open, pending, owed, Clr, End, LogStore, PageStore, Content, works_are, KeepsInvariant, Represents, Invariant, undo_works, works_of, IsLastAt, UndoesUpdates, IsUndoing, IsGreatest, UndoesWork, Undone, UndoCursor, RingOp, undo_work, undoing_one, undoing_work, State, Stop}
 use Rattle.redo_undo.proofs.UndoCalls.{undoes_few, undoes_as, undoes_then, undoes_stopped, undoes_answered}
-use Rattle.redo_undo.specs.UndoCalls.{UndoesWork}
-use Rattle.log_laws.proofs.Undoing.{found_by_lsn, top_stands}
-use Rattle.std.proofs.Common.{◌≡◌, ℕ, ◌+◌, ◌≤◌, ◌<◌, ◌==◌, true, List, [], ◌∷◌, ◌++◌, length, Option, Some, refl, sym, ap, subst, ◌∙◌, append_assoc, append-nil, ◌*◌, arith, length-append, add-one}
-use Rattle.std.proofs.lemmas.List.{length-reverse}
-use Rattle.std.specs.Prelude.{Ok, Err, ⊤, find, reverse, option_map}
-use Rattle.std.proofs.lemmas.Option.{none-some, same_Some}
-use Rattle.site.specs.declared.outside.Stop.{Stop}
-use Rattle.site.specs.State.{State}
-use Rattle.record_model.specs.State.{Content}
-use Rattle.log_records.specs.declared.log_record.LogRecord.TheVariants.{Clr, End}
-use Rattle.log_records.specs.Log.{Entry, txn_of, is_loser, last_where}
-use Rattle.log_records.specs.Unfinished.{left_open, pending, owed}
-use Rattle.log_records.specs.Sound.{AreOrderly, IsInOrder}
-use Rattle.log_laws.specs.Tail.{next_lsn}
-use Rattle.log_laws.specs.Analysis.{Unfinished}
-use Rattle.log_store.specs.declared.store.LogStore.{LogStore}
-use Rattle.page_store.specs.declared.store.PageStore.{PageStore}
-use Rattle.checkpoint.specs.declared.master.Master.{Master}
-use Rattle.image_meaning.specs.Meaning.{kept_by, logical_image_under}
-use Rattle.analysis.specs.declared.analysis.Analysis.{Analysis}
-use Rattle.analysis.specs.Open.{Open, IsTop, Remains}
-use Rattle.analysis.specs.Table.{listed}
-use Rattle.analysis.specs.Read.{IsTable}
-use Rattle.redo_undo.specs.declared.undo.UndoCursor.{UndoCursor}
-use Rattle.redo_laws.specs.Holding.{Represents, Invariant}
-use Rattle.redo_undo.specs.Undoing.{Undone}
-use Rattle.redo_laws.specs.UndoingAll.{IsUndoing, IsGreatest}
-use Rattle.analysis.specs.Laws.{ActiveIsUnfinished}
-use Rattle.redo_laws.specs.MachineSteps.{undo_works}
-use Rattle.redo_laws.specs.UndoWorks.{works_of, IsLastAt, UndoesUpdates}
-use Rattle.redo_laws.proofs.AskingUndo.{works_are}
+use Rattle.std.proofs.Common.{length-append}
+use Rattle.std.specs.Prelude.{reverse}
 use Rattle.redo_undo.proofs.Lasts.{split_at}
-use Rattle.ring_machine.specs.Machine.{RingOp}
-use Rattle.ring_machine.specs.Restart.{undo_work, undoing_one, undoing_work}
 use Rattle.redo_undo.proofs.Found.{order, undoable, open_is, lives, head_of, one_more, one_end, nothing_undone, more_undone}
-use Rattle.log_laws.proofs.OpenUpdates.{Fall, left_falls}
 use Rattle.log_laws.proofs.Pendings.{last_is, none_last, waits, reversed, pending_after_clr, pending_after_end}
 
 -- The last of all Updates that remain is the last one that its transaction has left.

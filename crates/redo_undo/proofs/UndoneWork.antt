@@ -1,43 +1,10 @@
 -- The work of undoing: CLRs one after the other, and the Ends of transactions of which nothing remains.
-use Rattle.redo_laws.specs.Holding.{Represents}
-use Rattle.redo_undo.specs.UndoCalls.{UndoesWork}
-use Rattle.log_laws.proofs.Undoing.{top_stands}
-use Rattle.std.proofs.Common.{◌≡◌, ◌==◌, ℕ, zero, suc, ◌+◌, ◌*◌, ◌≤◌, ◌<◌, Bool, true, false, cond, not, ◌&&◌, ◌||◌, nat_eq, List, [], ◌∷◌, ◌++◌, map, filter, find, drop, replicate, reverse, length, Option, Some, refl, sym, ap, subst, ◌∙◌, arith, append-nil, append_assoc, eq-eqb, ne_eqb, eqb-true, true≢false, length-append}
-use Rattle.std.specs.Prelude.{Ok, if◌then◌else◌}
-use Rattle.std.specs.List.{list_any, AllByRecursion}
-use Rattle.std.proofs.lemmas.Bool.{and_from, and_parts, or_left}
-use Rattle.std.proofs.lemmas.List.Elements.{filter-append}
+use Rattle.redo_undo.proofs.Names.{◌≡◌, ◌==◌, ℕ, zero, suc, ◌+◌, ◌*◌, ◌≤◌, ◌<◌, Bool, true, false, cond, not, ◌&&◌, ◌||◌, nat_eq, List, [], ◌∷◌, ◌++◌, map, drop, replicate, reverse, length, Option, Some, refl, sym, ap, subst, ◌∙◌, arith, append-nil, append_assoc, eqb-true, true≢false, and_from, and_parts, or_left, filter-append, same_Some, list_any, AllByRecursion, Ok, if◌then◌else◌, OneTable, TableOfUnfinished, ActiveIsUnfinished, Open, found_in, AscendFrom, TakesOut, IsTable, open_at, listed, Analysis, Master, logical_image_under, kept_by, top_stands, next_lsn, IsLink, Entry, txn_of, is_of, is_update, is_closed, number_of, before_of, IsInOrder, left_open, pending, losers, LogStore, PageStore, Content, touch, page_is, Represents, UndoesUpdates, HasNone, clrs_for, none_remains, ends_for, UndoesWork, takes_back, ends, RingOp, cached, logged, changed, clr_octets, clr_on, clr_work, undoing_one, is_empty, only_ends, undo_work, undoing_work, State, any_reverse}
+use Rattle.std.proofs.Common.{filter, find, eq-eqb, ne_eqb, length-append}
 use Rattle.std.proofs.lemmas.Grind.{flat_map-append}
-use Rattle.std_lemmas.proofs.Lists.{any_reverse}
-use Rattle.site.specs.State.{State}
-use Rattle.record_model.specs.State.{Content}
-use Rattle.log_records.specs.Log.{Entry, txn_of, is_of, is_update, is_closed, number_of, before_of}
-use Rattle.log_records.specs.Unfinished.{left_open, pending, losers}
-use Rattle.log_records.specs.Sound.{IsInOrder}
-use Rattle.log_laws.specs.UndoLaws.{IsLink}
 use Rattle.log_laws.proofs.Pendings.{waits}
-use Rattle.analysis.specs.Open.{Open, found_in, AscendFrom, TakesOut}
-use Rattle.analysis.specs.Read.{IsTable, open_at}
-use Rattle.analysis.specs.Laws.{OneTable, TableOfUnfinished, ActiveIsUnfinished}
-use Rattle.record_model.specs.Touches.{touch}
-use Rattle.ring_machine.specs.Machine.{RingOp, cached, logged, changed}
-use Rattle.ring_machine.specs.Octets.{clr_octets}
-use Rattle.redo_laws.proofs.AskingUndo.{page_is}
-use Rattle.ring_machine.specs.Commands.{takes_back, ends}
-use Rattle.ring_machine.specs.Restart.{clr_on, clr_work, undoing_one, is_empty, only_ends, undo_work, undoing_work}
-use Rattle.log_store.specs.declared.store.LogStore.{LogStore}
-use Rattle.page_store.specs.declared.store.PageStore.{PageStore}
-use Rattle.redo_laws.specs.UndoingAll.{HasNone}
-use Rattle.analysis.specs.declared.analysis.Analysis.{Analysis}
-use Rattle.analysis.specs.Table.{listed}
-use Rattle.checkpoint.specs.declared.master.Master.{Master}
-use Rattle.image_meaning.specs.Meaning.{logical_image_under, kept_by}
-use Rattle.log_laws.specs.Tail.{next_lsn}
-use Rattle.redo_laws.specs.UndoWorks.{UndoesUpdates}
 use Rattle.redo_undo.proofs.Found.{lives, order, undoable, open_is}
-use Rattle.redo_undo.specs.Mirroring.{clrs_for, none_remains, ends_for}
 use Rattle.redo_undo.proofs.Opens.{found_here}
-use Rattle.std.proofs.lemmas.Option.{same_Some}
 
 -- CLRs.
 

@@ -1,26 +1,8 @@
 -- Of so many Updates of a transaction that are to be undone as many are as there are.
 use Rattle.std.proofs.lemmas.Grind.{common_steps}
-use Rattle.std.proofs.Common.{◌≡◌, ℕ, zero, suc, ◌+◌, ◌-◌, ◌≤◌, min, List, [], ◌∷◌, length, take, ◌++◌, true, drop, refl, sym, ap, ◌∙◌, arith, append-nil, append_assoc}
-use Rattle.std.specs.Prelude.{Option, Ok, Result}
+use Rattle.redo_undo.proofs.Names.{◌≡◌, ℕ, zero, suc, ◌+◌, ◌-◌, ◌≤◌, min, List, [], ◌∷◌, length, take, ◌++◌, true, drop, refl, sym, ap, ◌∙◌, arith, append-nil, append_assoc, take-append-drop, Ok, Result, Master, left_after_clr, clr_is_read, Unfinished, IsUnfinished, past_clr, Entry, updates_in, is_clr, left_open, LogStore, PageStore, Content, blocks_to, works_of, clrs_for, AreClrsOf, CompensatesUpTo, UndoesLast, UndoesWork, UndoCursor, State, Stop}
+use Rattle.std.specs.Prelude.{Option}
 use Rattle.std.proofs.Math.ListN.{drop_of_length-le}
-use Rattle.std.proofs.lemmas.List.{take-append-drop}
-use Rattle.log_laws.proofs.OpenUpdates.{left_after_clr}
-use Rattle.site.specs.State.{State}
-use Rattle.site.specs.declared.outside.Stop.{Stop}
-use Rattle.record_model.specs.State.{Content}
-use Rattle.log_records.specs.Log.{Entry, updates_in}
-use Rattle.log_records.specs.Unfinished.{is_clr, left_open}
-use Rattle.log_laws.specs.Analysis.{Unfinished, IsUnfinished, past_clr}
-use Rattle.log_laws.proofs.UndoingSteps.{clr_is_read}
-use Rattle.log_store.specs.declared.store.LogStore.{LogStore}
-use Rattle.page_store.specs.declared.store.PageStore.{PageStore}
-use Rattle.checkpoint.specs.declared.master.Master.{Master}
-use Rattle.redo_laws.specs.Holding.{blocks_to}
-use Rattle.redo_laws.specs.UndoWorks.{works_of}
-use Rattle.redo_undo.specs.declared.undo.UndoCursor.{UndoCursor}
-use Rattle.redo_undo.specs.Mirroring.{clrs_for}
-use Rattle.redo_undo.specs.Rollback.{AreClrsOf, CompensatesUpTo, UndoesLast}
-use Rattle.redo_undo.specs.UndoCalls.{UndoesWork}
 use Rattle.redo_undo.proofs.UndoCalls.{undoes_answered, undoes_as, undoes_few}
 use Rattle.redo_undo.proofs.UndoSoFar.{UndoesSoFar}
 

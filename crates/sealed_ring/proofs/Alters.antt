@@ -1,11 +1,6 @@
 -- What keeps a ring's form and units: contents that differ only in the body of one slot and the gate of one slot.
-use Rattle.std.proofs.Common.{◌≡◌, ◌≢◌, ◌⊎◌, ℕ, zero, suc, ◌+◌, ◌-◌, ◌%◌, ◌^◌, ◌≤◌, ◌<◌, List, [], ◌∷◌, ◌++◌, length, get_or, take, drop, min, refl, sym, ◌∙◌, ap, arith}
-use Rattle.std.proofs.lemmas.List.{same_lists, length-take, length-drop, get_or-take, get_or-drop, get_or_default, length_push}
-use Rattle.std.proofs.lemmas.Bool.{cases_lt, cases_eq}
-use Rattle.std.proofs.lemmas.Nat.{mod_below}
-use Rattle.std.specs.Int.{from_be_bytes, w64}
-use Rattle.sealed_ring.specs.declared.slots.Shape.{Shape}
-use Rattle.sealed_ring.specs.Ring.{place, gate, number, content_at, HasForm, IsStaged, units_from, live, SameOutside, last_of, Keeps, Adds}
+use Rattle.sealed_ring.proofs.Names.{◌≡◌, ◌≢◌, ◌⊎◌, ℕ, zero, suc, ◌+◌, ◌-◌, ◌%◌, ◌^◌, ◌≤◌, ◌<◌, List, [], ◌∷◌, ◌++◌, length, get_or, take, drop, min, refl, sym, ◌∙◌, ap, arith, cases_lt, cases_eq, same_lists, length-take, length-drop, get_or-take, get_or-drop, get_or_default, length_push, mod_below, from_be_bytes, w64, place, gate, content_at, HasForm, IsStaged, units_from, live, SameOutside, last_of, Keeps, Adds, Shape}
+use Rattle.sealed_ring.specs.Ring.{number}
 use Rattle.sealed_ring.proofs.Rows.{mod_apart, mod_self}
 
 -- the same octets from a place on

@@ -1,14 +1,10 @@
 -- What the definitions say of small contents.
-use Rattle.std.proofs.Common.{◌≡◌, ℕ, ◌+◌, ◌-◌, ◌^◌, ◌≤◌, ◌<◌, List, [], ◌∷◌, length, min, get_or, take, drop, replicate, refl, sym, ◌∙◌, ap, arith}
-use Rattle.std.proofs.lemmas.List.{same_lists, length-take, length-drop, get_or-take, get_or-drop, get_or_default, get_or-replicate}
-use Rattle.std.specs.Int.{from_be_bytes, w64}
+use Rattle.sealed_ring.proofs.Names.{◌≡◌, ℕ, ◌+◌, ◌-◌, ◌^◌, ◌≤◌, ◌<◌, List, [], ◌∷◌, length, min, get_or, take, drop, replicate, refl, sym, ◌∙◌, ap, arith, same_lists, length-take, length-drop, get_or-take, get_or-drop, get_or_default, get_or-replicate, from_be_bytes, w64, BlankIsRing, FitsIn, place, HasForm, IsRing, Units, units_from, units_of, hi_of, appended, Shape}
 use Rattle.site.specs.declared.outside.Dev.TheVariants.{Log}
-use Rattle.sealed_ring.specs.declared.slots.Shape.{Shape}
-use Rattle.sealed_ring.specs.Ring.{FitsIn, place, number, HasForm, IsRing, Units, units_from, units_of, hi_of, appended}
+use Rattle.sealed_ring.specs.Ring.{number}
 use Rattle.sealed_ring.proofs.Rows.{mod_self}
 use Rattle.sealed_ring.proofs.Places.{body_fits}
 use Rattle.sealed_ring.proofs.Highest.{hi_is}
-use Rattle.sealed_ring.specs.Laws.{BlankIsRing}
 use Rattle.sealed_ring.proofs.Whole.{ring_at, units_at}
 
 small : Shape

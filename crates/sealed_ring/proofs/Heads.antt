@@ -1,9 +1,6 @@
 -- The octets of a slot's head.
-use Rattle.std.proofs.Common.{◌≡◌, ℕ, zero, suc, ◌+◌, ◌-◌, ◌%◌, ◌≤◌, ◌<◌, List, [], get_or, take, drop, sym, ◌∙◌, ap, arith}
-use Rattle.std.proofs.lemmas.List.{drop-drop, drop-take, take-take}
-use Rattle.std.specs.Int.{from_be_bytes, w64}
-use Rattle.sealed_ring.specs.declared.slots.Shape.{Shape}
-use Rattle.sealed_ring.specs.Ring.{place, first_number, number, content_at, units_from, unit_at, units_of, hi_of, IsLive}
+use Rattle.sealed_ring.proofs.Names.{◌≡◌, ℕ, zero, suc, ◌+◌, ◌-◌, ◌%◌, ◌≤◌, ◌<◌, List, [], get_or, take, drop, sym, ◌∙◌, ap, arith, drop-drop, drop-take, take-take, from_be_bytes, w64, place, first_number, content_at, units_from, unit_at, units_of, hi_of, IsLive, Shape}
+use Rattle.sealed_ring.specs.Ring.{number}
 
 -- the number in a head that was read
 pub number_read : (s : Shape) (c head : List ℕ) (j : ℕ) → head ≡ take 9 (drop (place s j) c) → first_number (drop 1 head) ≡ number s c j

@@ -1,12 +1,7 @@
 -- Slots one behind the other, as they were read.
-use Rattle.std.proofs.Common.{◌≡◌, ℕ, ◌+◌, ◌-◌, ◌*◌, ◌/◌, ◌%◌, ◌≤◌, ◌<◌, List, ◌++◌, length, take, drop, refl, sym, ◌∙◌, ap, arith}
-use Rattle.std.proofs.lemmas.List.{drop-drop, drop-take, take-take, take_at, length-take-le}
-use Rattle.std.proofs.lemmas.Nat.{div-add-mod', mod-mul-add}
+use Rattle.sealed_ring.proofs.Names.{◌≡◌, ℕ, ◌+◌, ◌-◌, ◌*◌, ◌/◌, ◌%◌, ◌≤◌, ◌<◌, List, ◌++◌, length, take, drop, refl, sym, ◌∙◌, ap, arith, drop-drop, drop-take, take-take, take_at, length-take-le, div-add-mod', mod-mul-add, from_be_bytes, w64, place, first_number, units_of, hi_of, IsLive, in_row, HaveContents, HaveNumbers, StandInRow, Shape}
 use Rattle.std.proofs.Math.Nat.{div-mul-le_self}
-use Rattle.std.specs.Int.{from_be_bytes, w64}
-use Rattle.sealed_ring.specs.declared.slots.Shape.{Shape}
-use Rattle.sealed_ring.specs.Ring.{place, first_number, number, units_of, hi_of, IsLive}
-use Rattle.sealed_ring.specs.Row.{in_row, HaveContents, HaveNumbers, StandInRow}
+use Rattle.sealed_ring.specs.Ring.{number}
 use Rattle.sealed_ring.proofs.Heads.{unit_is}
 use Rattle.sealed_ring.proofs.Rows.{rows_apart}
 

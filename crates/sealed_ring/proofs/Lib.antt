@@ -1,3 +1,4 @@
+mod Names
 pub mod Alters
 pub mod Examples
 pub mod Heads

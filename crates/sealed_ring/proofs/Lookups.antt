@@ -1,11 +1,6 @@
 -- Calls that only read one device, in sequence.
-use Rattle.std.proofs.Common.{ℕ, ◌+◌, ◌≤◌, arith}
-use Rattle.std.specs.Prelude.{Result, Ok}
-use Rattle.site.specs.declared.outside.Dev.{Dev}
+use Rattle.sealed_ring.proofs.Names.{ℕ, ◌+◌, ◌≤◌, arith, Result, Ok, ReadsFrom, no_error, State, Dev}
 use Rattle.site.specs.declared.outside.Stop.{Stop}
-use Rattle.site.specs.State.{State}
-use Rattle.site.proofs.Working.{no_error}
-use Rattle.sealed_ring.specs.Reading.{ReadsFrom}
 
 -- one call behind others that were Ok
 pub reads_then : {A B : Type 0} (x : A) (r : Result B Stop) (dev : Dev) (n m k : ℕ) (a b c : State) → n + m ≤ k → ReadsFrom {T = A} (Ok x) dev n a b → ReadsFrom r dev m b c → ReadsFrom r dev k a c

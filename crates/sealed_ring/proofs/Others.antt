@@ -1,12 +1,8 @@
 -- A ring stays where only octets outside it change.
-use Rattle.std.proofs.Common.{◌≡◌, inl, inr, ℕ, zero, suc, ◌+◌, ◌%◌, ◌≤◌, ◌<◌, List, length, max, cond, nat_eq, ◌&&◌, refl, sym, ◌∙◌, ap, subst, arith}
-use Rattle.std.proofs.lemmas.Nat.{mod_below}
-use Rattle.sealed_ring.specs.declared.slots.Shape.{Shape}
-use Rattle.sealed_ring.specs.Ring.{FitsIn, place, IsBeside, gate, number, counts, hi_below, hi_of, live, Units, units_of, HasForm, IsRing}
-use Rattle.sealed_ring.specs.Laws.{Apart}
+use Rattle.sealed_ring.proofs.Names.{◌≡◌, inl, inr, ℕ, zero, suc, ◌+◌, ◌%◌, ◌≤◌, ◌<◌, List, length, max, cond, nat_eq, ◌&&◌, refl, sym, ◌∙◌, ap, subst, arith, mod_below, Apart, FitsIn, place, IsBeside, gate, counts, hi_below, hi_of, live, Units, units_of, HasForm, IsRing, SameOutside, Shape}
+use Rattle.sealed_ring.specs.Ring.{number}
 use Rattle.sealed_ring.proofs.Alters.{SamePart, number_same, content_same, units_same}
 use Rattle.sealed_ring.proofs.Places.{ends}
-use Rattle.sealed_ring.specs.Ring.{SameOutside}
 
 -- the gate and the body of each slot are the same
 pub record SameSlots (t : Shape) (old new : List ℕ) : Type 0 where

@@ -1,9 +1,6 @@
 -- What an append comes to where its opening was Ok.
-use Rattle.std.proofs.Common.{◌≡◌, ℕ, ◌+◌, ◌^◌, ◌<◌, List, length, sym, subst}
-use Rattle.std.specs.Prelude.{Result, OnOk}
+use Rattle.sealed_ring.proofs.Names.{◌≡◌, ℕ, ◌+◌, ◌^◌, ◌<◌, List, length, sym, subst, Result, OnOk, FitsIn, units_of, appended, HasForm, Adds, Stages, Opens, Seals, Shape}
 use Rattle.std.proofs.lemmas.Result.{on_ok_weaker}
-use Rattle.sealed_ring.specs.declared.slots.Shape.{Shape}
-use Rattle.sealed_ring.specs.Ring.{FitsIn, units_of, appended, HasForm, Adds, Stages, Opens, Seals}
 use Rattle.sealed_ring.proofs.Sealed.{is_staged, opens_adds, seals, stages_keeps}
 use Rattle.sealed_ring.proofs.Whole.{added_units}
 

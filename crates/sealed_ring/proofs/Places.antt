@@ -1,11 +1,5 @@
 -- Where the gates and bodies of slots lie: no two of them overlap.
-use Rattle.std.proofs.Common.{◌≡◌, ◌≢◌, inl, inr, ⊎_elim, ℕ, ◌+◌, ◌*◌, ◌≤◌, ◌<◌, List, [], ◌∷◌, length, get_or, refl, ap, arith, false}
-use Rattle.std.proofs.lemmas.Bool.{cases_lt, cases_order, or_from}
-use Rattle.site.specs.State.{MayStand, is_within}
-use Rattle.site.specs.Calls.{put, range}
-use Rattle.site.proofs.Laws.{within_not, put_below, put_behind}
-use Rattle.sealed_ring.specs.declared.slots.Shape.{Shape}
-use Rattle.sealed_ring.specs.Ring.{FitsIn, place, IsBeside}
+use Rattle.sealed_ring.proofs.Names.{◌≡◌, ◌≢◌, inl, inr, ⊎_elim, ℕ, ◌+◌, ◌*◌, ◌≤◌, ◌<◌, List, [], ◌∷◌, length, get_or, refl, ap, arith, false, cases_lt, cases_order, or_from, FitsIn, place, IsBeside, Shape, within_not, put_below, put_behind, put, range, MayStand, is_within}
 use Rattle.sealed_ring.proofs.Rows.{rows_apart}
 use Rattle.sealed_ring.proofs.Alters.{Alters}
 

@@ -1,19 +1,9 @@
 -- The two halves of an append, call by call.
-use Rattle.std.proofs.Common.{◌≡◌, ℕ, ◌+◌, ◌%◌, ◌^◌, ◌≤◌, ◌<◌, List, [], ◌∷◌, ◌++◌, length, sym, ◌∙◌, ap, subst, arith}
-use Rattle.std.specs.Int.{to_be_bytes, w64}
-use Rattle.std.specs.Prelude.{Result}
-use Rattle.std.proofs.lemmas.Nat.{mod_below}
+use Rattle.sealed_ring.proofs.Names.{◌≡◌, ℕ, ◌+◌, ◌%◌, ◌^◌, ◌≤◌, ◌<◌, List, [], ◌∷◌, ◌++◌, length, sym, ◌∙◌, ap, subst, arith, mod_below, to_be_bytes, w64, Result, region, IsAtRest, LeavesKept, LeavesEither, FitsIn, place, IsStaged, Stages, Opens, Shape, content_of-same, write_leaves_only, then_write, length-put, put, Lies, Wrote, Synced, LeavesOnly, State, content_of, loose_of}
 use Rattle.site.specs.declared.outside.Failed.{Failed}
-use Rattle.site.specs.State.{State, content_of, loose_of}
-use Rattle.site.specs.Calls.{put, Lies, Wrote, Synced}
-use Rattle.site.specs.Moments.{LeavesOnly}
-use Rattle.site.proofs.Laws.{content_of-same, write_leaves_only, then_write, length-put}
-use Rattle.sealed_ring.specs.declared.slots.Shape.{Shape}
-use Rattle.sealed_ring.specs.Ring.{FitsIn, place, IsStaged, Stages, Opens}
-use Rattle.sealed_ring.specs.Ready.{region, IsAtRest, LeavesKept, LeavesEither}
 use Rattle.sealed_ring.proofs.Places.{body_fits}
-pub use Rattle.site.proofs.Laws.{wrote_changes, synced_changes, changes_in_sequence, synced_settles}
 use Rattle.sealed_ring.proofs.Steps.{first_leaves, second_leaves, staged_by, open_leaves, opened_by}
+pub use Rattle.site.proofs.Laws.{wrote_changes, synced_changes, changes_in_sequence, synced_settles}
 
 -- what stands in the device after a write
 pub lies_region : (s : Shape) (at : ℕ) (bytes : List ℕ) (old new : State) → Lies s.dev at bytes old new → region s new ≡ put (region s old) at bytes

@@ -1,9 +1,6 @@
 -- What staging and opening come to.
-use Rattle.std.proofs.Common.{◌≡◌, ◌≢◌, inl, inr, ℕ, ◌+◌, ◌%◌, ◌^◌, ◌≤◌, ◌<◌, List, length, true, nat_eq, sym, ◌∙◌, subst, arith}
-use Rattle.std.proofs.lemmas.Bool.{cases_eq, and_parts, and_from, eqb-true, eq-eqb}
-use Rattle.std.proofs.lemmas.Nat.{mod_below}
-use Rattle.sealed_ring.specs.declared.slots.Shape.{Shape}
-use Rattle.sealed_ring.specs.Ring.{FitsIn, place, IsBeside, gate, number, counts, hi_of, SameOutside, HasForm, Keeps, IsStaged, Adds, Stages, Opens, Seals}
+use Rattle.sealed_ring.proofs.Names.{◌≡◌, ◌≢◌, inl, inr, ℕ, ◌+◌, ◌%◌, ◌^◌, ◌≤◌, ◌<◌, List, length, true, nat_eq, sym, ◌∙◌, subst, arith, cases_eq, and_parts, and_from, eqb-true, eq-eqb, mod_below, FitsIn, place, IsBeside, gate, counts, hi_of, SameOutside, HasForm, Keeps, IsStaged, Adds, Stages, Opens, Seals, Shape}
+use Rattle.sealed_ring.specs.Ring.{number}
 use Rattle.sealed_ring.proofs.Rows.{mod_apart}
 use Rattle.sealed_ring.proofs.Alters.{Alters, next_alters, is_opened, number_same, content_same}
 use Rattle.sealed_ring.proofs.Places.{alters_by, alters_gate, slot_beside, body_not_gate, gates_apart}

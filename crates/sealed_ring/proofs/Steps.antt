@@ -1,16 +1,6 @@
 -- What each device call of an append may leave.
-use Rattle.std.proofs.Common.{◌≡◌, ℕ, ◌+◌, ◌%◌, ◌^◌, ◌≤◌, ◌<◌, List, [], ◌∷◌, ◌++◌, length, get_or, take, drop, refl, sym, ◌∙◌, ap, subst, arith}
-use Rattle.std.proofs.lemmas.List.{length-append, take_at, drop_at, append_assoc, drop-drop, length-take-le}
-use Rattle.std.proofs.lemmas.Nat.{mod_below, from_be_bytes-to_be_bytes_8}
-use Rattle.std.specs.Int.{from_be_bytes, to_be_bytes, w64}
-use Rattle.site.specs.declared.outside.Dev.{Dev}
-use Rattle.site.specs.State.{State, Range, Snapshot, MayStand, MayLeave, content_of, loose_of}
-use Rattle.site.specs.Calls.{put, range, within_write, Lies}
-use Rattle.site.specs.Moments.{Leaves}
-use Rattle.site.proofs.Laws.{content_of-same, loose_of-same, length-put, put_here}
-use Rattle.sealed_ring.specs.declared.slots.Shape.{Shape}
-use Rattle.sealed_ring.specs.Ring.{FitsIn, place, IsBeside, number, IsStaged, Stages, Opens}
-use Rattle.sealed_ring.specs.Ready.{region, region_left, IsAtRest, LeavesKept, LeavesEither}
+use Rattle.sealed_ring.proofs.Names.{◌≡◌, ℕ, ◌+◌, ◌%◌, ◌^◌, ◌≤◌, ◌<◌, List, [], ◌∷◌, ◌++◌, length, get_or, take, drop, refl, sym, ◌∙◌, ap, subst, arith, length-append, take_at, drop_at, append_assoc, drop-drop, length-take-le, mod_below, from_be_bytes-to_be_bytes_8, from_be_bytes, to_be_bytes, w64, region, region_left, IsAtRest, LeavesKept, LeavesEither, FitsIn, place, IsBeside, IsStaged, Stages, Opens, Shape, content_of-same, loose_of-same, length-put, put_here, put, range, within_write, Lies, Leaves, State, Range, Snapshot, MayStand, MayLeave, content_of, loose_of, Dev}
+use Rattle.sealed_ring.specs.Ring.{number}
 use Rattle.sealed_ring.proofs.Alters.{Alters, next_alters, either, number_same, content_same}
 use Rattle.sealed_ring.proofs.Places.{alters_by, alters_gate, one_loose, two_loose, put_beside, beside_one, body_fits}
 

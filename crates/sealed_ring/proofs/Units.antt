@@ -1,9 +1,6 @@
 -- How many units live, and which number is the highest.
-use Rattle.std.proofs.Common.{◌≡◌, ◌⊎◌, inl, inr, ℕ, zero, suc, ◌+◌, ◌<◌, List, true, refl, arith}
-use Rattle.std.proofs.lemmas.Bool.{cases_Bool, cases_lt, cond-true, cond-false}
-use Rattle.sealed_ring.specs.declared.slots.Shape.{Shape}
-use Rattle.sealed_ring.specs.Ring.{number, counts, hi_below}
-use Rattle.sealed_ring.specs.Laws.{LiveCount, HiIsHighest}
+use Rattle.sealed_ring.proofs.Names.{◌≡◌, ◌⊎◌, inl, inr, ℕ, zero, suc, ◌+◌, ◌<◌, List, true, refl, arith, cases_Bool, cases_lt, cond-true, cond-false, LiveCount, HiIsHighest, counts, hi_below, Shape}
+use Rattle.sealed_ring.specs.Ring.{number}
 use Rattle.sealed_ring.proofs.Alters.{length-units}
 use Rattle.sealed_ring.proofs.Highest.{hi_at_least}
 

@@ -1,12 +1,5 @@
 -- The whole append, from its two halves.
-use Rattle.std.proofs.Common.{arith, ◌≡◌, ◌⊎◌, inl, inr, ℕ, ◌+◌, ◌%◌, ◌≤◌, List, [], refl, sym, ◌∙◌, ap, subst}
-use Rattle.sealed_ring.specs.declared.slots.Shape.{Shape}
-use Rattle.sealed_ring.specs.Ring.{content_at, live, Units, units_of, HasForm, IsRing, appended, Keeps, Adds, OldOrNew}
-use Rattle.site.specs.State.{State, now_of, IsSettled}
-use Rattle.site.specs.Moments.{Leaves, LeavesOnly}
-use Rattle.site.proofs.Laws.{in_sequence, leaves_weaker, settled_leaves}
-use Rattle.sealed_ring.specs.declared.ring.Ring.{Ring}
-use Rattle.sealed_ring.specs.Ready.{region, region_left, Finds, IsReady, IsAtRest, LeavesOldOrNew, LeavesKept, LeavesEither}
+use Rattle.sealed_ring.proofs.Names.{arith, ◌≡◌, ◌⊎◌, inl, inr, ℕ, ◌+◌, ◌%◌, ◌≤◌, List, [], refl, sym, ◌∙◌, ap, subst, region, region_left, Finds, IsReady, IsAtRest, LeavesOldOrNew, LeavesKept, LeavesEither, content_at, live, Units, units_of, HasForm, IsRing, appended, Keeps, Adds, OldOrNew, Ring, Shape, in_sequence, leaves_weaker, settled_leaves, Leaves, LeavesOnly, State, now_of, IsSettled}
 use Rattle.sealed_ring.proofs.Highest.{hi_is}
 
 -- the units of a ring whose next unit is known

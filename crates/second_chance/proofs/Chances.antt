@@ -1,14 +1,6 @@
 -- The second chances: each at its place, at most seven, and none of them staged.
-use Rattle.std.proofs.Common.{◌≡◌, ℕ, zero, suc, ◌+◌, ◌≤◌, Bool, true, false, not, ◌&&◌, ◌||◌, cond, List, [], ◌∷◌, length, take, filter, slice_get, arith, refl, ap}
-use Rattle.std.specs.List.{enumerate_from, AllByRecursion}
-use Rattle.std.proofs.lemmas.Bool.{and_parts, eq-eqb}
-use Rattle.std.proofs.lemmas.List.{length-take}
-use Rattle.std.proofs.lemmas.List.Elements.{All-from_recursion}
-use Rattle.std.proofs.lemmas.List.FromFn.{length-enumerate_from}
-use Rattle.std_lemmas.proofs.AllOf.{all_both, all_passed, all_take}
-use Rattle.byte_fields.specs.declared.frame_head.Mark.{Mark}
-use Rattle.second_chance.specs.Plans.{Placed, chances_of, is_among}
-use Rattle.second_chance.specs.Laws.{ChancesStand, ChancesFew, ChancesAreNotStaged}
+use Rattle.std.proofs.lemmas.Grind.{common_steps}
+use Rattle.second_chance.proofs.Names.{◌≡◌, ℕ, zero, suc, ◌+◌, ◌≤◌, Bool, true, false, not, ◌&&◌, ◌||◌, cond, List, [], ◌∷◌, length, take, filter, slice_get, arith, refl, ap, and_parts, eq-eqb, length-take, All-from_recursion, length-enumerate_from, enumerate_from, AllByRecursion, Mark, ChancesStand, ChancesFew, ChancesAreNotStaged, Placed, chances_of, is_among, all_both, all_passed, all_take}
 use Rattle.second_chance.proofs.Pushes.{chances_stand}
 
 -- whether a frame is wanted
@@ -16,15 +8,13 @@ abbrev wanted : Placed → Bool
 wanted f = f.1.valid && f.1.referenced
 
 chances_pass : (given : Bool) (front : List Mark) → AllByRecursion (λ f. wanted f ≡ true) (chances_of given front)
-chances_pass true front = all_take (λ f. wanted f ≡ true) 7 _ (all_passed wanted (enumerate_from 0 front))
-chances_pass false front = tt
+chances_pass x0 front = grind (arith, common_steps, all_take, all_passed)
 
 pub chances_stand_in : ChancesStand
 chances_stand_in given front = grind (arith, All-from_recursion, all_both, slice_get, and_parts, chances_stand, chances_pass)
 
 pub chances_few : ChancesFew
-chances_few true front = let long = length-take 7 (filter wanted (enumerate_from 0 front)) in omega (arith, long)
-chances_few false front = omega arith
+chances_few x0 front = grind (arith, common_steps, length-take)
 
 -- Of the frames that pass one test no more are taken than pass another one that all taken ones pass.
 taken_few : (test other : Placed → Bool) (n : ℕ) (xs : List Placed) → AllByRecursion (λ f. other f ≡ true) (take n (filter test xs)) → length (take n (filter test xs)) ≤ length (filter other xs)

@@ -1,28 +1,18 @@
 -- What the loops of a plan have chosen so far.
-use Rattle.std.proofs.Common.{◌≡◌, ℕ, ◌+◌, ◌<◌, ◌≤◌, Bool, true, false, not, ◌&&◌, cond, List, [], ◌∷◌, ◌++◌, length, get_or, take, drop, map, filter, take-append-drop, append-nil, arith, refl, sym, ap, ◌∙◌}
-use Rattle.std.specs.List.{enumerate_from}
-use Rattle.std.proofs.lemmas.List.{map-append, take_all, take-append-le, length-map}
-use Rattle.std.proofs.lemmas.List.Elements.{filter_more, filter-append, filter_agree}
-use Rattle.std.proofs.lemmas.List.FromFn.{length-enumerate_from, get_or-enumerate_from}
-use Rattle.byte_fields.specs.declared.frame_head.Mark.{Mark}
-use Rattle.second_chance.specs.Plans.{Placed, chances_of, staged_of}
-use Rattle.second_chance.specs.Laws.{names}
+use Rattle.std.proofs.lemmas.Grind.{common_steps}
+use Rattle.second_chance.proofs.Names.{◌≡◌, ℕ, ◌+◌, ◌<◌, ◌≤◌, Bool, true, false, not, ◌&&◌, cond, List, [], ◌∷◌, ◌++◌, length, get_or, take, drop, map, filter, take-append-drop, append-nil, arith, sym, ap, ◌∙◌, map-append, take_all, take-append-le, length-map, filter_more, filter-append, filter_agree, length-enumerate_from, get_or-enumerate_from, enumerate_from, Mark, names, Placed, chances_of, staged_of}
 
 -- the numbers of those among the first i that pass the test
 abbrev pub chosen : {X : Type 0} → (X → Bool) → (X → ℕ) → List X → ℕ → List ℕ
 chosen test number xs i = map number (filter test (take i xs))
 
 one : {X : Type 0} (number : X → ℕ) (b : Bool) (x : X) → map number (cond b (x ∷ []) []) ≡ cond b (number x ∷ []) []
-one number true x = refl
-one number false x = refl
+one number x1 x = grind (arith, common_steps)
 
 -- one look more
 pub chosen_more : {X : Type 0} (test : X → Bool) (number : X → ℕ) (xs : List X) (i : ℕ) (d : X) → i < length xs
     → chosen test number xs (i + 1) ≡ chosen test number xs i ++ cond (test (get_or xs i d)) (number (get_or xs i d) ∷ []) []
-chosen_more test number xs i d less =
-    ap (map number) (filter_more test xs i d less)
-    ∙ map-append number (filter test (take i xs)) (cond (test (get_or xs i d)) (get_or xs i d ∷ []) [])
-    ∙ ap (λ l. chosen test number xs i ++ l) (one number (test (get_or xs i d)) (get_or xs i d))
+chosen_more test number xs i d less = grind (arith, common_steps, filter_more, map-append, one)
 
 -- where so many are found, they are the first of all
 pub chosen_enough : {X : Type 0} (n : ℕ) (test : X → Bool) (number : X → ℕ) (xs : List X) (i : ℕ) → length (chosen test number xs i) ≡ n

@@ -1,17 +1,8 @@
 -- The frames that are staged: each at its place, and no page twice.
-use Rattle.std.proofs.Common.{◌≡◌, ◌≢◌, ℕ, ◌+◌, Bool, true, false, not, ◌&&◌, ◌||◌, List, [], ◌∷◌, slice_get, AllPairs, arith, refl}
-use Rattle.std.specs.List.{enumerate_from, AllByRecursion}
-use Rattle.std.proofs.lemmas.Bool.{and_parts, eq-eqb}
-use Rattle.std.proofs.lemmas.List.Elements.{All-from_recursion}
+use Rattle.std.proofs.lemmas.Grind.{common_steps}
+use Rattle.second_chance.proofs.Names.{◌≡◌, ◌≢◌, ℕ, ◌+◌, Bool, true, false, not, ◌&&◌, ◌||◌, List, [], ◌∷◌, slice_get, AllPairs, arith, and_parts, eq-eqb, All-from_recursion, enumerate_from, AllByRecursion, All, Mark, IsStagedIn, Placed, staged_of, is_among, chances_of, in_group, group_marks, Frame, all_both, all_passed}
 use Rattle.std.proofs.lemmas.List.Kept.{AllPairs-cons, AllPairs-filter}
-use Rattle.std_lemmas.proofs.AllOf.{all_both, all_passed}
-use Rattle.byte_fields.specs.declared.frame_head.Mark.{Mark}
-use Rattle.second_chance.specs.declared.frame.Frame.{Frame}
-use Rattle.second_chance.specs.Queue.{in_group, group_marks}
-use Rattle.second_chance.specs.Plans.{Placed, staged_of, is_among, chances_of}
-use Rattle.second_chance.specs.Laws.{IsStagedIn}
 use Rattle.second_chance.proofs.Pushes.{staged_stand}
-use Rattle.std.specs.Prelude.{All}
 
 pub staged_stand_in : (given : Bool) (front : List Mark) → All (IsStagedIn front) (staged_of given front)
 staged_stand_in given front = grind (arith, All-from_recursion, all_both, slice_get, and_parts, staged_stand, all_passed)
@@ -23,8 +14,7 @@ other_pages page n [] later none = tt
 other_pages page n (frame ∷ behind) later none = grind (arith, eq-eqb, (other_pages page (n + 1) behind later))
 
 valid_first : (a b : Bool) → not (a || b) ≡ true → a ≡ false
-valid_first true b is = absurd cc
-valid_first false b is = refl
+valid_first x0 b is = grind (arith, common_steps)
 
 once : (n : ℕ) (group : List Frame) (later : List (List Frame)) → AllPairs (λ a b. a.1.valid ≡ true → a.1.page ≢ b.1.page) (enumerate_from n (group_marks group later))
 once n [] later = λ i j d before within. absurd (omega (arith, within))

@@ -1,20 +1,12 @@
 -- A flush, push by push.
-use Rattle.std.proofs.Common.{rules, ◌≡◌, ℕ, zero, suc, ◌+◌, ◌-◌, ◌<◌, ◌≤◌, Bool, true, false, ◌&&◌, cond, List, [], ◌∷◌, ◌++◌, length, take, reverse, filter, arith, refl, sym, ap, ◌∙◌}
-use Rattle.std.specs.List.{list_any}
-use Rattle.std.proofs.lemmas.List.{length-map}
-use Rattle.std.proofs.lemmas.Bool.{eq-eqb}
+use Rattle.std.proofs.lemmas.Grind.{common_steps}
+use Rattle.second_chance.proofs.Names.{◌≡◌, ℕ, zero, suc, ◌+◌, ◌-◌, ◌<◌, ◌≤◌, Bool, true, false, ◌&&◌, cond, List, [], ◌∷◌, ◌++◌, length, take, reverse, filter, arith, refl, sym, ap, ◌∙◌, eq-eqb, length-map, list_any, Mark, changed_count, Rules, PoolPage, Cache, saved, saved_page, pool_mark, pool_marks, is_pulled, leaving, push_changed, wants_flush, flushed_by, flushed, staged_in_push, staged_in_flush, chances_of, pulled_at_flush, PoolMark}
 use Rattle.std_lemmas.proofs.Lists.{any_map, any_reverse}
-use Rattle.byte_fields.specs.declared.frame_head.Mark.{Mark}
-use Rattle.second_chance.specs.declared.plan.PoolMark.{PoolMark}
-use Rattle.second_chance.specs.Plans.{chances_of, pulled_at_flush}
-use Rattle.second_chance.specs.Machine.{Rules, PoolPage, Cache, saved, saved_page, pool_mark, pool_marks, is_pulled, leaving, push_changed, wants_flush, flushed_by, flushed, staged_in_push, staged_in_flush}
-use Rattle.second_chance.specs.Laws.{changed_count}
 
 -- A push saves a page.
 
 pub few_chances : (given : Bool) (front : List Mark) → length (chances_of given front) ≤ 7
-few_chances true front = grind arith
-few_chances false front = omega arith
+few_chances x0 front = grind (arith, common_steps)
 
 -- some page that is changed is among the first of the changed ones
 one_pulled : (n : ℕ) (marks : List PoolMark) → list_any (λ p. p.changed) marks ≡ true
@@ -77,8 +69,7 @@ long : (rules : Rules) (cache : Cache) → length (push_changed rules cache).poo
 long r cache = length-map cache.pool (saved_page (is_pulled (pulled_at_flush r.chances (leaving r cache.queue) (pool_marks cache))))
 
 no_flush : (n : ℕ) (rules : Rules) (cache : Cache) → wants_flush cache ≡ false → flushed_by n rules cache ≡ cache
-no_flush zero r cache none = refl
-no_flush (suc n) r cache none = ap (λ t. cond t (flushed_by n r (push_changed r cache)) cache) none
+no_flush x0 r cache none = grind (arith, common_steps, flushed_by, push_changed)
 
 pub flush_ends : (rules : Rules) (cache : Cache) → wants_flush cache ≡ false → flushed rules cache ≡ cache
 flush_ends r cache none = no_flush (length cache.pool) r cache none
@@ -123,8 +114,7 @@ staged_goes_on r cache wants =
     ∙ ap (λ n. staged_in_push r cache.queue ++ staged_in_flush n r (push_changed r cache)) (sym (long r cache))
 
 no_staged : (n : ℕ) (rules : Rules) (cache : Cache) → wants_flush cache ≡ false → staged_in_flush n rules cache ≡ []
-no_staged zero r cache none = refl
-no_staged (suc n) r cache none = ap (λ t. cond t (staged_in_push r cache.queue ++ staged_in_flush n r (push_changed r cache)) []) none
+no_staged x0 r cache none = grind (arith, common_steps, staged_in_push, staged_in_flush, push_changed)
 
 pub staged_ends : (rules : Rules) (cache : Cache) → wants_flush cache ≡ false → staged_in_flush (length cache.pool) rules cache ≡ []
 staged_ends r cache none = no_staged (length cache.pool) r cache none

@@ -1,15 +1,7 @@
 -- The groups that work pushes, counted.
-use Rattle.std.proofs.Common.{rules, ◌≡◌, ℕ, zero, suc, ◌+◌, ◌≤◌, ◌==◌, Bool, true, false, cond, List, [], ◌∷◌, ◌++◌, length, drop, reverse, refl, ap, arith}
-use Rattle.std.specs.Prelude.{if◌then◌else◌}
-use Rattle.std.proofs.lemmas.Bool.{leb-true}
-use Rattle.std.proofs.lemmas.List.{length-append, length-drop, reverse-append}
-use Rattle.record_model.specs.Touches.{CacheOp, touch, flush}
-use Rattle.second_chance.specs.declared.frame.Frame.{Frame}
-use Rattle.second_chance.specs.Queue.{Queue, pushed}
-use Rattle.second_chance.specs.Plans.{pulled_at_eviction}
-use Rattle.second_chance.specs.Machine.{Rules, PoolPage, Cache, is_changed, without, is_full, is_pulled, leaving, pool_marks, push_evicted, must_be_pushed, after_eviction, evict_first, with_room, in_front, touched, wants_flush, push_changed, flushed_by, flushed, apply_op, next_group}
-use Rattle.second_chance.specs.Laws.{changed_count}
-use Rattle.second_chance.specs.Groups.{groups_for, groups_for_all, FlushPushesChanged, NearlyAllArePushed, TouchPushesOne, WorkPushesFew}
+use Rattle.std.proofs.lemmas.Grind.{common_steps}
+use Rattle.second_chance.proofs.Names.{rules, ◌≡◌, ℕ, zero, suc, ◌+◌, ◌≤◌, ◌==◌, Bool, true, false, cond, List, [], ◌∷◌, ◌++◌, length, reverse, refl, arith, leb-true, length-drop, reverse-append, if◌then◌else◌, CacheOp, touch, flush, groups_for, groups_for_all, FlushPushesChanged, NearlyAllArePushed, TouchPushesOne, WorkPushesFew, changed_count, Rules, PoolPage, Cache, is_changed, without, is_full, is_pulled, leaving, pool_marks, push_evicted, must_be_pushed, after_eviction, evict_first, with_room, in_front, touched, wants_flush, push_changed, flushed_by, flushed, apply_op, next_group, pulled_at_eviction, Queue, pushed, Frame}
+use Rattle.std.proofs.lemmas.List.{length-append}
 use Rattle.second_chance.proofs.Flushes.{count_cons, push_saves}
 use Rattle.second_chance.proofs.Unread.{length-groups_read}
 
@@ -20,8 +12,7 @@ full_has_one rules queue some full = omega (arith, some, leb-true rules.groups (
 
 one_appended : (leaves : Bool) (group : List Frame) (queue : Queue) → (leaves ≡ true → 1 ≤ length queue.groups) →
     (pushed leaves group queue).first + length (pushed leaves group queue).groups ≡ queue.first + length queue.groups + 1
-one_appended true group queue some = omega (arith, some refl, length-append (drop 1 queue.groups) (group ∷ []), length-drop 1 queue.groups)
-one_appended false group queue some = omega (arith, length-append queue.groups (group ∷ []))
+one_appended x0 group queue some = grind (arith, common_steps, length-append, length-drop)
 
 pub changed_next : (rules : Rules) (cache : Cache) → 1 ≤ rules.groups → next_group (push_changed rules cache) ≡ next_group cache + 1
 changed_next rules cache some = one_appended (is_full rules cache.queue) _ cache.queue (full_has_one rules cache.queue some)
@@ -37,9 +28,7 @@ count_append (p ∷ xs) ys = omega (arith, count_append xs ys, count_cons p xs, 
 
 count_reverse : (xs : List PoolPage) → changed_count (reverse xs) ≡ changed_count xs
 count_reverse [] = refl
-count_reverse (p ∷ xs) =
-    let turned : changed_count (reverse (p ∷ xs)) ≡ changed_count (reverse xs ++ p ∷ []) = ap changed_count (reverse-append (p ∷ []) xs) in
-    omega (arith, turned, count_append (reverse xs) (p ∷ []), count_cons p xs, count_cons p [], count_reverse xs)
+count_reverse (p ∷ xs) = grind (arith, common_steps, changed_count, reverse-append, count_append, count_cons, (count_reverse xs))
 
 -- pages that leave the pool
 count_without : (leaves : ℕ → Bool) (pool : List PoolPage) → changed_count (without leaves pool) ≤ changed_count pool
@@ -58,11 +47,7 @@ count_own page (p ∷ pool) some = grind (arith, count_without, count_cons, (cou
 
 evicted_few : (rules : Rules) (own : PoolPage) (cache : Cache) → 1 ≤ rules.groups →
     (next_group (after_eviction rules own cache) ≤ next_group cache + 1) × (changed_count (after_eviction rules own cache).pool ≤ changed_count cache.pool)
-evicted_few rules own cache some = by (must_be_pushed cache.queue own)
-  where
-    by : (b : Bool) → (next_group (if b then push_evicted rules own cache else cache) ≤ next_group cache + 1) × (changed_count (if b then push_evicted rules own cache else cache).pool ≤ changed_count cache.pool)
-    by true = (omega (arith, evicted_next rules own cache some), count_without (is_pulled (pulled_at_eviction rules.pulls rules.chances (leaving rules cache.queue) (pool_marks cache))) cache.pool)
-    by false = (omega arith, omega arith)
+evicted_few rules own cache some = grind (arith, common_steps, must_be_pushed, next_group, push_evicted, changed_count, evicted_next, count_without, is_pulled, pulled_at_eviction, leaving, pool_marks)
 
 first_few : (rules : Rules) (pool : List PoolPage) (cache : Cache) → 1 ≤ rules.groups → changed_count pool ≡ changed_count cache.pool →
     (next_group (evict_first rules pool cache) ≤ next_group cache + 1) × (changed_count (evict_first rules pool cache).pool ≤ changed_count cache.pool)

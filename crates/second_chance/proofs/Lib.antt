@@ -1,3 +1,4 @@
+mod Names
 pub mod Chosen
 pub mod Planned
 mod Pushes

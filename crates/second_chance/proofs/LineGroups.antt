@@ -1,21 +1,18 @@
 -- The groups that lines push at most, by what they read and log.
-use Rattle.std.proofs.Common.{◌≡◌, ℕ, ◌+◌, ◌*◌, ◌≤◌, Bool, true, false, List, [], ◌∷◌, length, map, reverse, Option, Some, None, refl, arith}
-use Rattle.std.specs.Prelude.{if◌then◌else◌, not, ◌&&◌, is_none, is_some}
-use Rattle.std.specs.List.{range_with_len}
-use Rattle.std.proofs.lemmas.List.{length-reverse}
-use Rattle.std.proofs.lemmas.List.FromFn.{length-range_with_len}
+use Rattle.std.proofs.lemmas.Grind.{common_steps}
+use Rattle.second_chance.proofs.Names.{◌≡◌, ℕ, ◌+◌, ◌*◌, ◌≤◌, Bool, true, false, List, [], ◌∷◌, length, map, Some, refl, arith, None, length-reverse, length-range_with_len, if◌then◌else◌, is_none, is_some, CacheOp, flush, line_touches, page_touches, read_touch, record_touches, tested_touches, write_touch, groups_for_all, LinesPushFew, LinesCounted, reads_by, reads_told}
+use Rattle.std.proofs.Common.{Option}
+use Rattle.std.specs.Prelude.{not, ◌&&◌}
 use Rattle.record_model.specs.declared.words.CacheLine.{CacheLine}
 use Rattle.record_model.specs.declared.words.Command.{Command}
-use Rattle.record_model.specs.declared.words.Command.TheVariants.{Abort, Back, Scan, Set, Write}
+use Rattle.record_model.specs.declared.words.Command.TheVariants.{Set, Write}
 use Rattle.record_model.specs.declared.words.Reply.{Reply}
-use Rattle.record_model.specs.declared.words.Reply.TheVariants as reply
-use Rattle.record_model.specs.State.{State, session_at, writes_of}
-use Rattle.record_model.specs.State as state
-use Rattle.record_model.specs.Step.{Outcome, carried_through, dropped, effect, fills_page, full, lacks_room, makes_checkpoint, outcome, ready, refusal, refuse_if}
+use Rattle.record_model.specs.State.{State}
+use Rattle.record_model.specs.Step.{Outcome, carried_through, effect, fills_page, full, lacks_room, outcome, ready, refuse_if}
 use Rattle.record_model.specs.Run.{Line, later_listings, line_step, next_listing}
-use Rattle.record_model.specs.Touches.{CacheOp, flush, line_touches, page_touches, read_touch, record_touches, tested_touches, write_touch}
-use Rattle.second_chance.specs.Groups.{groups_for_all, LinesPushFew, LinesCounted, reads_by, reads_told}
 use Rattle.second_chance.proofs.GroupCounts.{groups_add_up}
+use Rattle.record_model.specs.declared.words.Reply.TheVariants as reply
+use Rattle.record_model.specs.State as state
 
 reads_for : (numbers : List ℕ) → groups_for_all (map read_touch numbers) ≡ length numbers
 reads_for [] = omega arith
@@ -27,16 +24,11 @@ writes_for (write ∷ writes) = omega (arith, writes_for writes)
 
 -- A command that is accepted makes its records: a change for each at most.
 command_few : (s : State) (command : Command) → groups_for_all (record_touches s command) + 2 * s.made ≤ reads_by (Some command) + 2 * (effect (ready s command) command).made
-command_few s (Scan n number count) = omega (arith, reads_for (range_with_len number count), length-range_with_len number count)
-command_few s (Abort n) = omega (arith, writes_for (reverse (writes_of (session_at s n))), length-reverse (writes_of (session_at s n)))
-command_few s (Back n standing) = omega (arith, writes_for (reverse (dropped standing (session_at s n))), length-reverse (dropped standing (session_at s n)))
-command_few s _ = grind arith
+command_few s x1 = grind (arith, common_steps, reads_for, length-range_with_len, writes_for, length-reverse)
 
 -- A command that finds its page full reads it, and is told so.
 told_full : (test : Bool) (page need : ℕ) (refused : Reply) → refuse_if test (reply.PageFull page need) ≡ Some refused → 1 ≤ reads_told refused
-told_full true page need (reply.PageFull page' need') e = omega arith
-told_full true page need _ e = absurd cc
-told_full false page need refused e = absurd cc
+told_full x0 page need refused e = grind (arith, common_steps)
 
 tested_few : (s : State) (command : Command) (refused : Reply) → fills_page s command ≡ Some refused → groups_for_all (tested_touches command) ≤ reads_told refused
 tested_few s (Write n number value) refused e = told_full _ _ _ refused e
@@ -64,16 +56,12 @@ tests_few s command listing (Some refused) = omega arith
 tests_few s command listing None = page_few s command listing (lacks_room (ready s command) command) (fills_page (ready s command) command) refl
 
 flush_pushes_none : (b : Bool) → groups_for_all (if b then flush ∷ [] else []) ≡ 0
-flush_pushes_none true = omega arith
-flush_pushes_none false = omega arith
+flush_pushes_none x0 = grind (arith, common_steps)
 
 line_few : (s : State) (line : Line) (listing : List CacheLine) →
     groups_for_all (line_touches s line) + 2 * s.made ≤ reads_by line + reads_told (line_step s line listing).reply + 2 * (line_step s line listing).after.made
 unfolding IsFew
-line_few s None listing = omega arith
-line_few s (Some command) listing =
-    let flushes = if makes_checkpoint s command then flush ∷ [] else [] in
-    omega (arith, groups_add_up flushes (page_touches s command), flush_pushes_none (makes_checkpoint s command), tests_few s command listing (refusal s command))
+line_few s x1 listing = grind (arith, common_steps, flush, groups_add_up, page_touches, flush_pushes_none, tests_few)
 
 -- Turn after turn.
 

@@ -1,20 +1,15 @@
 -- A plan by its three parts.
-use Rattle.std.proofs.Common.{arith, ◌≡◌, ℕ, ◌-◌, Bool, not, ◌||◌, List, [], length, map, filter, take, if◌then◌else◌, refl, ap, ◌∙◌}
-use Rattle.std.specs.List.{enumerate_from}
+use Rattle.std.proofs.lemmas.Grind.{common_steps}
+use Rattle.second_chance.proofs.Names.{arith, ◌≡◌, ℕ, ◌-◌, Bool, not, ◌||◌, List, [], length, map, filter, take, ap, ◌∙◌, length-map, enumerate_from, Option, unwrap_or, Mark, chances_of, staged_of, eviction_plan, flush_plan, PoolMark}
+use Rattle.std.proofs.Common.{if◌then◌else◌}
 use Rattle.std.specs.Borrow.{Bor}
-use Rattle.std.specs.Prelude.{Option, Some, None, unwrap_or}
 use Rattle.std.specs.Option.{option_copied}
-use Rattle.std.proofs.lemmas.List.{length-map}
-use Rattle.byte_fields.specs.declared.frame_head.Mark.{Mark}
-use Rattle.second_chance.specs.declared.plan.PoolMark.{PoolMark}
 use Rattle.second_chance.specs.declared.plan.Plan.{Plan}
-use Rattle.second_chance.specs.Plans.{chances_of, staged_of, eviction_plan, flush_plan}
 use Rattle.second_chance.proofs.Chosen.{place, is_staged, staged_are}
 
 -- the marks of a front group that may be missing
 pub unwrapped : (front : Option (Bor (List Mark))) (none : Bor (List Mark)) → none.now ≡ [] → (unwrap_or front none).now ≡ unwrap_or (option_copied front) []
-unwrapped None none is = is
-unwrapped (Some front) none is = refl
+unwrapped x0 none is = grind (arith, common_steps)
 
 abbrev page : PoolMark → ℕ
 page p = p.page
@@ -22,8 +17,7 @@ page p = p.page
 -- the staged frames of these second chances
 staged_by : (given : Bool) (front : List Mark) (chances staged : List ℕ) → chances ≡ map place (chances_of given front)
     → staged ≡ map place (filter (λ f. is_staged chances f.0 f.1) (enumerate_from 0 front)) → staged ≡ map place (staged_of given front)
-staged_by given front chances staged are is =
-    is ∙ ap (λ l. map place (filter (λ f. is_staged l f.0 f.1) (enumerate_from 0 front))) are ∙ staged_are given front
+staged_by given front chances staged are is = grind (arith, place, is_staged, staged_are)
 
 many : (given : Bool) (front : List Mark) (chances : List ℕ) (n : ℕ) → chances ≡ map place (chances_of given front) → n ≡ length chances → n ≡ length (chances_of given front)
 many given front chances n are is = is ∙ ap length are ∙ length-map (chances_of given front) place

@@ -1,17 +1,7 @@
 -- A push, by the places and the page numbers of its plan.
-use Rattle.std.proofs.Common.{◌≡◌, ℕ, suc, ◌+◌, ◌==◌, Bool, true, false, ◌&&◌, ◌||◌, List, [], ◌∷◌, ◌++◌, length, map, reverse, filter, filter_map, append_assoc, length-append, slice_get, option_map, Some, arith, refl, sym, ap, ◌∙◌}
-use Rattle.std.specs.List.{enumerate_from, AllByRecursion}
-use Rattle.std.proofs.lemmas.Bool.{ne_eqb, eqb-false}
-use Rattle.std.proofs.lemmas.List.Elements.{recursion_from_All}
+use Rattle.std.proofs.lemmas.Grind.{common_steps}
+use Rattle.second_chance.proofs.Names.{◌≡◌, ℕ, suc, ◌+◌, ◌==◌, Bool, true, false, ◌&&◌, ◌||◌, List, [], ◌∷◌, ◌++◌, length, map, reverse, filter, filter_map, append_assoc, length-append, slice_get, option_map, Some, arith, refl, sym, ap, ◌∙◌, ne_eqb, eqb-false, recursion_from_All, enumerate_from, AllByRecursion, Mark, names, given_again, staged_from, AreApart, EvictionIsPlanned, FlushIsPlanned, PoolPage, Cache, is_changed, pool_mark, pool_marks, is_pulled, leaving, is_full, pool_frame, chance_frame, without, saved, Placed, chances_of, staged_of, pulled_at_eviction, pulled_at_flush, frame_of, pushed, Frame, PoolMark, all_both, all_filter, all_passed, all_map, all_reverse, all_take}
 use Rattle.std.proofs.lemmas.Bool.Decides.{nat_tests}
-use Rattle.std_lemmas.proofs.AllOf.{all_both, all_filter, all_passed, all_map, all_reverse, all_take}
-use Rattle.byte_fields.specs.declared.frame_head.Mark.{Mark}
-use Rattle.second_chance.specs.declared.frame.Frame.{Frame}
-use Rattle.second_chance.specs.declared.plan.PoolMark.{PoolMark}
-use Rattle.second_chance.specs.Queue.{frame_of, pushed}
-use Rattle.second_chance.specs.Plans.{Placed, chances_of, staged_of, pulled_at_eviction, pulled_at_flush}
-use Rattle.second_chance.specs.Machine.{PoolPage, Cache, is_changed, pool_mark, pool_marks, is_pulled, leaving, is_full, pool_frame, chance_frame, without, saved}
-use Rattle.second_chance.specs.Laws.{names, given_again, staged_from, AreApart, EvictionIsPlanned, FlushIsPlanned}
 
 -- each of these frames stands at its place in the front group
 abbrev pub StandIn : List Mark → List Placed → Type 0
@@ -30,8 +20,7 @@ numbered_stand : (front : List Mark) → StandIn front (enumerate_from 0 front)
 numbered_stand front = numbered [] front 0 refl
 
 pub chances_stand : (given : Bool) (front : List Mark) → StandIn front (chances_of given front)
-chances_stand true front = all_take _ 7 _ (all_filter _ _ _ (numbered_stand front))
-chances_stand false front = tt
+chances_stand x0 front = grind (arith, common_steps, all_take, all_filter, numbered_stand)
 
 pub staged_stand : (given : Bool) (front : List Mark) → StandIn front (staged_of given front)
 staged_stand given front = all_filter _ _ _ (numbered_stand front)
@@ -79,8 +68,7 @@ marked_here cache apart = all_map (λ m. is_changed cache.pool m.page ≡ m.chan
 
 pulled_here : (pulls given : Bool) (front : List Mark) (P : PoolMark → Type 0) (pool : List PoolMark) → AllByRecursion P pool
     → AllByRecursion P (pulled_at_eviction pulls given front pool)
-pulled_here true given front P pool all = all_take P _ _ (all_filter P _ pool all)
-pulled_here false given front P pool all = tt
+pulled_here x0 given front x3 pool all = grind (arith, common_steps, all_take, all_filter)
 
 frames_here : (dirty : ℕ → Bool) (pulled : List PoolMark) → AllByRecursion (λ m. dirty m.page ≡ m.changed) pulled
     → map pool_frame pulled ≡ map (λ page. frame_of page (dirty page)) (map (λ m. m.page) pulled)

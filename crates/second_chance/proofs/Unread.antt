@@ -1,9 +1,6 @@
 -- The queue where a page without a frame in it is read.
-use Rattle.std.proofs.Common.{◌≡◌, suc, ℕ, ◌==◌, ◌||◌, ◌&&◌, false, List, [], ◌∷◌, length, refl, ap, ◌∙◌}
-use Rattle.std.proofs.lemmas.Bool.{or_parts}
+use Rattle.second_chance.proofs.Names.{◌≡◌, suc, ℕ, ◌==◌, ◌||◌, ◌&&◌, false, List, [], ◌∷◌, length, refl, ap, ◌∙◌, or_parts, Queue, in_group, in_groups, has_frame, is_last, group_read, groups_read, with_read, Frame}
 use Rattle.std_lemmas.proofs.Bools.{or_false}
-use Rattle.second_chance.specs.declared.frame.Frame.{Frame}
-use Rattle.second_chance.specs.Queue.{Queue, in_group, in_groups, has_frame, is_last, group_read, groups_read, with_read}
 
 pub group_read_none : (page : ℕ) (group : List Frame) (later : List (List Frame)) → in_group group page ≡ false → group_read page group later ≡ group
 group_read_none page [] later none = refl

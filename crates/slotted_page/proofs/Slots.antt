@@ -56,16 +56,22 @@ content_some octets slot offset n value begin code is =
     ∙ ap Some (ap (λ m. take m (drop (offset_of octets slot) octets)) len ∙ ap (λ m. take n (drop m octets)) begin ∙ is)
 
 -- two pages in which a slot has the same entry, and the same octets where its value stands
-pub content_same : (old new : List ℕ) (slot : ℕ) → offset_of new slot ≡ offset_of old slot → code_of new slot ≡ code_of old slot
-    → (0 < code_of old slot → drop (offset_of old slot) new ≡ drop (offset_of old slot) old) → content_of new slot ≡ content_of old slot
-content_same old new slot offset code heap =
+pub content_alike : (old new : List ℕ) (slot : ℕ) → offset_of new slot ≡ offset_of old slot → code_of new slot ≡ code_of old slot
+    → (0 < code_of old slot → take (length_of old slot) (drop (offset_of old slot) new) ≡ take (length_of old slot) (drop (offset_of old slot) old))
+    → content_of new slot ≡ content_of old slot
+content_alike old new slot offset code heap =
     ⊎_elim (λ (none : code_of old slot ≡ 0). content_none new slot (code ∙ none) ∙ sym (content_none old slot none))
     (λ (some : code_of old slot ≡ 0 → ⊥).
     let one : code_of old slot ≡ (code_of old slot - 1) + 1 = omega (arith, some) in
     content_some new slot (offset_of old slot) (code_of old slot - 1) (take (length_of old slot) (drop (offset_of old slot) old)) offset (code ∙ one)
-    (ap (take (length_of old slot)) (heap (omega (arith, one))))
+    (heap (omega (arith, one)))
     ∙ sym (content_some old slot (offset_of old slot) (code_of old slot - 1) (take (length_of old slot) (drop (offset_of old slot) old)) refl one refl))
     (cases_eq (code_of old slot) 0)
+
+-- and all octets behind it
+pub content_same : (old new : List ℕ) (slot : ℕ) → offset_of new slot ≡ offset_of old slot → code_of new slot ≡ code_of old slot
+    → (0 < code_of old slot → drop (offset_of old slot) new ≡ drop (offset_of old slot) old) → content_of new slot ≡ content_of old slot
+content_same old new slot offset code heap = content_alike old new slot offset code (λ some. ap (take (length_of old slot)) (heap some))
 
 -- Room.
 

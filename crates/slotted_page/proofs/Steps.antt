@@ -6,8 +6,8 @@ use Rattle.std.specs.Int.{w16, w64, to_be_bytes}
 use Rattle.byte_fields.specs.declared.TheConstants.{VALUE_MAX}
 use Rattle.slotted_page.specs.Layout.{lsn_of, number_at, used_of, offset_of, code_of, length_of, content_of, IsEntry, AreApart, IsSound}
 use Rattle.slotted_page.specs.Changes.{Wrote, SetsEntry, Sets}
-use Rattle.slotted_page.proofs.Written.{length-Wrote, own, before, behind, number_before, number_behind, number_own, lsn_before}
-use Rattle.slotted_page.proofs.Slots.{content_none, content_some, content_same}
+use Rattle.slotted_page.proofs.Written.{length-Wrote, wrote_nothing, own, before, behind, number_before, number_behind, number_own, lsn_before}
+use Rattle.slotted_page.proofs.Slots.{content_none, content_some, content_alike, content_same}
 
 -- an entry that says the same over a heap that takes up no less
 pub IsEntry-same : (old new : List ℕ) (slot : ℕ) → offset_of new slot ≡ offset_of old slot → code_of new slot ≡ code_of old slot
@@ -168,27 +168,83 @@ places a b c d slot used offset value sound inside short total few begin w1 w2 e
     heap p far = let rest : 144 + (p - 144) ≡ p = omega (arith, far) in
         ap (λ m. drop m d) (sym rest) ∙ sym (drop-drop (p - 144) 144 d) ∙ ap (drop (p - 144)) e.heap ∙ drop-drop (p - 144) 144 c ∙ ap (λ m. drop m c) rest
 
+-- the same directory over other octets
+pub sound_again : (old new : List ℕ) → IsSound old → length new ≡ 4096 → take 6 (drop 10 new) ≡ take 6 (drop 10 old)
+    → ((p : ℕ) → 8 ≤ p → p + 2 ≤ 144 → number_at new p ≡ number_at old p) → IsSound new
+sound_again old new sound size zeros numbers = record {
+  size = size;
+  zeros = zeros ∙ sound.zeros;
+  used = omega (arith, sound.used, numbers 8 (omega arith) (omega arith));
+  entries = λ k below. IsEntry-same old new k (numbers _ (omega arith) (omega (arith, below))) (numbers _ (omega arith) (omega (arith, below)))
+      (omega (arith, numbers 8 (omega arith) (omega arith))) (sound.entries k below);
+  apart = λ a b less below. record {
+    disjoint = λ a_some b_some.
+        let sa0 = numbers (16 + 4 * a) (omega arith) (omega (arith, less, below)) in let sa1 = numbers (18 + 4 * a) (omega arith) (omega (arith, less, below)) in
+        let sb0 = numbers (16 + 4 * b) (omega arith) (omega (arith, below)) in let sb1 = numbers (18 + 4 * b) (omega arith) (omega (arith, below)) in
+        ⊎_elim (λ (e : offset_of old a + length_of old a ≤ offset_of old b). inl (omega (arith, e, sa0, sa1, sb0, sb1)))
+        (λ (e : offset_of old b + length_of old b ≤ offset_of old a). inr (omega (arith, e, sa0, sa1, sb0, sb1)))
+        ((sound.apart a b less below).disjoint (omega (arith, a_some, sa1)) (omega (arith, b_some, sb1)));
+  };
+}
+
 -- another LSN
 module _ (old new : List ℕ) (lsn : ℕ) (sound : IsSound old) (w : Wrote old new 0 (to_be_bytes w64 lsn)) where
   numbers : (p : ℕ) → 8 ≤ p → number_at new p ≡ number_at old p
   numbers p more = number_behind old new 0 _ p w more
 
   pub sound_lsn : IsSound new
-  sound_lsn = record {
-    size = length-Wrote old new _ _ w ∙ sound.size;
-    zeros = ap (take 6) (behind old new 0 _ 10 w (omega arith)) ∙ sound.zeros;
-    used = omega (arith, sound.used, numbers 8 (omega arith));
-    entries = λ k below. IsEntry-same old new k (numbers _ (omega arith)) (numbers _ (omega arith)) (omega (arith, numbers 8 (omega arith))) (sound.entries k below);
-    apart = λ a b less below. record {
-      disjoint = λ a_some b_some.
-          let sa0 = numbers (16 + 4 * a) (omega arith) in let sa1 = numbers (18 + 4 * a) (omega arith) in
-          let sb0 = numbers (16 + 4 * b) (omega arith) in let sb1 = numbers (18 + 4 * b) (omega arith) in
-          ⊎_elim (λ (e : offset_of old a + length_of old a ≤ offset_of old b). inl (omega (arith, e, sa0, sa1, sb0, sb1)))
-          (λ (e : offset_of old b + length_of old b ≤ offset_of old a). inr (omega (arith, e, sa0, sa1, sb0, sb1)))
-          ((sound.apart a b less below).disjoint (omega (arith, a_some, sa1)) (omega (arith, b_some, sb1)));
-    };
-  }
+  sound_lsn = sound_again old new sound (length-Wrote old new _ _ w ∙ sound.size) (ap (take 6) (behind old new 0 _ 10 w (omega arith))) (λ p more less. numbers p more)
 
   pub contents_lsn : (k : ℕ) → k < 32 → content_of new k ≡ content_of old k
   contents_lsn k below = content_same old new k (numbers _ (omega arith)) (numbers _ (omega arith))
       (λ some. behind old new 0 _ (offset_of old k) w (omega (arith, sound.used, (sound.entries k below).begin some)))
+
+-- a value that is written over one that is as long
+module _ (old new : List ℕ) (slot : ℕ) (value : List ℕ) (sound : IsSound old) (inside : slot < 32) (code : code_of old slot ≡ length value + 1)
+    (w : Wrote old new (offset_of old slot) value) where
+  in_heap : 144 ≤ offset_of old slot
+  in_heap = omega (arith, sound.used, (sound.entries slot inside).begin (omega (arith, code)))
+
+  directory : (p : ℕ) → p + 2 ≤ 144 → number_at new p ≡ number_at old p
+  directory p less = number_before old new _ _ p w (omega (arith, less, in_heap))
+
+  -- where both values have octets they stand apart
+  beside : (k : ℕ) → k < 32 → k ≢ slot → 0 < length value → 0 < length_of old k
+      → (offset_of old slot + length value ≤ offset_of old k) ⊎ (offset_of old k + length_of old k ≤ offset_of old slot)
+  beside k below other own_some some =
+      ⊎_elim (λ (less : k < slot).
+      ⊎_elim (λ (e : offset_of old k + length_of old k ≤ offset_of old slot). inr e)
+      (λ (e : offset_of old slot + length_of old slot ≤ offset_of old k). inl (omega (arith, e, code)))
+      ((sound.apart k slot less inside).disjoint some (omega (arith, code, own_some))))
+      (λ (more : slot ≤ k).
+      ⊎_elim (λ (e : offset_of old slot + length_of old slot ≤ offset_of old k). inl (omega (arith, e, code)))
+      (λ (e : offset_of old k + length_of old k ≤ offset_of old slot). inr e)
+      ((sound.apart slot k (omega (arith, more, other)) below).disjoint (omega (arith, code, own_some)) some))
+      (cases_lt k slot)
+
+  -- no octet of another value is changed
+  value_kept : (k : ℕ) → k < 32 → k ≢ slot → take (length_of old k) (drop (offset_of old k) new) ≡ take (length_of old k) (drop (offset_of old k) old)
+  value_kept k below other =
+      ⊎_elim (λ (none : length value ≡ 0). ap (λ xs. take (length_of old k) (drop (offset_of old k) xs)) (wrote_nothing old new (offset_of old slot) value w none))
+      (λ (own_some : length value ≡ 0 → ⊥).
+      ⊎_elim (λ (none : length_of old k ≡ 0).
+      ap (λ n. take n (drop (offset_of old k) new)) none ∙ sym (ap (λ n. take n (drop (offset_of old k) old)) none))
+      (λ (some : length_of old k ≡ 0 → ⊥).
+      ⊎_elim (λ (e : offset_of old slot + length value ≤ offset_of old k). ap (take (length_of old k)) (behind old new _ value (offset_of old k) w e))
+      (λ (e : offset_of old k + length_of old k ≤ offset_of old slot). before old new _ value (offset_of old k) (length_of old k) w e)
+      (beside k below other (omega (arith, own_some)) (omega (arith, some))))
+      (cases_eq (length_of old k) 0))
+      (cases_eq (length value) 0)
+
+  overwrites : Sets old new slot (Some value)
+  overwrites = record {
+    sound = sound_again old new sound (length-Wrote old new _ _ w ∙ sound.size) (before old new _ _ 10 6 w (omega (arith, in_heap))) (λ p _ less. directory p less);
+    own = content_some new slot (offset_of old slot) (length value) value (directory _ (omega (arith, inside))) (directory _ (omega (arith, inside)) ∙ code) (own old new _ value w);
+    others = λ k below other. content_alike old new k (directory _ (omega (arith, below))) (directory _ (omega (arith, below))) (λ _. value_kept k below other);
+    lsn = lsn_before old new _ _ w (omega (arith, in_heap));
+  }
+
+pub overwrites_at : (old new : List ℕ) (slot at : ℕ) (value : List ℕ) → IsSound old → slot < 32 → code_of old slot ≡ length value + 1
+    → at ≡ offset_of old slot → Wrote old new at value → Sets old new slot (Some value)
+overwrites_at old new slot at value sound inside code here w =
+    let P : ℕ → Type 0 = λ n. Wrote old new n value in overwrites old new slot value sound inside code (subst P here w)

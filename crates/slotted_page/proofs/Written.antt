@@ -1,6 +1,6 @@
 -- A text that is written over a part of the octets: it stands there, and all other parts are as before.
 use Rattle.std.proofs.Common.{◌≡◌, ℕ, ◌+◌, ◌-◌, ◌^◌, ◌<◌, ◌≤◌, List, ◌++◌, length, take, drop, refl, sym, ap, ◌∙◌, arith, append_assoc, length-append}
-use Rattle.std.proofs.lemmas.List.{take_at, drop_at, drop-drop, drop-append-le, take-append-le, drop-take, take-take, length-take-le, length-drop}
+use Rattle.std.proofs.lemmas.List.{nil_from_length, take-append-drop, take_at, drop_at, drop-drop, drop-append-le, take-append-le, drop-take, take-take, length-take-le, length-drop}
 use Rattle.std.proofs.lemmas.Nat.{from_be_bytes-to_be_bytes_2, from_be_bytes-to_be_bytes_8}
 use Rattle.std.specs.Int.{w16, w64, from_be_bytes, to_be_bytes}
 use Rattle.slotted_page.specs.Layout.{number_at, lsn_of}
@@ -20,6 +20,14 @@ length-Wrote old new at text w =
       length-drop (at + length text) old,
       w.inside,
     )
+
+-- a text of no octets
+pub wrote_nothing : (old new : List ℕ) (at : ℕ) (text : List ℕ) → Wrote old new at text → length text ≡ 0 → new ≡ old
+wrote_nothing old new at text w none =
+    w.written
+    ∙ ap (λ (xs : List ℕ). take at old ++ (xs ++ drop (at + length text) old)) (nil_from_length text none)
+    ∙ ap (λ n. take at old ++ drop n old) (omega (arith, none))
+    ∙ take-append-drop at old
 
 -- the part that was written
 pub own : (old new : List ℕ) (at : ℕ) (text : List ℕ) → Wrote old new at text → take (length text) (drop at new) ≡ text

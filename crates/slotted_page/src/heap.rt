@@ -1,12 +1,13 @@
 // Changes of a page's slots.
 ghost use Rattle.std.specs.Prelude.{◌≡◌, ◌≢◌, ◌+◌, ◌^◌, ◌<◌, ◌≤◌, ℕ, length, slice_set, Some, None, replicate};
 ghost use Rattle.std.specs.Prelude.{option_copied};
-ghost use Rattle.slotted_page.specs.Layout.{used_of, lsn_of, content_of, slots_of, content_length, total_length};
+ghost use Rattle.slotted_page.specs.Layout.{used_of, lsn_of, code_of, content_of, slots_of, content_length};
+ghost use Rattle.slotted_page.specs.Layout.{total_length};
 ghost use Rattle.slotted_page.specs.Layout.{IsSound, FitsPage};
 ghost use Rattle.slotted_page.specs.Laws.{IsBlank};
 ghost use Rattle.slotted_page.specs.Changes.{Wrote, Sets};
 
-use crate::directory::{content_of, put_entry, put_lsn, put_used, used_of};
+use crate::directory::{code_of, content_of, offset_of, put_entry, put_lsn, put_used, used_of};
 use crate::{HEAP_LEN, PAGE_LEN, SLOTS};
 use byte_fields::VALUE_MAX;
 
@@ -134,7 +135,18 @@ fn make_room(octets: &mut [u8; PAGE_LEN], slot: u8, len: usize)
     compact(octets);
 }
 
-// Puts a value into a slot.
+// Writes a value over that of its slot, which is as long.
+fn overwrite(octets: &mut [u8; PAGE_LEN], slot: u8, value: &[u8])
+    requires sound { IsSound octets.old }
+    requires slot { slot < 32 }
+    requires as_long { code_of octets.old slot ≡ length value.now + 1 }
+    ensures { Sets octets.old octets.new slot (Some value.now) }
+{
+    let offset = offset_of(octets, slot);
+    write(octets, offset, value);
+}
+
+// Puts a value into a slot: where the one before stood, if that is as long.
 fn insert(octets: &mut [u8; PAGE_LEN], slot: u8, value: &[u8])
     requires sound { IsSound octets.old }
     requires slot { slot < 32 }
@@ -142,6 +154,10 @@ fn insert(octets: &mut [u8; PAGE_LEN], slot: u8, value: &[u8])
     requires fits { FitsPage (slots_of octets.old) slot (Some value.now) }
     ensures { Sets octets.old octets.new slot (Some value.now) }
 {
+    if code_of(octets, slot) == value.len() + 1 {
+        overwrite(octets, slot, value);
+        return;
+    }
     make_room(octets, slot, value.len());
     place(octets, slot, value);
 }

@@ -1,3 +1,4 @@
 pub mod Steps
 pub mod Done
 pub mod Lists
+pub mod Unsynced

@@ -11,7 +11,8 @@ use Rattle.site.proofs.Laws.{in_sequence, leaves_weaker, no_call, within_not, ch
 use Rattle.disk_pages.specs.Pages.{LiesOn, page_on, with_page, within_page}
 use Rattle.disk_pages.specs.Laws.{HasWritten as HasPage}
 use Rattle.disk_pages.proofs.PageLaws.{page_is_written, others_stay}
-use Rattle.stage_out.specs.Staged.{IsBesideAll, LeavesBeside, HasLeft, HasWritten}
+use Rattle.stage_out.specs.Staged.{IsBesideAll, LeavesBeside, HasLeft, HasWritten, unsynced_in}
+use Rattle.stage_out.proofs.Unsynced.{one_unsynced}
 
 -- a page of a list is one of its pages
 pub listed : (pages : List ℕ) (k : ℕ) → k < length pages → Contains pages (get_or pages k 0)
@@ -37,6 +38,8 @@ nothing_written pages contents old = record {
   beside = λ place out. refl;
   loose = λ place out stable. stable;
   calls = omega arith;
+  unsynced = omega arith;
+  lies_loose = λ some. absurd (omega (arith, some));
 }
 
 module _ (pages : List ℕ) (contents : List (List ℕ)) (n : ℕ) (old mid new : State) (few : n < length pages) (so_far : HasWritten pages contents n old mid) where
@@ -69,6 +72,8 @@ module _ (pages : List ℕ) (contents : List (List ℕ)) (n : ℕ) (old mid new 
     beside = λ place out. ap (λ (c : List ℕ). get_or c place 0) disk ∙ page_written.beside place (out page (listed pages n few)) ∙ so_far.beside place out;
     loose = λ place out stable. ap (λ (rs : List Range). is_loose rs place) loose ∙ within place out stable;
     calls = ap length adds ∙ length-append mid.past (within_page page mid ∷ []) ∙ omega (arith, so_far.calls);
+    unsynced = ap unsynced_in adds ∙ one_unsynced mid.past (within_page page mid) refl (omega arith) ∙ omega (arith, so_far.unsynced);
+    lies_loose = λ some. (let more = ap length loose in omega (arith, more));
   }
     where
       disk : new.image.disk ≡ with_page page bytes mid.image.disk

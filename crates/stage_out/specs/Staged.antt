@@ -1,9 +1,10 @@
 -- Pages that are written to the disk together.
-use Rattle.std.specs.Prelude.{◌≡◌, ◌≢◌, ℕ, ◌+◌, ◌<◌, false, List, [], ◌∷◌, length, slice_index, slice_index_or}
-use Rattle.std.specs.List.{Contains}
+use Rattle.std.specs.Prelude.{◌≡◌, ◌≢◌, ℕ, ◌+◌, ◌<◌, ◌≤◌, ◌==◌, ◌&&◌, not, Bool, false, List, [], ◌∷◌, length}
+use Rattle.std.specs.Prelude.{slice_index, slice_index_or}
+use Rattle.std.specs.List.{Contains, count_by}
 use Rattle.site.specs.declared.outside.Dev.{Dev}
 use Rattle.site.specs.declared.outside.Dev.TheVariants.{Disk}
-use Rattle.site.specs.State.{State, Snapshot, MayStand, content_of, loose_of, is_loose}
+use Rattle.site.specs.State.{State, Moment, Snapshot, MayStand, content_of, loose_of, is_loose}
 use Rattle.site.specs.Moments.{LeavesOnly, ChangesOnly}
 use Rattle.disk_pages.specs.Pages.{page_on}
 use Rattle.disk_pages.specs.Laws.{IsBesidePage}
@@ -42,6 +43,13 @@ abbrev pub calls_of : List ℕ → ℕ
 calls_of [] = 0
 calls_of (page ∷ pages) = length (page ∷ pages) + 1
 
+-- how many of these moments are within calls of the disk: nothing is being told, and something of the disk is loose
+abbrev pub is_unsynced : Moment → Bool
+is_unsynced m = (length m.telling == 0) && not (length m.loose.disk == 0)
+
+abbrev pub unsynced_in : List Moment → ℕ
+unsynced_in moments = count_by is_unsynced moments
+
 -- within staging, up to a write that was done or failed: what a crash leaves
 pub record HasLeft (pages : List ℕ) (old new : State) : Type 0 where
   pub any_moment : LeavesOnly old new (LeavesBeside pages old)
@@ -56,3 +64,5 @@ pub record HasWritten (pages : List ℕ) (contents : List (List ℕ)) (n : ℕ) 
   pub loose : (place : ℕ) → IsBesideAll pages place → is_loose old.loose.disk place ≡ false
       → is_loose new.loose.disk place ≡ false
   pub calls : length new.past ≡ length old.past + n
+  pub unsynced : unsynced_in new.past ≡ unsynced_in old.past + n
+  pub lies_loose : 1 ≤ n → 1 ≤ length new.loose.disk

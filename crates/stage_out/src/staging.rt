@@ -11,7 +11,8 @@ ghost use Rattle.disk_pages.specs.Calls.{WritesDisk};
 ghost use Rattle.disk_pages.specs.Pages.{LiesOn};
 ghost use Rattle.image_changes.specs.Changes.{Reaches};
 ghost use Rattle.image_changes.specs.Reached.{LeavesFront};
-ghost use Rattle.stage_out.specs.Staged.{HasStaged, LeavesStaged, changes_of, calls_of, HasWritten, HasLeft};
+ghost use Rattle.stage_out.specs.Staged.{HasStaged, LeavesStaged, changes_of, calls_of, unsynced_in, HasWritten};
+ghost use Rattle.stage_out.specs.Staged.{HasLeft};
 
 use disk_pages::{sync_disk, write_page};
 use site::{Site, Stop};
@@ -43,6 +44,8 @@ pub fn stage<S: Site>(site: &mut S, pages: &[u32], contents: &[Page]) -> Result<
         → OnOk result (IsQuiet (S.state site.new)) }
     ensures calls { IsTrue (S.state site.old).honest → OnOk result (length (S.state site.new).past
         ≡ length (S.state site.old).past + calls_of pages.now) }
+    ensures unsynced { IsTrue (S.state site.old).honest → OnOk result (unsynced_in (S.state site.new).past
+        ≡ unsynced_in (S.state site.old).past + calls_of pages.now) }
 
     // Of every site.
     ensures none { pages.now ≡ [] → (site.new ≡ site.old) × IsOk result }

@@ -1,11 +1,6 @@
 -- Calls that only read the flash, in sequence.
-use Rattle.std.proofs.Common.{ℕ, ◌+◌, ◌≤◌}
-use Rattle.std.specs.Prelude.{Result, Ok, Err, IfOk}
-use Rattle.site.specs.declared.outside.Dev.TheVariants.{Flash}
-use Rattle.site.specs.declared.outside.Stop.{Stop}
-use Rattle.site.specs.State.{State}
+use Rattle.tail_rebuild.proofs.Names.{ℕ, ◌+◌, ◌≤◌, Result, Ok, Err, IfOk, State, Flash, Stop, ReadsFlash}
 use Rattle.sealed_ring.proofs.Lookups as lookups
-use Rattle.tail_rebuild.specs.Listing.{ReadsFlash}
 
 -- one call behind others that were Ok
 pub reads_then : {A B : Type 0} (x : A) (r : Result B Stop) (n m k : ℕ) (a b c : State) → n + m ≤ k → ReadsFlash {T = A} (Ok x) n a b → ReadsFlash r m b c → ReadsFlash r k a c

@@ -1,22 +1,7 @@
 -- Groups and segments when one more comes.
-use Rattle.std.proofs.Common.{◌≡◌, ◌⊎◌, inl, inr, ℕ, zero, suc, ◌+◌, ◌-◌, ◌*◌, ◌/◌, ◌<◌, ◌≤◌, List, [], ◌∷◌, ◌++◌, length, get_or, map, drop, refl, sym, ap, subst, ◌∙◌, arith}
-use Rattle.std.specs.List.{AllByRecursion, flat_map}
-use Rattle.std.proofs.lemmas.Bool.{cases_lt}
-use Rattle.std.proofs.lemmas.List.{length-map, length-append, length-drop, map-append, drop-map, get_or-drop, get_or-map}
-use Rattle.std_lemmas.proofs.AllOf.{all_push, all_drop, all_at}
-use Rattle.site.specs.declared.geometry.Geometry.{Geometry}
-use Rattle.site.specs.State.{Image}
-use Rattle.sealed_ring.specs.Ring.{Units, hi_of, last_of}
-use Rattle.byte_fields.specs.declared.frame_head.FrameHead.{FrameHead}
-use Rattle.byte_fields.specs.FrameHeads.{spelling_of_all, FitsFields, AreGroupHeads}
-use Rattle.image_changes.specs.Rings.{Groups, Segments, group_shape, segment_shape, KeepsUnits}
-use Rattle.frame_group.specs.Groups.{Frame, group, heads_of}
-use Rattle.frame_group.proofs.Front.{heads_are_group, begins_with_heads}
-use Rattle.meta_segments.specs.Segments.{heads_of_group, IsSegment}
+use Rattle.tail_rebuild.proofs.Names.{◌≡◌, ◌⊎◌, inl, inr, ℕ, zero, suc, ◌+◌, ◌-◌, ◌*◌, ◌/◌, ◌<◌, ◌≤◌, List, [], ◌∷◌, ◌++◌, length, get_or, map, drop, refl, sym, ap, subst, ◌∙◌, arith, cases_lt, length-map, length-append, length-drop, map-append, drop-map, get_or-drop, get_or-map, AllByRecursion, flat_map, spelling_of_all, FitsFields, AreGroupHeads, FrameHead, heads_are_group, begins_with_heads, Frame, group, heads_of, Groups, Segments, group_shape, segment_shape, KeepsUnits, heads_of_group, IsSegment, Units, hi_of, last_of, Image, Geometry, all_push, all_drop, all_at, segment_of, with_segment, HasFrames, HasGroups, HasSegments, HasSaved, PagesExist}
 use Rattle.meta_segments.specs.Following.{IsLive, heads_with, Follow}
 use Rattle.meta_segments.proofs.Numbers.{group_follows, segment_follows}
-use Rattle.tail_rebuild.specs.Standing.{HasFrames, HasGroups, HasSegments, HasSaved, PagesExist}
-use Rattle.tail_rebuild.specs.Saving.{segment_of, with_segment}
 use Rattle.tail_rebuild.specs.Laws.{StandsAgain, SegmentSaved, GroupPushed, with_group}
 use Rattle.tail_rebuild.proofs.Fours.{group_of_flat, length_flat, all_flat}
 use Rattle.tail_rebuild.proofs.Standing.{count, group_exists}

@@ -1,9 +1,5 @@
 -- The heads of four groups, as they are put together group by group.
-use Rattle.std.proofs.Common.{◌≡◌, ℕ, zero, suc, ◌+◌, ◌-◌, ◌*◌, ◌<◌, ◌≤◌, List, [], ◌∷◌, ◌++◌, length, get_or, take, drop, refl, sym, ap, ◌∙◌, arith, append_assoc}
-use Rattle.std.specs.List.{AllByRecursion, flat_map}
-use Rattle.std.proofs.lemmas.List.{take_at, drop_at, take-take, drop-take, length-append, length-take-le, append-nil}
-use Rattle.byte_fields.specs.declared.frame_head.FrameHead.{FrameHead}
-use Rattle.meta_segments.specs.Segments.{heads_of_group}
+use Rattle.tail_rebuild.proofs.Names.{◌≡◌, ℕ, zero, suc, ◌+◌, ◌-◌, ◌*◌, ◌<◌, ◌≤◌, List, [], ◌∷◌, ◌++◌, length, get_or, take, drop, refl, sym, ap, ◌∙◌, arith, append_assoc, take_at, drop_at, take-take, drop-take, length-append, length-take-le, append-nil, AllByRecursion, flat_map, FrameHead, heads_of_group}
 
 abbrev Heads : Type 0
 Heads = List FrameHead

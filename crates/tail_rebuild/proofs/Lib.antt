@@ -1,3 +1,4 @@
+mod Names
 pub mod Calling
 pub mod Following
 pub mod Fours

@@ -1,8 +1,5 @@
 -- A list of heads that is the front of another one.
-use Rattle.std.proofs.Common.{◌≡◌, ℕ, ◌≤◌, ◌<◌, List, [], ◌∷◌, ◌++◌, length, get_or, take, sym, ap, ◌∙◌}
-use Rattle.std.proofs.lemmas.List.{take_more, length-append, take_all}
-use Rattle.byte_fields.specs.declared.frame_head.FrameHead.{FrameHead}
-use Rattle.tail_rebuild.specs.Listing.{IsFront}
+use Rattle.tail_rebuild.proofs.Names.{◌≡◌, ℕ, ◌≤◌, ◌<◌, List, [], ◌∷◌, ◌++◌, length, get_or, take, sym, ap, ◌∙◌, take_more, length-append, take_all, FrameHead, IsFront}
 
 -- with the next one
 pub front_more : (all list : List (List FrameHead)) (heads : List FrameHead) → IsFront all list → length list < length all → heads ≡ get_or all (length list) [] → IsFront all (list ++ heads ∷ [])

@@ -1,31 +1,14 @@
 -- A segment is appended, where one is due.
-use Rattle.std.proofs.Common.{◌≡◌, ◌⊎◌, inl, inr, ℕ, ◌+◌, ◌*◌, Bool, true, false, List, [], ◌∷◌, length, refl, sym, ap, subst, ◌∙◌, arith}
-use Rattle.std.specs.Prelude.{Ok, Err, IsTrue, slice_index}
-use Rattle.site.specs.declared.geometry.Geometry.{Geometry}
+use Rattle.tail_rebuild.proofs.Names.{◌≡◌, ◌⊎◌, inl, inr, ℕ, ◌+◌, ◌*◌, Bool, true, false, List, [], ◌∷◌, length, refl, sym, ap, subst, ◌∙◌, arith, Ok, Err, slice_index, spelling_of_all, FrameHead, Frame, Groups, Segments, group_shape, segment_shape, octets_of, region, units_in, IsReady, Finds, LeavesOldOrNew, Units, IsRing, SameOutside, appended, hi_of, Ring, Shape, in_sequence, holds_now, leaves_weaker, quiet_leaves, unchanged, unchanged_calm, no_call, quiet_settled, HasLimits, HasLengths, Leaves, LeavesOnly, OnlyDevice, SameBut, ChangesOnly, State, Snapshot, IsQuiet, Geometry, Flash, Stop, AreRings, is_due, segment_of, changes_of_save, saved_after, Stands, Saves, IsInNoSlot, LeavesGaps}
+use Rattle.std.specs.Prelude.{IsTrue}
 use Rattle.site.specs.declared.outside.Dev.{Dev}
-use Rattle.site.specs.declared.outside.Dev.TheVariants.{Flash}
-use Rattle.site.specs.declared.outside.Stop.{Stop}
-use Rattle.site.specs.Geometry.{HasLimits, HasLengths}
-use Rattle.site.specs.State.{State, Snapshot, IsQuiet}
 use Rattle.site.specs.Calls.{Preserves, IsUnchanged}
-use Rattle.site.specs.Moments.{Leaves, LeavesOnly, OnlyDevice, SameBut, ChangesOnly}
-use Rattle.site.proofs.Laws.{in_sequence, holds_now, leaves_weaker, quiet_leaves, unchanged, unchanged_calm, no_call, quiet_settled}
-use Rattle.sealed_ring.specs.declared.slots.Shape.{Shape}
-use Rattle.sealed_ring.specs.declared.ring.Ring.{Ring}
-use Rattle.sealed_ring.specs.Ring.{Units, IsRing, SameOutside, appended, hi_of}
-use Rattle.sealed_ring.specs.Ready.{region, units_in, IsReady, Finds, LeavesOldOrNew}
-use Rattle.byte_fields.specs.declared.frame_head.FrameHead.{FrameHead}
-use Rattle.byte_fields.specs.FrameHeads.{spelling_of_all}
-use Rattle.image_changes.specs.Rings.{Groups, Segments, group_shape, segment_shape, octets_of}
 use Rattle.image_changes.specs.Changes.{Change, AppendsSegment, ReadsAs, Appends, Reaches}
 use Rattle.image_changes.specs.Reached.{IsReached, IsFrontOf, LeavesFront}
 use Rattle.image_changes.specs.Laws.{KeepsOrAppends}
 use Rattle.image_changes.proofs.AppendLaws.{append_makes, append_done}
 use Rattle.image_changes.proofs.Adding.{none_made, fronts_add_up}
 use Rattle.image_changes.proofs.Sequence.{reads_itself}
-use Rattle.frame_group.specs.Groups.{Frame}
-use Rattle.tail_rebuild.specs.Rebuilt.{AreRings}
-use Rattle.tail_rebuild.specs.Saving.{is_due, segment_of, changes_of_save, saved_after, Stands, Saves, IsInNoSlot, LeavesGaps}
 use Rattle.tail_rebuild.proofs.Following.{segment_saved}
 use Rattle.tail_rebuild.proofs.Standing.{fits_again}
 

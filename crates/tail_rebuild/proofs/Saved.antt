@@ -1,25 +1,7 @@
 -- The segments that stand on flash, what was read of one, and which groups it has.
-use Rattle.std.proofs.Common.{◌≡◌, ℕ, ◌+◌, ◌-◌, ◌*◌, ◌/◌, ◌%◌, ◌<◌, ◌≤◌, min, max, List, [], length, get_or, map, take, drop, refl, arith, sym, ap, subst, ◌∙◌}
-use Rattle.std.proofs.lemmas.List.{length-map, get_or-map}
-use Rattle.std_lemmas.proofs.AllOf.{all_at}
-use Rattle.site.specs.declared.geometry.Geometry.{Geometry}
-use Rattle.site.specs.State.{State, Image}
-use Rattle.sealed_ring.specs.declared.slots.Shape.{Shape}
-use Rattle.sealed_ring.specs.declared.ring.Ring.{Ring}
-use Rattle.sealed_ring.specs.Ring.{hi_of, units_of, unit_at, IsLive}
+use Rattle.tail_rebuild.proofs.Names.{◌≡◌, ℕ, ◌+◌, ◌-◌, ◌*◌, ◌/◌, ◌%◌, ◌<◌, ◌≤◌, min, max, List, [], length, get_or, map, take, drop, refl, arith, sym, ap, subst, ◌∙◌, length-map, get_or-map, spelling_of_all, FrameHead, Frame, heads_of, group_shape, segment_shape, units_on, heads_of_group, IsSegment, live_count, IsNear, region, units_in, RingFits, hi_of, units_of, unit_at, IsLive, Ring, Shape, State, Image, Geometry, all_at, GoesOnWith, HoldSegments, RowGoesOn, AreRings, HasGroups, HasSegments, HasSaved, PagesExist, segment_on}
 use Rattle.sealed_ring.specs.Row.{HaveContents}
-use Rattle.sealed_ring.specs.Ready.{region, units_in, Matches as RingFits}
-use Rattle.sealed_ring.specs.Near.{IsNear}
-use Rattle.sealed_ring.proofs.Units.{live_count}
-use Rattle.byte_fields.specs.declared.frame_head.FrameHead.{FrameHead}
-use Rattle.byte_fields.specs.FrameHeads.{spelling_of_all}
-use Rattle.image_changes.specs.Rings.{group_shape, segment_shape, units_on}
-use Rattle.frame_group.specs.Groups.{Frame, heads_of}
-use Rattle.meta_segments.specs.Segments.{heads_of_group, IsSegment}
 use Rattle.meta_segments.specs.Following.{IsLive as Live, heads_with}
-use Rattle.tail_rebuild.specs.Standing.{HasGroups, HasSegments, HasSaved, PagesExist, segment_on}
-use Rattle.tail_rebuild.specs.Listing.{GoesOnWith, HoldSegments, RowGoesOn}
-use Rattle.tail_rebuild.specs.Rebuilt.{AreRings}
 use Rattle.tail_rebuild.proofs.Standing.{first_is, heads_at_exist}
 
 -- all live segments are listed

@@ -1,21 +1,5 @@
 -- The groups that stand on flash, and what was read of one.
-use Rattle.std.proofs.Common.{◌≡◌, ℕ, zero, suc, ◌+◌, ◌-◌, ◌<◌, ◌≤◌, min, true≢false, List, [], ◌∷◌, ◌++◌, length, get_or, map, take, drop, replicate, arith, sym, ap, subst, ◌∙◌}
-use Rattle.std.proofs.lemmas.List.{take-take, length-map, get_or-map, get_or-replicate, length-replicate}
-use Rattle.std.specs.List.{AllByRecursion}
-use Rattle.std_lemmas.proofs.AllOf.{all_at}
-use Rattle.site.specs.declared.geometry.Geometry.{Geometry}
-use Rattle.site.specs.State.{State, Image}
-use Rattle.sealed_ring.specs.declared.slots.Shape.{Shape}
-use Rattle.sealed_ring.specs.declared.ring.Ring.{Ring}
-use Rattle.sealed_ring.specs.Ring.{hi_of, units_of, unit_at, IsLive}
-use Rattle.sealed_ring.specs.Ready.{region, units_in, Matches as RingFits}
-use Rattle.sealed_ring.proofs.Units.{live_count}
-use Rattle.byte_fields.specs.declared.frame_head.FrameHead.{FrameHead}
-use Rattle.byte_fields.specs.FrameHeads.{blank}
-use Rattle.image_changes.specs.Rings.{group_shape, units_on}
-use Rattle.frame_group.specs.Groups.{Frame, group, head_of, heads_of, HasHeads}
-use Rattle.frame_group.proofs.Front.{begins_with_heads, one_heads}
-use Rattle.tail_rebuild.specs.Standing.{HasFrames, HasGroups, PagesExist, group_on}
+use Rattle.tail_rebuild.proofs.Names.{◌≡◌, ℕ, zero, suc, ◌+◌, ◌-◌, ◌<◌, ◌≤◌, min, true≢false, List, [], ◌∷◌, ◌++◌, length, get_or, map, take, drop, replicate, arith, sym, ap, subst, ◌∙◌, take-take, length-map, get_or-map, get_or-replicate, length-replicate, AllByRecursion, blank, FrameHead, begins_with_heads, one_heads, Frame, group, head_of, heads_of, HasHeads, group_shape, units_on, live_count, region, units_in, RingFits, hi_of, units_of, unit_at, IsLive, Ring, Shape, State, Image, Geometry, all_at, HasFrames, HasGroups, PagesExist, group_on}
 
 -- a ring still fits where the devices have what they had
 pub fits_again : (ring : Ring) (old new : State) → new.image ≡ old.image → RingFits ring old → RingFits ring new

@@ -1,13 +1,5 @@
 -- A table seen session by session.
-use Rattle.std.proofs.Common.{◌≡◌, ◌≢◌, ℕ, zero, suc, ◌+◌, ◌<◌, ◌≤◌, ◌==◌, Bool, true, false, cond, List, [], ◌∷◌, sum_by, length, get_or, Contains, Some, arith, rules, refl, sym, ap, ◌∙◌}
-use Rattle.std.specs.Option.{option_map_or}
-use Rattle.std.specs.List.{range_with_len}
-use Rattle.std.proofs.lemmas.List.Sums.{sum_by-cons}
-use Rattle.std.proofs.lemmas.List.Elements.{All-from_recursion}
-use Rattle.std.proofs.lemmas.Option.{none-some, same_Some}
-use Rattle.std.proofs.lemmas.Bool.{eqb-true, eq-eqb, ne_eqb, cond-true, cond-false}
-use Rattle.txn_table.specs.declared.active.Active.{Active}
-use Rattle.txn_table.specs.Entries.{IsTable, entry_of}
+use Rattle.txn_table.proofs.Names.{◌≡◌, ◌≢◌, ℕ, zero, suc, ◌+◌, ◌<◌, ◌≤◌, ◌==◌, Bool, true, false, cond, List, [], ◌∷◌, sum_by, length, get_or, Contains, Some, arith, rules, refl, sym, ap, ◌∙◌, eqb-true, eq-eqb, ne_eqb, cond-true, cond-false, All-from_recursion, sum_by-cons, none-some, same_Some, range_with_len, option_map_or, IsTable, entry_of, Active}
 use Rattle.txn_table.proofs.Places.{entry_of-absent, weaker}
 
 -- a sum over sessions, where one of them counts more

@@ -1,14 +1,5 @@
 -- What an insertion, a removal and a write leave of a table.
-use Rattle.std.proofs.Common.{◌≡◌, ◌≢◌, ℕ, suc, ◌+◌, ◌<◌, ◌≤◌, ◌==◌, nat_lt, Bool, true, false, not, cond, List, [], ◌∷◌, insert, remove, Option, None, Some, option_map, IsSome, IsNone, slice_get, get_or, set, length, length-set, arith, refl, sym, ap, subst, ◌∙◌}
-use Rattle.std.specs.List.{AllByRecursion, position_or_len}
-use Rattle.std.specs.Option.{ForSome}
-use Rattle.std.proofs.lemmas.Option.{get_or_from_slice_get}
-use Rattle.std.proofs.lemmas.Bool.{eqb-true, eqb-false, eq-eqb, ne_eqb, cond-true, cond-false}
-use Rattle.std.proofs.lemmas.Bool.Decides.{nat_tests}
-use Rattle.arrayvec.specs.ArrayVec.{ArrayVec, with_items}
-use Rattle.arrayvec.proofs.ArrayVecLemmas.{items-with_items}
-use Rattle.txn_table.specs.declared.active.Active.{Active}
-use Rattle.txn_table.specs.Entries.{IsCounted, IsTable, entry_of, ChangesOnly}
+use Rattle.txn_table.proofs.Names.{◌≡◌, ◌≢◌, ℕ, suc, ◌+◌, ◌<◌, ◌≤◌, ◌==◌, nat_lt, Bool, true, false, not, cond, List, [], ◌∷◌, insert, remove, Option, None, Some, option_map, IsSome, IsNone, slice_get, get_or, set, length, length-set, arith, refl, sym, ap, subst, ◌∙◌, eqb-true, eqb-false, eq-eqb, ne_eqb, cond-true, cond-false, nat_tests, get_or_from_slice_get, AllByRecursion, position_or_len, ForSome, items-with_items, ArrayVec, with_items, IsCounted, IsTable, entry_of, ChangesOnly, Active}
 use Rattle.txn_table.proofs.Places.{absent, entry_of-absent, weaker}
 
 both : (P Q R : Active → Type 0) → ((entry : Active) → P entry → Q entry → R entry) → (entries : List Active)

@@ -1,12 +1,7 @@
 -- Records that are counted from a later one on.
-use Rattle.std.proofs.Common.{All, Some, subst, ◌≡◌, ◌≢◌, ℕ, zero, suc, ◌+◌, ◌<◌, ◌≤◌, List, [], ◌∷◌, ◌++◌, map, take, drop, length, set, get_or, length-set, arith, refl, ap, ◌∙◌}
-use Rattle.std.specs.List.{AllByRecursion}
+use Rattle.txn_table.proofs.Names.{All, Some, subst, ◌≡◌, ◌≢◌, ℕ, zero, suc, ◌+◌, ◌<◌, ◌≤◌, List, [], ◌∷◌, ◌++◌, map, take, drop, length, set, get_or, length-set, arith, refl, ap, ◌∙◌, AllByRecursion, items-with_items, ArrayVec, with_items, IsTable, IsLeast, counted_from, Active}
 use Rattle.std.proofs.lemmas.List.{get_or-map, length-map}
 use Rattle.std.proofs.lemmas.List.Edits.{map_over_more}
-use Rattle.arrayvec.specs.ArrayVec.{ArrayVec, with_items}
-use Rattle.arrayvec.proofs.ArrayVecLemmas.{items-with_items}
-use Rattle.txn_table.specs.declared.active.Active.{Active}
-use Rattle.txn_table.specs.Entries.{IsTable, IsLeast, counted_from}
 
 -- the entries in front of a place are counted from it on
 abbrev pub counted_to : ℕ → ℕ → List Active → List Active

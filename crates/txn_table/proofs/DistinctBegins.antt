@@ -1,9 +1,5 @@
 -- No two sessions have one Begin, and each session's records stand in the log, once a session has written.
-use Rattle.std.proofs.Common.{◌≡◌, ◌≢◌, ℕ, ◌<◌, ◌≤◌, List, Option, Some, ⊎_elim, sym, ap, subst, ◌∙◌, arith}
-use Rattle.std.proofs.lemmas.Bool.{cases_eq}
-use Rattle.std.proofs.lemmas.Option.{same_Some}
-use Rattle.txn_table.specs.declared.active.Active.{Active}
-use Rattle.txn_table.specs.Entries.{entry_of, ChangesOnly, after_write}
+use Rattle.txn_table.proofs.Names.{◌≡◌, ◌≢◌, ℕ, ◌<◌, ◌≤◌, List, Option, Some, ⊎_elim, sym, ap, subst, ◌∙◌, arith, cases_eq, same_Some, entry_of, ChangesOnly, after_write, Active}
 
 abbrev pub AreApart : List Active → Type 0
 AreApart active = (n m : ℕ) (a b : Active) → entry_of active n ≡ Some a → entry_of active m ≡ Some b → a.begin ≡ b.begin → n ≡ m

@@ -1,3 +1,4 @@
+mod Names
 pub mod BySession
 pub mod Changes
 pub mod Counting

@@ -1,7 +1,5 @@
 -- What a write, a mark and undone writes leave of an entry.
-use Rattle.std.proofs.Common.{ℕ, ◌^◌, ◌<◌, refl, arith}
-use Rattle.txn_table.specs.declared.active.Active.{Active}
-use Rattle.txn_table.specs.Entries.{IsCounted, after_write, after_mark, after_undone}
+use Rattle.txn_table.proofs.Names.{ℕ, ◌^◌, ◌<◌, refl, arith, IsCounted, after_write, after_mark, after_undone, Active}
 use Rattle.txn_table.proofs.Changes.{Leaves}
 
 pub leaves_write : (lsn : ℕ) → Leaves (λ e. after_write e lsn)

@@ -1,11 +1,5 @@
 -- What the active sessions owe, session by session.
-use Rattle.std.proofs.Common.{◌≡◌, ◌≢◌, ℕ, zero, suc, ◌+◌, ◌^◌, ◌==◌, cond, ◌<◌, ◌≤◌, Bool, true, false, List, [], ◌∷◌, sum_by, Option, Some, refl, ap, subst, arith}
-use Rattle.std.specs.Option.{option_map_or}
-use Rattle.std.specs.List.{range_with_len}
-use Rattle.std.proofs.lemmas.Option.{none-some, same_Some}
-use Rattle.std.proofs.lemmas.Bool.{eqb-true}
-use Rattle.txn_table.specs.declared.active.Active.{Active}
-use Rattle.txn_table.specs.Entries.{IsTable, entry_of, ChangesOnly, owed}
+use Rattle.txn_table.proofs.Names.{◌≡◌, ◌≢◌, ℕ, zero, suc, ◌+◌, ◌^◌, ◌==◌, cond, ◌<◌, ◌≤◌, Bool, true, false, List, [], ◌∷◌, sum_by, Option, Some, refl, ap, subst, arith, eqb-true, none-some, same_Some, range_with_len, option_map_or, IsTable, entry_of, ChangesOnly, owed, Active}
 use Rattle.txn_table.proofs.BySession.{sum-by_session}
 
 abbrev pub owed_one : Active → ℕ

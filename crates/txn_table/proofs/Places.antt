@@ -1,14 +1,7 @@
 -- How many entries a table has, and where they stand.
-use Rattle.std.proofs.Common.{◌≡◌, ◌≢◌, ℕ, zero, suc, ◌+◌, ◌*◌, ◌^◌, ◌<◌, ◌≤◌, ◌==◌, Bool, true, false, cond, List, [], ◌∷◌, length, map, AllPairs, slice_get, option_map, unwrap_or, not, nat_lt, Option, None, Some, arith, refl, sym, ap, subst, take, get_or, ◌∙◌}
-use Rattle.std.specs.List.{AllByRecursion, IsDistinct, list_any, position_or_len}
-use Rattle.std.proofs.lemmas.Bool.{eqb-false, ltb-false, ne_eqb, cond-false}
-use Rattle.std.proofs.lemmas.Bool.Decides.{nat_tests}
-use Rattle.std.proofs.lemmas.List.Elements.{All-from_recursion}
-use Rattle.std.proofs.lemmas.List.Sums.{prefix_len-le-length, sum_by-cons, sum_by_more_le}
-use Rattle.std.proofs.lemmas.Option.{none-some}
+use Rattle.txn_table.proofs.Names.{◌≡◌, ◌≢◌, ℕ, zero, suc, ◌+◌, ◌*◌, ◌^◌, ◌<◌, ◌≤◌, ◌==◌, Bool, true, false, cond, List, [], ◌∷◌, length, map, AllPairs, slice_get, option_map, unwrap_or, not, nat_lt, Option, None, Some, arith, refl, sym, ap, subst, take, get_or, ◌∙◌, eqb-false, ltb-false, ne_eqb, cond-false, nat_tests, All-from_recursion, prefix_len-le-length, sum_by-cons, sum_by_more_le, none-some, AllByRecursion, list_any, position_or_len, IsTable, entry_of, IsLeast, owed, Active}
+use Rattle.std.specs.List.{IsDistinct}
 use Rattle.std.proofs.lemmas.Map.Steps.{length-le_from_distinct_below}
-use Rattle.txn_table.specs.declared.active.Active.{Active}
-use Rattle.txn_table.specs.Entries.{IsTable, entry_of, IsLeast, owed}
 
 abbrev sessions_of : List Active → List ℕ
 sessions_of entries = map (λ entry. entry.session) entries

@@ -1,6 +1,4 @@
-use Rattle.std.proofs.Common.{List, ℕ, sym, subst}
-use Rattle.site.proofs.Laws.{stays_honest}
-use Rattle.archive_report.specs.Contract.{ArchiveContract, FirstFails}
+use Rattle.archive_report.proofs.Names.{List, ℕ, sym, subst, ArchiveContract, FirstFails, stays_honest}
 use Rattle.archive_report.proofs.Ending.{TellsLast, contract_halted, contract_told, first_halted, first_told}
 use Rattle.archive_report.proofs.report.archive.Goals as goal
 

@@ -1,9 +1,4 @@
-use Rattle.std.proofs.Common.{◌≡◌, ◌∙◌, subst}
-use Rattle.std.specs.Prelude.{Option, Some, IfSome}
-use Rattle.site.proofs.Laws.{goes_in_sequence}
-use Rattle.site.proofs.Working.{lengths_later}
-use Rattle.sealed_ring.specs.declared.ring.Ring.{Ring}
-use Rattle.sealed_ring.specs.Ready.{IsUsable}
+use Rattle.archive_report.proofs.Names.{◌≡◌, ◌∙◌, subst, Option, Some, IfSome, IsUsable, Ring, goes_in_sequence, lengths_later}
 use Rattle.archive_report.proofs.report.find_log.Goals as goal
 
 some_is : (o : Option Ring) (x : Ring) (P : Ring → Type 0) → o ≡ Some x → IfSome o P → P x

@@ -1,8 +1,4 @@
-use Rattle.std.proofs.Common.{List, ℕ, take, sym, ◌∙◌, ap, arith}
-use Rattle.std.proofs.lemmas.List.{take-take}
-use Rattle.sealed_ring.specs.declared.slots.Shape.{Shape}
-use Rattle.sealed_ring.specs.Ring.{unit_at}
-use Rattle.sealed_ring.specs.Ready.{region, units_in}
+use Rattle.archive_report.proofs.Names.{List, ℕ, take, sym, ◌∙◌, ap, arith, take-take, region, units_in, unit_at, Shape}
 use Rattle.archive_report.proofs.LiveBlocks.{unit_whole}
 use Rattle.archive_report.proofs.report.read_block.Goals as goal
 

@@ -1,6 +1,4 @@
-use Rattle.std.proofs.Common.{◌≡◌, ◌<◌, ◌∙◌, ap, arith}
-use Rattle.sealed_ring.specs.Ready.{units_in}
-use Rattle.archive_report.specs.Archives.{ahead_line, gone_line, oldest_in}
+use Rattle.archive_report.proofs.Names.{◌≡◌, ◌<◌, ◌∙◌, ap, arith, ahead_line, gone_line, oldest_in, units_in}
 use Rattle.archive_report.proofs.WholeAnswer.{ahead_told, gone_told}
 use Rattle.archive_report.proofs.report.tell_answer.Goals as goal
 

@@ -1,4 +1,4 @@
-use Rattle.site.proofs.Laws.{stays_honest}
+use Rattle.archive_report.proofs.Names.{stays_honest}
 use Rattle.archive_report.proofs.Synced.{answer_told, nothing_found}
 use Rattle.archive_report.proofs.report.tell_archive.Goals as goal
 

@@ -1,8 +1,4 @@
-use Rattle.std.proofs.Common.{◌++◌, ◌∷◌, [], List, ℕ, ◌∙◌, ap, subst}
-use Rattle.std.specs.Prelude.{codes}
-use Rattle.site.proofs.Laws.{stays_honest}
-use Rattle.log_archive.specs.Lines.{block_text}
-use Rattle.archive_report.specs.Telling.{TellsLines}
+use Rattle.archive_report.proofs.Names.{◌++◌, ◌∷◌, [], List, ℕ, ◌∙◌, ap, subst, codes, TellsLines, block_text, stays_honest}
 use Rattle.archive_report.proofs.Told.{read_then, unread}
 use Rattle.archive_report.proofs.UpTo.{line_at}
 use Rattle.archive_report.proofs.report.tell_block.Goals as goal

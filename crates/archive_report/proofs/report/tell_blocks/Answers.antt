@@ -1,7 +1,4 @@
-use Rattle.std.proofs.Common.{◌≡◌, ◌≤◌, ◌<◌, ◌∙◌, refl, arith}
-use Rattle.site.proofs.Laws.{goes_nowhere, goes_in_sequence, stays_honest}
-use Rattle.sealed_ring.specs.Ready.{units_in}
-use Rattle.archive_report.specs.Archives.{oldest_in}
+use Rattle.archive_report.proofs.Names.{◌≡◌, ◌≤◌, ◌<◌, ◌∙◌, refl, arith, oldest_in, units_in, goes_nowhere, goes_in_sequence, stays_honest}
 use Rattle.archive_report.proofs.LiveBlocks.{finds_later, log_ring_later}
 use Rattle.archive_report.proofs.UpTo.{none_told, one_more, stops, told_to_end}
 use Rattle.archive_report.proofs.report.tell_blocks.Goals as goal

@@ -1,8 +1,4 @@
-use Rattle.std.proofs.Common.{◌≡◌, IsTrue}
-use Rattle.site.specs.Calls.{Preserves}
-use Rattle.site.specs.Faults.{faults_in}
-use Rattle.sealed_ring.specs.Ready.{Finds}
-use Rattle.archive_report.specs.Telling.{IsLogRing}
+use Rattle.archive_report.proofs.Names.{◌≡◌, IsTrue, IsLogRing, Finds, Preserves, faults_in}
 use Rattle.archive_report.proofs.UpTo.{ToldUpTo}
 use Rattle.archive_report.proofs.report.tell_blocks.Given as goal
 

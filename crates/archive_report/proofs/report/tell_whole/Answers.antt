@@ -1,9 +1,4 @@
-use Rattle.std.proofs.Common.{◌≤◌, ◌++◌, ℕ, refl, ◌∙◌, ap, arith}
-use Rattle.std.specs.Prelude.{codes}
-use Rattle.site.proofs.Laws.{stays_honest}
-use Rattle.sealed_ring.specs.Ready.{units_in}
-use Rattle.log_archive.specs.Lines.{end_text}
-use Rattle.archive_report.specs.Archives.{oldest_in}
+use Rattle.archive_report.proofs.Names.{◌≤◌, ◌++◌, ℕ, refl, ◌∙◌, ap, arith, codes, oldest_in, end_text, units_in, stays_honest}
 use Rattle.archive_report.proofs.WholeAnswer.{blocks_stop, end_stops, whole_told}
 use Rattle.archive_report.proofs.report.tell_whole.Goals as goal
 

@@ -1,8 +1,4 @@
-use Rattle.std.proofs.Common.{◌≡◌, ◌≤◌, ◌*◌, ◌+◌, arith, ℕ, length, sym, subst, ◌∙◌, get_or, drop, true≢false}
-use Rattle.std.specs.List.{AllByRecursion}
-use Rattle.std.proofs.lemmas.List.{take_rest}
-use Rattle.checkpoint.specs.declared.master.Master.{Master}
-use Rattle.checkpoint.specs.Actives.{Ascend}
+use Rattle.checkpoint.proofs.Names.{◌≡◌, ◌≤◌, ◌*◌, ◌+◌, arith, ℕ, length, sym, subst, ◌∙◌, get_or, drop, true≢false, take_rest, AllByRecursion, Ascend, Master}
 use Rattle.checkpoint.proofs.PairLists.{one_list}
 use Rattle.checkpoint.proofs.UnitParts.{HasParts, parts_of, unit_of_parts}
 use Rattle.checkpoint.proofs.codec.read_master.Goals as goal

@@ -1,8 +1,4 @@
-use Rattle.std.proofs.Common.{◌*◌, ◌+◌, arith, List, ℕ, [], ◌∷◌, ap, sym, ◌∙◌, take, drop, length, subst, length-append}
-use Rattle.std.specs.Int.{w64, from_be_bytes}
-use Rattle.std.proofs.lemmas.List.{drop-drop, length-drop}
-use Rattle.checkpoint.specs.declared.pairs.Pair.{Pair}
-use Rattle.checkpoint.specs.Actives.{ArePairs}
+use Rattle.checkpoint.proofs.Names.{◌*◌, ◌+◌, arith, List, ℕ, [], ◌∷◌, ap, sym, ◌∙◌, take, drop, length, subst, length-append, drop-drop, length-drop, w64, from_be_bytes, ArePairs, Pair}
 use Rattle.checkpoint.proofs.Texts.{IsBytes-drop}
 use Rattle.checkpoint.proofs.PairLists.{pairs_more}
 use Rattle.checkpoint.proofs.codec.read_pairs.Goals as goal

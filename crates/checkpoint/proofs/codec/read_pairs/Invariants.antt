@@ -1,5 +1,4 @@
-use Rattle.std.proofs.Common.{◌≡◌, length, drop}
-use Rattle.checkpoint.specs.Actives.{ArePairs}
+use Rattle.checkpoint.proofs.Names.{◌≡◌, length, drop, ArePairs}
 use Rattle.checkpoint.proofs.codec.read_pairs.Given as goal
 
 abbrev pub invariant-loop-place : goal.invariant-loop-place

@@ -1,10 +1,7 @@
-use Rattle.std.proofs.Common.{arith, refl, [], ◌∷◌, length, replicate, subst, set}
-use Rattle.std.specs.Int.{w64, to_be_bytes}
-use Rattle.byte_fields.specs.Writes.{Writes}
+use Rattle.checkpoint.proofs.Names.{arith, refl, [], ◌∷◌, length, replicate, subst, set, w64, to_be_bytes, writes_then, Writes}
 use Rattle.checkpoint.specs.Units.{spelling}
 use Rattle.checkpoint.proofs.Texts.{length-written}
 use Rattle.checkpoint.proofs.UnitParts.{octet_written, written_unit}
-use Rattle.byte_fields.proofs.Texts.{writes_then}
 use Rattle.checkpoint.proofs.codec.write_master.Goals as goal
 
 pub returns-clause-written : goal.returns-clause-written

@@ -1,6 +1,5 @@
-use Rattle.std.proofs.Common.{◌*◌, ◌+◌, arith, refl}
+use Rattle.checkpoint.proofs.Names.{◌*◌, ◌+◌, arith, refl, Pair}
 use Rattle.std.proofs.lemmas.Option.{get_or_from_slice_get}
-use Rattle.checkpoint.specs.declared.pairs.Pair.{Pair}
 use Rattle.checkpoint.proofs.Texts.{nothing_written}
 use Rattle.checkpoint.proofs.PairLists.{writes_more, fit_more}
 use Rattle.checkpoint.proofs.codec.write_pairs.Goals as goal

@@ -1,7 +1,4 @@
-use Rattle.std.proofs.Common.{take}
-use Rattle.std.specs.List.{AllByRecursion}
-use Rattle.byte_fields.specs.Writes.{Writes}
-use Rattle.checkpoint.specs.Actives.{FitsFields, spelling_of_all}
+use Rattle.checkpoint.proofs.Names.{take, AllByRecursion, Writes, FitsFields, spelling_of_all}
 use Rattle.checkpoint.proofs.codec.write_pairs.Given as goal
 
 abbrev pub invariant-loop-place : goal.invariant-loop-place

@@ -1,5 +1,4 @@
-use Rattle.std.proofs.Common.{◌<◌, arith, List, ℕ, sym, subst, Option}
-use Rattle.checkpoint.specs.Newest.{IsOf}
+use Rattle.checkpoint.proofs.Names.{◌<◌, arith, List, ℕ, sym, subst, Option, IsOf}
 use Rattle.checkpoint.proofs.Standing.{ring_newest}
 use Rattle.checkpoint.proofs.masters.master_on.Goals as goal
 

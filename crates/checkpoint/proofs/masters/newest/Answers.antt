@@ -1,8 +1,4 @@
-use Rattle.std.proofs.Common.{◌∙◌, sym, ap}
-use Rattle.site.proofs.Laws.{stays_honest}
-use Rattle.site.specs.State.{Image}
-use Rattle.sealed_ring.specs.Ring.{hi_of}
-use Rattle.sealed_ring.specs.Ready.{region}
+use Rattle.checkpoint.proofs.Names.{◌∙◌, sym, ap, region, hi_of, stays_honest, Image}
 use Rattle.checkpoint.proofs.Standing.{finds_still, ready_still}
 use Rattle.checkpoint.proofs.masters.newest.Goals as goal
 

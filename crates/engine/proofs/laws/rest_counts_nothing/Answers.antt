@@ -1,4 +1,4 @@
-use Rattle.std.proofs.Common.{arith}
+use Rattle.engine.proofs.Names.{arith}
 use Rattle.engine.proofs.RingCounts.{count_nothing}
 use Rattle.engine.proofs.laws.rest_counts_nothing.Goals as goal
 

@@ -1,28 +1,10 @@
-use Rattle.site.proofs.Working.{err_again}
-use Rattle.site.specs.declared.outside.Dev.TheVariants.{Log, Flash, Disk}
-use Rattle.site.specs.State.{Image}
-use Rattle.engine.specs.Paging.{cache_on}
-use Rattle.std.proofs.Common.{◌≡◌, ◌∙◌, ◌-◌, ◌≤◌, List, [], Option, sym, subst, arith, ap}
-use Rattle.site.specs.declared.geometry.Geometry.{Geometry}
-use Rattle.checkpoint.specs.declared.master.Master.{Master}
-use Rattle.log_records.specs.declared.log_record.LogRecord.{LogRecord}
-use Rattle.log_store.specs.declared.store.LogStore.{LogStore}
-use Rattle.log_store.specs.Representation as log_store
-use Rattle.sealed_ring.specs.Ring.{hi_of}
-use Rattle.image_changes.specs.Rings.{log_shape, segment_shape}
+use Rattle.engine.proofs.Names.{◌≡◌, ◌∙◌, ◌-◌, ◌≤◌, List, [], Option, sym, subst, arith, ap, Master, IsSound, read_of, cache_on, groups_on, log_shape, segment_shape, AreOctetsSoundUnder, kept_by, saved_by, LogRecord, LogStore, region, hi_of, stays_honest, unchanged_in_sequence, goes_in_sequence, err_again, IsUnchanged, Image, Geometry, Log, Flash, Disk, Foreign}
 use Rattle.sealed_ring.specs.declared.slots.Shape.{Shape}
-use Rattle.sealed_ring.specs.Ready.{region}
-use Rattle.engine.specs.Image.{IsSound}
-use Rattle.site.proofs.Laws.{stays_honest, unchanged_in_sequence, goes_in_sequence}
-use Rattle.site.specs.declared.outside.Stop.TheVariants.{Foreign}
-use Rattle.image_meaning.specs.Meaning.{AreOctetsSoundUnder, kept_by, saved_by}
-use Rattle.flash_cache.specs.Representation.{groups_on}
 use Rattle.engine.proofs.Openings.{has_groups, first_on, there_is_newest, masters_form, kept_is, both_go_on, readable_now, ready_now}
-use Rattle.engine.specs.Judged.{read_of}
 use Rattle.std.specs.Prelude.{IsTrue}
-use Rattle.site.specs.Calls.{IsUnchanged}
 use Rattle.engine.proofs.restart.open.Given.{Over}
 use Rattle.engine.proofs.restart.open.Goals.{After-newest}
+use Rattle.log_store.specs.Representation as log_store
 use Rattle.engine.proofs.restart.open.Goals as goal
 
 pub returns-in-Err-start-clause-readable : goal.returns-in-Err-start-clause-readable

@@ -1,60 +1,18 @@
-use Rattle.redo_undo.proofs.StoreCalling.{where_two}
-use Rattle.std.proofs.Common.{◌≡◌, ◌∙◌, ◌++◌, Err, List, [], false, ap, sym, subst, arith, ◌≤◌, refl, ℕ, ◌+◌, length}
-use Rattle.site.specs.declared.geometry.Geometry.{Geometry}
-use Rattle.site.specs.declared.outside.Stop.TheVariants.{Foreign}
-use Rattle.site.specs.State.{IsQuiet, State}
-use Rattle.site.specs.declared.outside.Stop.{Stop}
-use Rattle.checkpoint.specs.declared.master.Master.{Master}
-use Rattle.record_model.specs.State.{Content}
-use Rattle.log_records.specs.declared.log_record.LogRecord.{LogRecord}
-use Rattle.log_records.specs.Unfinished.{owed, pending}
-use Rattle.log_records.specs.Sound.{LogicalImage}
-use Rattle.redo_laws.specs.Numbers.{SkipsNone}
-use Rattle.redo_undo.specs.declared.store.TransactionStore.{TransactionStore}
-use Rattle.engine.specs.declared.restart.Restarted.{Restarted}
-use Rattle.engine.specs.Restarting.{IsReady, RestartedAs, found_store}
-use Rattle.log_store.specs.Representation.{has_tail}
+use Rattle.engine.proofs.Names.{◌≡◌, ◌∙◌, ◌++◌, List, [], false, ap, sym, subst, arith, ◌≤◌, refl, ℕ, ◌+◌, length, Ok, OnOk, Result, owed_for, listed, Master, Pair, Ends, log_under, LeavesTable, IsReady, RestartedAs, found_store, found_machine, Restarted, under_leaves_for, logical_image_under, Entry, LogicalImage, owed, pending, LogRecord, has_tail, fits_queue, Content, asks_then, asks_stopped, ends_failed, ends_answered, ends_leaving, skips_on, then_skips, StepsMachine, redo_works, undo_works, checkpoint_works, SkipsNone, store_next, next_then, finds_kept, where_two, Mirrors, KeepsNext, HasCheckpoint, TransactionStore, performs_answered, performs_by, performs_failed, performs_refused, performs_stopped, performs_then, saves, Performs, redo_work, undo_work, Rules, stays_honest, calls_then, calls_failed, calls_answered, calls_refused, IsQuiet, Site as State, Calls, Geometry, Stop, Foreign}
+use Rattle.std.proofs.Common.{Err}
 use Rattle.page_store.specs.Caching.{rules}
-use Rattle.checkpoint.specs.declared.pairs.Pair.{Pair}
-use Rattle.image_meaning.specs.Meaning.{logical_image_under}
-use Rattle.image_meaning.proofs.Leaving.{under_leaves_for}
-use Rattle.redo_laws.specs.Holding as both
-use Rattle.redo_laws.specs.MachineSteps.{StepsMachine, redo_works, undo_works, checkpoint_works}
-use Rattle.redo_undo.proofs.Saved.{finds_kept}
 use Rattle.redo_undo.specs.declared.redo_pass.Redone.{Redone}
-use Rattle.second_chance.specs.Machine.{Rules}
-use Rattle.engine.specs.Calls.{Ends}
 use Rattle.engine.proofs.Calling.{ends_then}
-use Rattle.redo_laws.proofs.Endings.{ends_failed, ends_answered, ends_leaving}
-use Rattle.redo_undo.specs.Stores.{HasCheckpoint}
-use Rattle.engine.specs.Image.{log_under}
-use Rattle.engine.specs.Leaves.{LeavesTable}
-use Rattle.page_store.proofs.StagingLaws.{fits_queue}
-use Rattle.engine.proofs.Asking.{from_ok, from_err, from_stopped, writes_stopped}
-use Rattle.site.specs.Work.{Calls}
+use Rattle.engine.proofs.Asking.{from_ok, from_err, from_stopped, writes_stopped, staged_from}
 use Rattle.engine.proofs.Recovers.{no_tail_still, kept_of, owed_found, commits_fit, commits_found, may_be_made, restarted_as, restarts_stopped}
 use Rattle.engine.proofs.RingCounts.{opened_next, restart_failed, restart_done}
-use Rattle.redo_laws.proofs.RingNumbers.{skips_on, then_skips}
-use Rattle.std.specs.Prelude.{Ok, OnOk, Option, Result, IsTrue}
-use Rattle.site.proofs.Laws.{stays_honest}
+use Rattle.std.specs.Prelude.{Option, IsTrue}
 use Rattle.page_store.proofs.NextUnits.{next_then as next_pages}
-use Rattle.redo_undo.specs.StoreCalls.{KeepsNext}
-use Rattle.redo_undo.proofs.NextUnits.{store_next, next_then}
 use Rattle.engine.proofs.RestartedUnits.{next_at_error, next_not_worn, next_at_end}
-use Rattle.analysis.specs.Open.{owed_for}
-use Rattle.analysis.specs.Table.{listed}
-use Rattle.site.proofs.Working.{calls_then, calls_failed, calls_answered, calls_refused}
-use Rattle.redo_laws.proofs.Asking.{asks_then, asks_stopped}
-use Rattle.log_records.specs.Log.{Entry}
-use Rattle.ring_machine.specs.Commands.{saves}
-use Rattle.ring_machine.specs.Restart.{redo_work, undo_work}
-use Rattle.ring_machine.specs.Performing.{Performs}
-use Rattle.ring_machine.proofs.Performing.{performs_answered, performs_by, performs_failed, performs_refused, performs_stopped, performs_then}
-use Rattle.redo_undo.specs.Mirroring.{Mirrors}
-use Rattle.engine.specs.RingWork.{found_machine}
 use Rattle.engine.proofs.RestartedRings.{performs_of, redo_performs, restart_saves_none, store_from}
 use Rattle.engine.proofs.restart.recover.Given.{Over}
 use Rattle.engine.proofs.restart.recover.Goals.{After-checkpoint, After-undo_all}
+use Rattle.redo_laws.specs.Holding as both
 use Rattle.engine.proofs.restart.recover.Goals as goal
 
 pub returns-in-Err-clause-recovers : goal.returns-in-Err-clause-recovers
@@ -216,7 +174,7 @@ returns-in-Ok-checkpoint-clause-recovers g c newest blocks table commits h =
       asks = from_ok c.in-Ok-checkpoint.field-0 _ _ _ _ _ _ _ _ refl (λ dev. refl) behind.2;
       writes = behind.2.stages.writes (fits_queue c.args.opened.pages _ c.requires.may.going.pages_going h.opened_is.ready.pages);
       log_reads = read_of g s newest blocks table commits h;
-      last = behind.2.stages.last (fits_queue c.args.opened.pages _ c.requires.may.going.pages_going h.opened_is.ready.pages);
+      last = staged_from _ _ _ _ _ _ behind.2 (fits_queue c.args.opened.pages _ c.requires.may.going.pages_going h.opened_is.ready.pages);
     }
 
 pub returns-clause-recovers : goal.returns-clause-recovers
@@ -232,7 +190,7 @@ returns-clause-recovers g c newest blocks table commits h =
       asks = from_err c.in-Err-checkpoint.stop _ _ _ _ _ _ behind.2;
       writes = behind.2.stages.writes (fits_queue c.args.opened.pages _ c.requires.may.going.pages_going h.opened_is.ready.pages);
       log_reads = read_of g s newest blocks table commits h;
-      last = behind.2.stages.last (fits_queue c.args.opened.pages _ c.requires.may.going.pages_going h.opened_is.ready.pages);
+      last = staged_from _ _ _ _ _ _ behind.2 (fits_queue c.args.opened.pages _ c.requires.may.going.pages_going h.opened_is.ready.pages);
     }
 
 pub returns-in-Ok-checkpoint-clause-restarts : goal.returns-in-Ok-checkpoint-clause-restarts

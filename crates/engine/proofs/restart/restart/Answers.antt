@@ -1,44 +1,15 @@
+use Rattle.engine.proofs.Names.{◌≡◌, ◌∙◌, sym, subst, ap, refl, arith, ℕ, List, Ok, Err, IfOk, OnOk, Master, Ends, IsSound, sizes_of, IsLegible, read_of, LeavesTable, cache_on, restart_works, IsReady, LeavesNext, RestartedAs, Opened, start_reads, log_shape, master_shape, logical_image_under, table_of, Means, commit_count, LogicalImage, LogRecord, PageStore, if_ok_two, numbers_rise, ends_ok, performs_refused, restart_work, hi_of, rules_of, stays_honest, ok_as, calls_failed, err_again, Site as State, Geometry, Log, Flash, Worn, Foreign}
 use Rattle.engine.proofs.Recovers.{restarts_stopped}
 use Rattle.engine.proofs.restart.restart.Goals.{In-Ok-open}
 use Rattle.engine.proofs.restart.restart.Given.{Over}
-use Rattle.page_store.specs.declared.store.PageStore.{PageStore}
-use Rattle.log_records.specs.declared.log_record.LogRecord.{LogRecord}
-use Rattle.checkpoint.specs.declared.master.Master.{Master}
-use Rattle.redo_laws.proofs.Costs.{numbers_rise}
-use Rattle.flash_cache.specs.Representation.{start_reads}
-use Rattle.engine.specs.Paging.{cache_on, restart_works}
-use Rattle.second_chance.specs.Machine.{rules_of}
-use Rattle.site.specs.declared.outside.Dev.TheVariants.{Log, Flash}
-use Rattle.site.specs.declared.outside.Stop.TheVariants.{Worn, Foreign}
-use Rattle.log_records.specs.Log.{table_of}
 use Rattle.page_store.specs.Caching.{cache_of, rules}
-use Rattle.site.proofs.Working.{ok_as, calls_failed, err_again}
 use Rattle.engine.proofs.Asking.{from_found, last_found, not_found, still_writes, writes_found}
-use Rattle.std.specs.Prelude.{Ok, Err, IfOk, OnOk, IsTrue, Option}
+use Rattle.std.specs.Prelude.{IsTrue, Option}
 use Rattle.log_judge.specs.Rules.{IsJudged}
-use Rattle.engine.specs.Judged.{IsLegible, read_of}
-use Rattle.std.proofs.Common.{◌≡◌, ◌∙◌, sym, subst, ap, refl, arith, ℕ, List}
-use Rattle.site.specs.State.{State}
-use Rattle.site.specs.declared.geometry.Geometry.{Geometry}
-use Rattle.log_records.specs.Sound.{Means, commit_count, LogicalImage}
-use Rattle.image_meaning.specs.Meaning.{logical_image_under}
-use Rattle.engine.specs.Invariant.{sizes_of}
-use Rattle.engine.specs.Image.{IsSound}
-use Rattle.site.proofs.Laws.{stays_honest}
-use Rattle.engine.specs.Restarting.{IsReady, LeavesNext, RestartedAs}
-use Rattle.engine.specs.declared.restart.Opened.{Opened}
-use Rattle.engine.specs.Leaves.{LeavesTable}
-use Rattle.engine.specs.Calls.{Ends}
 use Rattle.engine.proofs.Calling.{calls_stopped, calls_behind, ends_then}
-use Rattle.redo_laws.proofs.Endings.{ends_ok}
 use Rattle.engine.proofs.Openings.{stands_still}
 use Rattle.engine.proofs.RestartedUnits.{next_not_worn}
 use Rattle.engine.proofs.RingCounts.{restart_unmoved, restart_behind}
-use Rattle.redo_laws.proofs.Appended.{if_ok_two}
-use Rattle.image_changes.specs.Rings.{log_shape, master_shape}
-use Rattle.sealed_ring.specs.Ring.{hi_of}
-use Rattle.ring_machine.specs.Restart.{restart_work}
-use Rattle.ring_machine.proofs.Performing.{performs_refused}
 use Rattle.engine.proofs.RestartedRings.{found_on, performs_found}
 use Rattle.engine.proofs.restart.restart.Goals as goal
 

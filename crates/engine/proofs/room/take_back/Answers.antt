@@ -1,5 +1,4 @@
-use Rattle.std.proofs.Common.{◌≡◌, ℕ, subst, rules, arith}
-use Rattle.engine.specs.PageTests.{AreTakenBack}
+use Rattle.engine.proofs.Names.{◌≡◌, ℕ, subst, rules, arith, AreTakenBack}
 use Rattle.engine.proofs.FootprintChanges.{nothing_taken, one_taken}
 use Rattle.engine.proofs.room.take_back.Goals as goal
 

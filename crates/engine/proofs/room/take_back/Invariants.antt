@@ -1,4 +1,4 @@
-use Rattle.engine.specs.PageTests.{AreTakenBack}
+use Rattle.engine.proofs.Names.{AreTakenBack}
 use Rattle.engine.proofs.room.take_back.Given as goal
 
 abbrev pub invariant-loop-turn : goal.invariant-loop-turn

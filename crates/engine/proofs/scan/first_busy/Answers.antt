@@ -1,4 +1,4 @@
-use Rattle.std.proofs.Common.{sym}
+use Rattle.engine.proofs.Names.{sym}
 use Rattle.engine.proofs.Scans.{none_more, busy_at}
 use Rattle.engine.proofs.scan.first_busy.Goals as goal
 

@@ -1,6 +1,4 @@
-use Rattle.std.proofs.Common.{◌≡◌, None}
-use Rattle.std.specs.List.{range_with_len}
-use Rattle.engine.specs.Scans.{first_busy}
+use Rattle.engine.proofs.Names.{◌≡◌, None, range_with_len, first_busy}
 use Rattle.engine.proofs.scan.first_busy.Given as goal
 
 abbrev pub invariant-loop-offset : goal.invariant-loop-offset

@@ -1,5 +1,4 @@
-use Rattle.std.proofs.Common.{◌∙◌, ap}
-use Rattle.txn_table.specs.Entries.{entry_of}
+use Rattle.engine.proofs.Names.{◌∙◌, ap, entry_of}
 use Rattle.engine.proofs.Namings.{counted_entries}
 use Rattle.engine.proofs.sessions.count_from.Goals as goal
 

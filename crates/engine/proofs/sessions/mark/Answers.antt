@@ -1,9 +1,4 @@
-use Rattle.std.proofs.Common.{◌≡◌, ◌+◌, Option, ap, arith}
-use Rattle.std.specs.Option.{option_map_or}
-use Rattle.std.specs.Prelude.{option_map}
-use Rattle.txn_table.specs.declared.active.Active.{Active}
-use Rattle.txn_table.specs.Entries.{after_mark}
-use Rattle.txn_table.proofs.Owing.{owed_changes, owed_one, owed_at, entry_is}
+use Rattle.engine.proofs.Names.{◌≡◌, ◌+◌, Option, ap, arith, option_map_or, option_map, owed_changes, owed_one, owed_at, entry_is, after_mark, Active}
 use Rattle.engine.proofs.sessions.mark.Goals as goal
 
 pub returns-clause-owed : goal.returns-clause-owed

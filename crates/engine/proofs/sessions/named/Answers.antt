@@ -1,5 +1,4 @@
-use Rattle.std.proofs.Common.{◌≡◌, ◌++◌, ◌∷◌, [], ap, subst, sym, ◌∙◌, length, take, arith}
-use Rattle.checkpoint.specs.Actives.{Ascend}
+use Rattle.engine.proofs.Names.{◌≡◌, ◌++◌, ◌∷◌, [], ap, subst, sym, ◌∙◌, length, take, arith, Ascend}
 use Rattle.engine.proofs.Namings.{pair_of, pairs_of, one_more, length-named, all-named, ascending}
 use Rattle.engine.proofs.sessions.named.Goals as goal
 

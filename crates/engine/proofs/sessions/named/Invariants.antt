@@ -1,4 +1,4 @@
-use Rattle.std.proofs.Common.{◌≡◌, take}
+use Rattle.engine.proofs.Names.{◌≡◌, take}
 use Rattle.engine.proofs.Namings.{pairs_of}
 use Rattle.engine.proofs.sessions.named.Given as goal
 

@@ -19,7 +19,7 @@ returns-in-Ok-tell_reply-clause-course g c =
     let t = c.tell_reply.ensures in
     all_told c.in-Ok.reply _ _ _ _ mid new c.in-Ok.ensures.course {piece = reply_text c.in-Ok.reply} {told = c.tell_reply.result}
     (record { any_moment = t.any_moment; told = t.told; devices = t.same; cause = t.cause; reads = t.reads; preserves = t.preserves; faults = t.faults }) _
-    (λ honest. calls_told (sizes_of c.args.engine.now.store) (reply_text c.in-Ok.reply) mid new (t.same honest).image (c.in-Ok-tell_reply.ensures.told honest) (c.in-Ok-tell_reply.ensures.tells_only honest)) c.in-Ok-tell_reply.ensures.faults
+    (λ honest. calls_told (sizes_of c.args.engine.now.store) (reply_text c.in-Ok.reply) mid new (t.same honest).image (c.in-Ok-tell_reply.ensures.told honest) (t.any_moment honest).grown (c.in-Ok-tell_reply.ensures.tells_only honest)) c.in-Ok-tell_reply.ensures.faults
 
 pub returns-in-Ok-tell_reply-clause-tells : goal.returns-in-Ok-tell_reply-clause-tells
 returns-in-Ok-tell_reply-clause-tells g c s listing asked fits quiet =

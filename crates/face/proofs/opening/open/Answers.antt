@@ -10,7 +10,7 @@ use Rattle.second_chance.specs.Machine.{rules_of}
 use Rattle.ring_machine.specs.Machine.{RingOp, first_worn}
 use Rattle.ring_machine.specs.Restart.{restart_work}
 use Rattle.engine.specs.Image.{log_under}
-use Rattle.engine.specs.Paging.{HasLastFrom, restart_works, cache_on}
+use Rattle.engine.specs.Paging.{HasStagedFrom, restart_works, cache_on}
 use Rattle.engine.specs.RingWork.{machine_on}
 use Rattle.shell_text.specs.Texts.{open_text}
 use Rattle.front_end.specs.Texts.{status_of}
@@ -22,6 +22,7 @@ use Rattle.face.specs.Run.{Run, first_lines}
 use Rattle.engine.specs.declared.engine.Engine.{Engine}
 use Rattle.face.proofs.Carrying.{stop_faults}
 use Rattle.face.proofs.Going.{ends_told, ends_untold}
+use Rattle.page_store.proofs.Counting.{unsynced_told}
 use Rattle.face.proofs.CallCounts.{calls_told}
 use Rattle.face.proofs.CommandLaws.{start_cause}
 use Rattle.face.proofs.Counted.{first_counted, restart_numbers, restart_told}
@@ -139,14 +140,14 @@ returns-in-Ok-tell_all-clause-opens g c run good =
       paged = λ newest blocks sound. first_paged c.args.pool run newest old.image blocks c.in-Ok.engine _ _ _ (c.in-Ok.ensures.asks good.honest run.geometry newest blocks sound);
       mirrored = λ newest blocks sound. opened_performs run newest old.image blocks c.in-Ok.engine same.image (c.in-Ok.ensures.performs good.honest run.geometry newest blocks sound);
       counted = λ newest blocks sound. first_counted run (log_under newest blocks) old c.in-Ok.engine _ mid new each
-          (calls_told run.geometry c.as_slice.result.now mid new same.image (c.in-Ok-tell_all.ensures.told honest) (c.in-Ok-tell_all.ensures.tells_only honest)) (c.in-Ok.ensures.numbers good.honest good.quiet run.geometry newest blocks sound);
+          (calls_told run.geometry c.as_slice.result.now mid new same.image (c.in-Ok-tell_all.ensures.told honest) each.grown (c.in-Ok-tell_all.ensures.tells_only honest)) (c.in-Ok.ensures.numbers good.honest good.quiet run.geometry newest blocks sound);
       reads = λ newest blocks sound. first_reads c.args.pool run newest old.image blocks c.start.result (λ e. e.store.pages) old mid new c.tell_all.ensures.reads
           (writes_told run.geometry r (restart_works (logical_image_under newest run.geometry old.image blocks)) (cache_on run.geometry old.image) _ old mid new (c.start.ensures.writes good.honest good.quiet run.geometry newest blocks sound) each)
           (c.start.ensures.asks good.honest run.geometry newest blocks sound) (c.start.ensures.log_reads good.honest run.geometry newest blocks sound);
       staged = λ newest blocks sound.
           let restart = restart_works (logical_image_under newest run.geometry old.image blocks) in
-          subst (λ (w : List CacheOp). HasLastFrom run.geometry r w (cache_on run.geometry old.image) old new) (sym (append-nil restart))
-          (last_told run.geometry r restart (cache_on run.geometry old.image) _ old mid new (c.start.ensures.writes good.honest good.quiet run.geometry newest blocks sound).grown each (c.in-Ok.ensures.last good.honest good.quiet run.geometry newest blocks sound));
+          subst (λ (w : List CacheOp). HasStagedFrom run.geometry r w (cache_on run.geometry old.image) old new) (sym (append-nil restart))
+          (last_told run.geometry r restart (cache_on run.geometry old.image) _ old mid new (c.start.ensures.writes good.honest good.quiet run.geometry newest blocks sound).grown each (unsynced_told mid new each.grown (c.in-Ok-tell_all.ensures.tells_only honest).works) (c.in-Ok.ensures.last good.honest good.quiet run.geometry newest blocks sound));
     }) (c.in-Ok-tell_all.ensures.told honest) (tells_done g (goal.at.returns-in-Ok-tell_all-clause-opens g c).After-tell_all run good)
 
 pub returns-in-Ok-tell_all-clause-going : goal.returns-in-Ok-tell_all-clause-going

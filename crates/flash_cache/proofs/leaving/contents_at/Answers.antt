@@ -1,12 +1,6 @@
-use Rattle.std.proofs.Common.{◌≡◌, ℕ, ◌+◌, List, length, ◌++◌, ◌∷◌, [], sym, ◌∙◌, ap, arith}
+use Rattle.flash_cache.proofs.Names.{◌≡◌, ℕ, ◌+◌, List, length, ◌++◌, ◌∷◌, [], sym, ◌∙◌, ap, arith, page_at, region, units_in, RingFits, hi_of, unit_at, stays_honest, State, Image, Flash}
 use Rattle.std.proofs.lemmas.List.{length-append}
-use Rattle.site.specs.State.{State, Image}
-use Rattle.site.proofs.Laws.{stays_honest}
-use Rattle.site.specs.declared.outside.Dev.TheVariants.{Flash}
 use Rattle.sealed_ring.proofs.Lookups.{reads_then, reads_answered}
-use Rattle.sealed_ring.specs.Ring.{hi_of, unit_at}
-use Rattle.sealed_ring.specs.Ready.{region, units_in, Matches as RingFits}
-use Rattle.flash_cache.specs.Leaving.{page_at}
 use Rattle.flash_cache.proofs.Gathering.{mapped_more}
 use Rattle.flash_cache.proofs.leaving.contents_at.Goals as goal
 

@@ -1,10 +1,6 @@
-use Rattle.std.proofs.Common.{◌≡◌, length, map, take, IsTrue}
-use Rattle.std.specs.Prelude.{Ok}
-use Rattle.site.specs.declared.outside.Dev.TheVariants.{Flash}
+use Rattle.flash_cache.proofs.Names.{◌≡◌, length, map, take, Ok, page_at, units_in, RingFits, unit_at, Flash}
+use Rattle.std.proofs.Common.{IsTrue}
 use Rattle.sealed_ring.specs.Reading.{ReadsFrom}
-use Rattle.sealed_ring.specs.Ring.{unit_at}
-use Rattle.sealed_ring.specs.Ready.{units_in, Matches as RingFits}
-use Rattle.flash_cache.specs.Leaving.{page_at}
 use Rattle.flash_cache.proofs.leaving.contents_at.Given as goal
 
 abbrev pub invariant-loop-index : goal.invariant-loop-index

@@ -1,5 +1,4 @@
-use Rattle.std.proofs.Common.{ℕ, Bool, List, ◌++◌, ◌∷◌, [], sym, ap, ◌∙◌}
-use Rattle.flash_cache.specs.Leaving.{mark_at}
+use Rattle.flash_cache.proofs.Names.{ℕ, Bool, List, ◌++◌, ◌∷◌, [], sym, ap, ◌∙◌, mark_at}
 use Rattle.flash_cache.proofs.Gathering.{mapped_more}
 use Rattle.flash_cache.proofs.leaving.pages_at.Goals as goal
 

@@ -1,5 +1,4 @@
-use Rattle.std.proofs.Common.{◌≡◌, map, take}
-use Rattle.flash_cache.specs.Leaving.{mark_at}
+use Rattle.flash_cache.proofs.Names.{◌≡◌, map, take, mark_at}
 use Rattle.flash_cache.proofs.leaving.pages_at.Given as goal
 
 abbrev pub invariant-loop-index : goal.invariant-loop-index

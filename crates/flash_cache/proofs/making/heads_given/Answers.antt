@@ -1,11 +1,6 @@
-use Rattle.std.proofs.Common.{rules, ◌≡◌, ◌<◌, ◌^◌, ℕ, List, [], length, get_or, false, true, sym, ◌∙◌, ap, subst, arith, add-one}
-use Rattle.std.specs.Prelude.{slice_set}
-use Rattle.std.proofs.lemmas.List.{get_or_default, take_all, length-take-le}
-use Rattle.std.specs.List.{AllByRecursion}
-use Rattle.std_lemmas.proofs.AllOf.{all_push}
-use Rattle.byte_fields.specs.declared.frame_head.FrameHead.{FrameHead}
-use Rattle.frame_group.specs.Groups.{Frame, IsFrame, heads_of, lsn_of}
-use Rattle.flash_cache.specs.Pushed.{frames_given}
+use Rattle.flash_cache.proofs.Names.{rules, ◌≡◌, ◌<◌, ℕ, List, [], length, get_or, false, true, sym, ◌∙◌, ap, subst, arith, add-one, get_or_default, take_all, length-take-le, AllByRecursion, slice_set, FrameHead, frames_given, Frame, IsFrame, heads_of, all_push}
+use Rattle.std.proofs.Common.{◌^◌}
+use Rattle.frame_group.specs.Groups.{lsn_of}
 use Rattle.flash_cache.proofs.Given.{given_before, frame_at_place, same_lsn, length-given, one_more}
 use Rattle.flash_cache.proofs.Heads.{next_head}
 use Rattle.flash_cache.proofs.making.heads_given.Goals as goal

@@ -1,6 +1,4 @@
-use Rattle.std.proofs.Common.{◌≡◌}
-use Rattle.std.specs.List.{AllByRecursion}
-use Rattle.frame_group.specs.Groups.{IsFrame, heads_of}
+use Rattle.flash_cache.proofs.Names.{◌≡◌, AllByRecursion, IsFrame, heads_of}
 use Rattle.flash_cache.proofs.Given.{given_before}
 use Rattle.flash_cache.proofs.making.heads_given.Given as goal
 

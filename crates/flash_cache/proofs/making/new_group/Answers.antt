@@ -1,9 +1,4 @@
-use Rattle.std.proofs.Common.{rules, ◌≡◌, ℕ, length, replicate, [], refl, sym, ◌∙◌, ap, subst}
-use Rattle.std.proofs.lemmas.List.{length-replicate}
-use Rattle.frame_group.specs.Groups.{heads_of}
-use Rattle.frame_group.proofs.Pages.{zeros_have_no_frames}
-use Rattle.flash_cache.specs.Leaving.{frames_with, again, IsMadeOf}
-use Rattle.flash_cache.specs.Pushed.{frames_given}
+use Rattle.flash_cache.proofs.Names.{rules, ◌≡◌, ℕ, length, replicate, [], refl, sym, ◌∙◌, ap, subst, length-replicate, frames_with, again, IsMadeOf, frames_given, zeros_have_no_frames, heads_of}
 use Rattle.flash_cache.proofs.Given.{length-given}
 use Rattle.flash_cache.proofs.Heads.{heads_make}
 use Rattle.flash_cache.proofs.making.new_group.Goals.{After-heads_given-first}

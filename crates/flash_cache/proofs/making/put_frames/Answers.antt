@@ -1,13 +1,5 @@
-use Rattle.std.specs.Prelude.{slice_set}
-use Rattle.std.proofs.Common.{◌≡◌, ◌+◌, ◌<◌, ◌≤◌, ℕ, List, [], ◌∷◌, ◌++◌, length, get_or, take, sym, ◌∙◌, ap, subst, arith, append_assoc, length-append}
-use Rattle.std.proofs.lemmas.List.{get_or_default, take_all, take_more, length-take-le}
-use Rattle.std.specs.List.{AllByRecursion}
-use Rattle.std_lemmas.proofs.AllOf.{all_push}
-use Rattle.byte_fields.specs.declared.frame_head.FrameHead.{FrameHead}
-use Rattle.byte_fields.specs.FrameHeads.{blank}
-use Rattle.frame_group.specs.Groups.{Frame, IsFrame, group, heads_of, frame_of, lsn_of}
-use Rattle.flash_cache.specs.Leaving.{frames_with, IsMadeOf}
-use Rattle.flash_cache.specs.Pushed.{no_frame}
+use Rattle.flash_cache.proofs.Names.{◌≡◌, ◌+◌, ◌<◌, ◌≤◌, ℕ, List, [], ◌∷◌, ◌++◌, length, get_or, take, sym, ◌∙◌, ap, subst, arith, append_assoc, length-append, get_or_default, take_all, take_more, length-take-le, AllByRecursion, slice_set, blank, FrameHead, frames_with, IsMadeOf, no_frame, Frame, IsFrame, group, heads_of, frame_of, all_push}
+use Rattle.frame_group.specs.Groups.{lsn_of}
 use Rattle.flash_cache.proofs.Heads.{is_with, is_with_all, next_head}
 use Rattle.flash_cache.proofs.making.put_frames.Goals as goal
 

@@ -1,7 +1,4 @@
-use Rattle.std.proofs.Common.{◌≡◌, ◌++◌, List, length, take}
-use Rattle.std.specs.List.{AllByRecursion}
-use Rattle.frame_group.specs.Groups.{Frame, IsFrame}
-use Rattle.flash_cache.specs.Leaving.{frames_with, IsMadeOf}
+use Rattle.flash_cache.proofs.Names.{◌≡◌, ◌++◌, List, length, take, AllByRecursion, frames_with, IsMadeOf, Frame, IsFrame}
 use Rattle.flash_cache.proofs.making.put_frames.Given as goal
 
 abbrev pub invariant-loop-index : goal.invariant-loop-index

@@ -1,5 +1,4 @@
-use Rattle.std.proofs.Common.{nat_eq}
-use Rattle.indexmap.specs.IndexMap.{get}
+use Rattle.flash_directory.proofs.Names.{nat_eq, get}
 use Rattle.flash_directory.proofs.Keeping.{places_left}
 use Rattle.flash_directory.proofs.places.drop_front_group.Goals as goal
 

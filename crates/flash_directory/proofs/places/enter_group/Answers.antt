@@ -1,5 +1,4 @@
-use Rattle.std.proofs.Common.{nat_eq, arith}
-use Rattle.indexmap.specs.IndexMap.{get}
+use Rattle.flash_directory.proofs.Names.{nat_eq, arith, get}
 use Rattle.flash_directory.proofs.Keeping.{entered_more}
 use Rattle.flash_directory.proofs.places.enter_group.Goals as goal
 

@@ -1,6 +1,4 @@
-use Rattle.std.proofs.Common.{◌≡◌, ◌+◌, ◌≤◌, ℕ, nat_eq, take}
-use Rattle.indexmap.specs.IndexMap.{get, spare}
-use Rattle.flash_directory.specs.Places.{newer}
+use Rattle.flash_directory.proofs.Names.{◌≡◌, ◌+◌, ◌≤◌, ℕ, nat_eq, take, newer, get, spare}
 use Rattle.flash_directory.proofs.places.enter_group.Given as goal
 
 abbrev pub invariant-loop-index : goal.invariant-loop-index

@@ -1,7 +1,4 @@
-use Rattle.std.proofs.Common.{◌≡◌, ◌≤◌, ℕ, nat_eq, take, if◌then◌else◌}
-use Rattle.indexmap.specs.IndexMap.{get, spare}
-use Rattle.second_chance.specs.Queue.{in_group}
-use Rattle.flash_directory.specs.Places.{elsewhere}
+use Rattle.flash_directory.proofs.Names.{◌≡◌, ◌≤◌, ℕ, nat_eq, take, if◌then◌else◌, elsewhere, get, spare, in_group}
 use Rattle.flash_directory.proofs.places.forget_group.Given as goal
 
 abbrev pub invariant-loop-frame : goal.invariant-loop-frame

@@ -7,7 +7,7 @@ use Rattle.image_check.specs.declared.verdict.Verdict.{Verdict}
 use Rattle.front_end.specs.Check.{verdict_line}
 use Rattle.front_end.specs.Texts.{fault_line}
 use Rattle.front_end.specs.declared.halt.Halt.TheVariants as halt
-use Rattle.front_end.proofs.CheckLaws.{answer_stopped, answer_told, answer_untold, checked, contract, fails_unread, first_verdict, never_stopped, no_verdict, six_is_neither, stopped_others, told_others}
+use Rattle.front_end.proofs.CheckLaws.{answer_stopped, answer_told, answer_untold, checked, contract, fails_unread, first_verdict, looks_told, never_stopped, no_verdict, six_is_neither, stopped_others, told_others}
 use Rattle.front_end.proofs.Firsts.{first_halted, first_untold, work_halts}
 use Rattle.front_end.proofs.check.serve_check.Goals as goal
 
@@ -25,6 +25,7 @@ returns-in-Ok-tell_verdict-clause-check g c =
     (told_others v status c.status_of.ensures)
     (λ none. inl (fails_unread c.judge.result v old mid new status c.tell_verdict.result c.in-Ok.is (c.judge.ensures.sizes none) (inl c.status_of.ensures) c.tell_verdict.ensures))
     (λ done. c.in-Ok-tell_verdict.ensures.faults ∙ c.in-Ok.ensures.reads.faults)
+    (looks_told old mid new c.judge.ensures.looks c.tell_verdict.ensures.reads)
 
 pub returns-in-Err-tell_verdict-clause-check : goal.returns-in-Err-tell_verdict-clause-check
 returns-in-Err-tell_verdict-clause-check g c =
@@ -39,6 +40,7 @@ returns-in-Err-tell_verdict-clause-check g c =
     (inr (inr (inr (inl refl))))
     (λ none. inl (fails_unread c.judge.result v old mid new 6 c.tell_verdict.result c.in-Ok.is (c.judge.ensures.sizes none) (inr refl) c.tell_verdict.ensures))
     (λ done. absurd (six_is_neither 6 refl done))
+    (looks_told old mid new c.judge.ensures.looks c.tell_verdict.ensures.reads)
 
 pub returns-in-Err-clause-check : goal.returns-in-Err-clause-check
 returns-in-Err-clause-check g c =
@@ -54,6 +56,7 @@ returns-in-Err-clause-check g c =
     (stopped_others stop status c.status.ensures c.in-Err.ensures.reads.stops)
     (λ none. absurd (no_verdict c.judge.result stop _ c.in-Err.is (c.judge.ensures.sizes none).0))
     (λ done. absurd (never_stopped stop status c.status.ensures c.in-Err.ensures.reads.stops done))
+    (looks_told old mid new c.judge.ensures.looks c.tell_halt.ensures.reads)
 
 pub returns-in-Ok-tell_verdict-clause-first : goal.returns-in-Ok-tell_verdict-clause-first
 returns-in-Ok-tell_verdict-clause-first g c = first_verdict c.in-Ok.verdict c.status_of.result _ _ c.status_of.ensures (c.in-Ok-tell_verdict.ensures.faults ∙ c.in-Ok.ensures.reads.faults)

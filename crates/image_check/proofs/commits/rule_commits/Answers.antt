@@ -1,10 +1,6 @@
-use Rattle.std.proofs.Common.{◌≡◌, ◌/◌, [], true≢false, sym, ap, ◌∙◌, subst, arith}
-use Rattle.std.proofs.lemmas.List.{append-nil}
-use Rattle.log_records.specs.Sound.{commit_numbers}
-use Rattle.image_check.specs.Counting.{Heard, NumbersAre, Fit}
-use Rattle.image_check.specs.Judging.{reading_of, records_of}
-use Rattle.image_form.specs.Verdict.{logical_image_of}
-use Rattle.image_check.proofs.Numbering.{numbered, fits, counted_all, heard_few}
+use Rattle.image_check.proofs.Names.{◌≡◌, ◌/◌, [], true≢false, sym, ap, ◌∙◌, subst, arith, append-nil, reading_of, records_of, logical_image_of, commit_numbers}
+use Rattle.log_judge.specs.Counting.{Heard, NumbersAre, Fit}
+use Rattle.log_judge.proofs.Numbering.{numbered, fits, counted_all, heard_few}
 use Rattle.image_check.proofs.commits.rule_commits.Goals as goal
 
 pub returns-in_default : goal.returns-in_default

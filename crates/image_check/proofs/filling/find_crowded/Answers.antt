@@ -1,16 +1,7 @@
-use Rattle.std.proofs.Common.{◌≡◌, ◌==◌, ◌++◌, ◌∷◌, [], ℕ, List, true, true≢false, map, nat_eq, reverse, is_none, refl, rules, sym, ap, ◌∙◌, subst}
+use Rattle.image_check.proofs.Names.{◌≡◌, ◌==◌, ◌++◌, ◌∷◌, [], ℕ, List, true, true≢false, map, nat_eq, reverse, refl, rules, sym, ap, ◌∙◌, subst, Err, arith, AllByRecursion, list_any, AreKept, HaveRoom, Opens, left_in, opened, put_back_by, Chains, AreVersions, versions_on, get, Left, Entry, left_open, losers, looks_then, looks_answered, State, Image}
+use Rattle.std.proofs.Common.{is_none, Ok}
 use Rattle.std.specs.Prelude.{Some}
-use Rattle.std.specs.List.{AllByRecursion, list_any}
-use Rattle.site.specs.State.{State, Image}
-use Rattle.site.proofs.Working.{looks_then, looks_answered}
-use Rattle.indexmap.specs.IndexMap.{get}
-use Rattle.log_records.specs.Log.{Entry}
-use Rattle.log_records.specs.Unfinished.{left_open, losers}
-use Rattle.image_meaning.specs.Meaning.{versions_on}
-use Rattle.image_form.specs.Octets.{AreVersions}
-use Rattle.image_check.specs.declared.chains.Chains.{Chains}
-use Rattle.image_check.specs.declared.unfinished.Left.{Left}
-use Rattle.image_check.specs.Filling.{AreKept, HaveRoom, Opens, left_in, opened, put_back_by}
+use Rattle.image_check.proofs.Looks.{looked_none, looked_failed, looked_answered, looked_then}
 use Rattle.image_check.proofs.FilledOnes.{Leaving, leaving_first, leaving_chain, chain_fails, left_room, left_txns, all_listed}
 use Rattle.image_check.proofs.ShownOnes.{versions_later}
 use Rattle.image_check.proofs.Walking.{may_later}
@@ -25,7 +16,7 @@ loop-txn-init g c = record {
         subst (AllByRecursion (λ n. list_any (λ m. m == n) (losers log) ≡ true)) (sym same) (all_listed (losers log)),
       );
   chains = refl;
-  log = refl;
+  looks = looked_none tt c.args.found.now.log.geometry.pages c.args.filling.lengths.pages (g.S.Site.state c.args.site.now) (g.S.Site.state c.args.site.now) (record { log = omega arith; pages = omega arith });
   reads = search rules;
 }
 
@@ -56,7 +47,7 @@ loop-txn-preserved g c =
           (c.in-Ok-None.ensures.opens log at.done (versions_later reads finds) (subst (AreVersions geometry) (sym same) versions)) at.kept_so at.room in
           (leaving_chain log pages (put_back_by log (losers log)) c.in-Some.txn.now _ (reverse c.left_of-updates.result.now) c.loop-txn.filling.lengths.pages c.raise_all.new.lengths.pages at own c.in-Ok-None.field-0 (ap is_none c.in-Ok-None.field-0-is) opens, listed.1);
       chains = c.loop-txn.invariant.chains;
-      log = c.in-Ok-None.ensures.log ∙ c.loop-txn.invariant.log;
+      looks = looked_then tt (Ok tt) c.args.found.now.log.geometry.pages c.args.filling.lengths.pages c.loop-txn.filling.lengths.pages c.raise_all.new.lengths.pages old now next c.loop-txn.invariant.looks (looked_answered c.in-Ok-None.field-0 tt c.args.found.now.log.geometry.pages c.loop-txn.filling.lengths.pages c.raise_all.new.lengths.pages now next c.in-Ok-None.ensures.looks);
       reads = looks_then tt _ old now next reads (looks_answered c.in-Ok-None.field-0 tt now next c.in-Ok-None.ensures.reads);
     }
 
@@ -97,3 +88,12 @@ returns-clause-crowded g c log finds versions left keeps kept room =
     let both = c.loop-txn.invariant.leaving log finds versions left keeps kept room in
     let at : Leaving log pages (put_back_by log (losers log)) [] c.loop-txn.filling.lengths.pages = subst (λ (ts : List ℕ). Leaving log pages (put_back_by log (losers log)) (put_back_by log ts) c.loop-txn.filling.lengths.pages) (ap (map (λ (e : ℕ × Left). e.0)) c.in-None.ensures.steps.0) both.0 in
     (λ good. left_room log pages (put_back_by log (losers log)) c.loop-txn.filling.lengths.pages at, λ all. refl)
+
+pub returns-in-Ok-Some-clause-looks : goal.returns-in-Ok-Some-clause-looks
+returns-in-Ok-Some-clause-looks g c = (looked_then tt (Ok c.in-Ok-Some.field-0) c.args.found.now.log.geometry.pages c.args.filling.lengths.pages c.loop-txn.filling.lengths.pages c.raise_all.new.lengths.pages (g.S.Site.state c.args.site.now) (g.S.Site.state c.loop-txn.site) (g.S.Site.state c.raise_all.new.site) c.loop-txn.invariant.looks c.in-Ok-Some.ensures.looks).ends
+
+pub returns-in-Err-clause-looks : goal.returns-in-Err-clause-looks
+returns-in-Err-clause-looks g c = (looked_then {B = Unit {0}} tt (Err c.in-Err.stop) c.args.found.now.log.geometry.pages c.args.filling.lengths.pages c.loop-txn.filling.lengths.pages c.raise_all.new.lengths.pages (g.S.Site.state c.args.site.now) (g.S.Site.state c.loop-txn.site) (g.S.Site.state c.raise_all.new.site) c.loop-txn.invariant.looks (looked_failed c.in-Err.stop c.args.found.now.log.geometry.pages c.loop-txn.filling.lengths.pages c.raise_all.new.lengths.pages (g.S.Site.state c.loop-txn.site) (g.S.Site.state c.raise_all.new.site) c.in-Err.ensures.looks.ends)).ends
+
+pub returns-clause-looks : goal.returns-clause-looks
+returns-clause-looks g c = c.loop-txn.invariant.looks.ends

@@ -1,16 +1,4 @@
-use Rattle.std.proofs.Common.{◌≡◌, ◌==◌, ℕ, List, [], true, map}
-use Rattle.std.specs.Prelude.{Ok}
-use Rattle.std.specs.List.{AllByRecursion, list_any}
-use Rattle.site.specs.Work.{OnlyReads}
-use Rattle.log_records.specs.Log.{Entry}
-use Rattle.log_records.specs.Unfinished.{losers}
-use Rattle.image_meaning.specs.Meaning.{versions_on}
-use Rattle.image_form.specs.Octets.{AreVersions}
-use Rattle.image_check.specs.declared.unfinished.Left.{Left}
-use Rattle.image_check.specs.Filling.{AreKept, HaveRoom, KeepsOpen, opened, put_back_by}
-use Rattle.image_check.specs.Judging.{MayBeJudged}
-use Rattle.image_check.specs.Showing.{FindsVersions}
-use Rattle.image_check.specs.Unended.{AreLeft}
+use Rattle.image_check.proofs.Names.{◌≡◌, ◌==◌, ℕ, List, [], true, map, AllByRecursion, list_any, Ok, AreKept, HaveRoom, KeepsOpen, opened, put_back_by, MayBeJudged, LooksOnce, FindsVersions, AreVersions, versions_on, AreLeft, Left, Entry, losers, OnlyReads}
 use Rattle.image_check.proofs.FilledOnes.{Leaving}
 use Rattle.image_check.proofs.filling.find_crowded.Given as goal
 
@@ -26,6 +14,6 @@ invariant-loop-txn g l =
           Leaving log (versions_on geometry old.image) (put_back_by log (losers log)) (put_back_by log (map (λ (e : ℕ × Left). e.0) l.txn-iterator)) l.filling.lengths.pages
           × AllByRecursion (λ n. list_any (λ m. m == n) (losers log) ≡ true) (map (λ (e : ℕ × Left). e.0) l.txn-iterator);
       chains : l.filling.chains ≡ l.fn.filling.chains;
-      log : now.log_reads ≡ old.log_reads;
+      looks : LooksOnce {T = Unit {0}} geometry.pages (Ok tt) l.fn.filling.lengths.pages l.filling.lengths.pages old now;
       reads : OnlyReads {T = Unit {0}} (Ok tt) old now;
     }

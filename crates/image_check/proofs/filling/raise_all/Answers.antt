@@ -1,12 +1,6 @@
-use Rattle.std.proofs.Common.{◌≡◌, ◌-◌, ◌++◌, ◌∷◌, [], ℕ, List, suc, true≢false, length, take, reverse, refl, rules, sym, ap, ◌∙◌, subst, arith}
-use Rattle.std.proofs.lemmas.List.{take_all}
-use Rattle.site.specs.State.{State, Image}
-use Rattle.site.proofs.Working.{looks_then, looks_answered}
-use Rattle.log_records.specs.declared.log_record.LogRecord.{LogRecord}
-use Rattle.log_records.specs.Log.{number_of}
-use Rattle.image_meaning.specs.Meaning.{versions_on}
-use Rattle.image_form.specs.Octets.{AreVersions}
-use Rattle.image_check.specs.Filling.{AreKept, Fills, opened}
+use Rattle.image_check.proofs.Names.{◌≡◌, ◌-◌, ◌++◌, ◌∷◌, [], ℕ, List, suc, true≢false, length, take, reverse, refl, rules, sym, ap, ◌∙◌, subst, arith, Err, None, take_all, AreKept, Fills, opened, AreVersions, versions_on, number_of, LogRecord, looks_then, looks_answered, State, Image}
+use Rattle.std.proofs.Common.{Ok}
+use Rattle.image_check.proofs.Looks.{looked_none, looked_failed, looked_answered, looked_then}
 use Rattle.image_check.proofs.FilledOnes.{Leaving, leaving_first, leaving_more, leaving_fails, left_kept, left_room, last_first}
 use Rattle.image_check.proofs.ShownOnes.{versions_later}
 use Rattle.image_check.proofs.Walking.{may_later}
@@ -19,7 +13,7 @@ loop-left-init g c = record {
       let updates : List LogRecord = c.args.updates.now in
       leaving_first log _ (before ++ reverse updates) before (reverse (take (length updates) updates)) c.args.lengths.now.pages (ap (λ (l : List LogRecord). before ++ reverse l) (sym (take_all (length updates) updates (omega arith)))) kept room;
   few = omega arith;
-  log = search rules;
+  looks = looked_none tt c.args.found.now.log.geometry.pages c.args.lengths.now.pages (g.S.Site.state c.args.site.now) (g.S.Site.state c.args.site.now) (record { log = omega arith; pages = omega arith });
   reads = search rules;
 }
 
@@ -49,7 +43,7 @@ loop-left-preserved g c =
           (c.in-Ok-true.ensures.raised log at.done (versions_later reads finds) (subst (AreVersions geometry) (sym same) versions)) at.kept_so in
           leaving_more log pages whole u (reverse (take k updates)) c.loop-left.lengths.pages c.raise.new.self.pages at c.in-Ok-true.field-0 c.in-Ok-true.field-0-test fills;
       few = omega (arith, few);
-      log = c.in-Ok-true.ensures.log ∙ c.loop-left.invariant.log;
+      looks = looked_then tt (Ok tt) c.args.found.now.log.geometry.pages c.args.lengths.now.pages c.loop-left.lengths.pages c.raise.new.self.pages old now next c.loop-left.invariant.looks (looked_answered c.in-Ok-true.field-0 tt c.args.found.now.log.geometry.pages c.loop-left.lengths.pages c.raise.new.self.pages now next c.in-Ok-true.ensures.looks);
       reads = looks_then tt _ old now next reads (looks_answered c.in-Ok-true.field-0 tt now next c.in-Ok-true.ensures.reads);
     }
 
@@ -83,3 +77,14 @@ returns-clause-opens g c log before finds versions kept room =
     let end : c.loop-left.left ≡ 0 = omega (arith, c.loop-left-test.false) in
     let at : Leaving log pages whole [] c.loop-left.lengths.pages = subst (λ (n : ℕ). Leaving log pages whole (reverse (take n updates)) c.loop-left.lengths.pages) end (c.loop-left.invariant.leaving log before finds versions kept room) in
     record { fit = (λ yes. left_room log pages whole c.loop-left.lengths.pages at, λ all. refl); kept_so = λ yes. left_kept log pages whole c.loop-left.lengths.pages at }
+
+pub returns-in-Ok-false-clause-looks : goal.returns-in-Ok-false-clause-looks
+returns-in-Ok-false-clause-looks g c =
+    looked_then tt _ c.args.found.now.log.geometry.pages c.args.lengths.now.pages c.loop-left.lengths.pages c.raise.new.self.pages (g.S.Site.state c.args.site.now) (g.S.Site.state c.loop-left.site) (g.S.Site.state c.raise.new.site) c.loop-left.invariant.looks (looked_answered c.in-Ok-false.field-0 _ c.args.found.now.log.geometry.pages c.loop-left.lengths.pages c.raise.new.self.pages (g.S.Site.state c.loop-left.site) (g.S.Site.state c.raise.new.site) c.in-Ok-false.ensures.looks)
+
+pub returns-in-Err-clause-looks : goal.returns-in-Err-clause-looks
+returns-in-Err-clause-looks g c =
+    looked_then tt (Err c.in-Err.stop) c.args.found.now.log.geometry.pages c.args.lengths.now.pages c.loop-left.lengths.pages c.raise.new.self.pages (g.S.Site.state c.args.site.now) (g.S.Site.state c.loop-left.site) (g.S.Site.state c.raise.new.site) c.loop-left.invariant.looks (looked_failed c.in-Err.stop c.args.found.now.log.geometry.pages c.loop-left.lengths.pages c.raise.new.self.pages (g.S.Site.state c.loop-left.site) (g.S.Site.state c.raise.new.site) c.in-Err.ensures.looks.ends)
+
+pub returns-clause-looks : goal.returns-clause-looks
+returns-clause-looks g c = looked_answered tt None c.args.found.now.log.geometry.pages c.args.lengths.now.pages c.loop-left.lengths.pages (g.S.Site.state c.args.site.now) (g.S.Site.state c.loop-left.site) c.loop-left.invariant.looks

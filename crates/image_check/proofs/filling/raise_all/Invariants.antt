@@ -1,13 +1,4 @@
-use Rattle.std.proofs.Common.{◌≡◌, ◌++◌, ◌≤◌, List, length, take, reverse}
-use Rattle.std.specs.Prelude.{Ok}
-use Rattle.site.specs.Work.{OnlyReads}
-use Rattle.log_records.specs.declared.log_record.LogRecord.{LogRecord}
-use Rattle.log_records.specs.Log.{Entry}
-use Rattle.image_meaning.specs.Meaning.{versions_on}
-use Rattle.image_form.specs.Octets.{AreVersions}
-use Rattle.image_check.specs.Filling.{AreKept, HaveRoom, opened}
-use Rattle.image_check.specs.Judging.{MayBeJudged}
-use Rattle.image_check.specs.Showing.{FindsVersions}
+use Rattle.image_check.proofs.Names.{◌++◌, ◌≤◌, List, length, take, reverse, Ok, AreKept, HaveRoom, opened, MayBeJudged, LooksOnce, FindsVersions, AreVersions, versions_on, Entry, LogRecord, OnlyReads}
 use Rattle.image_check.proofs.FilledOnes.{Leaving}
 use Rattle.image_check.proofs.filling.raise_all.Given as goal
 
@@ -22,7 +13,7 @@ invariant-loop-left g l =
           HaveRoom (versions_on geometry old.image) (opened log (versions_on geometry old.image) before) →
           Leaving log (versions_on geometry old.image) (before ++ reverse l.updates) (reverse (take l.left l.updates)) l.lengths.pages;
       few : l.left ≤ length l.updates;
-      log : now.log_reads ≡ old.log_reads;
+      looks : LooksOnce {T = Unit {0}} geometry.pages (Ok tt) l.fn.lengths.pages l.lengths.pages old now;
       reads : OnlyReads {T = Unit {0}} (Ok tt) old now;
     }
 

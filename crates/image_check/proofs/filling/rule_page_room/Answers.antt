@@ -1,29 +1,13 @@
-use Rattle.std.proofs.Common.{rules, ◌≡◌, ◌↔◌, IsTrue, List, [], true≢false, sym, ap, ◌∙◌, subst, arith}
-use Rattle.std.specs.Prelude.{Result, Some, IfOk, IfSome, IfNone, is_none, is_ok}
-use Rattle.site.specs.declared.geometry.Geometry.{Geometry}
-use Rattle.site.specs.State.{State, Image}
-use Rattle.site.proofs.Working.{looks_then, looks_answered, looks_failed}
-use Rattle.log_records.specs.declared.log_record.LogRecord.{LogRecord}
-use Rattle.image_form.specs.declared.place.Place.{Place}
-use Rattle.image_form.specs.Octets.{AreGroups, AreVersions}
-use Rattle.image_form.specs.Findings.{AreFound}
-use Rattle.image_form.specs.Newest.{ShowsFrames}
-use Rattle.image_form.specs.Verdict.{OctetsAreFormed, RecordsFollowBegins, LosersCanBeUndone, VersionsFit, PagesHaveRoom, logical_image_of}
-use Rattle.image_form.proofs.FirstRule.{answers_as}
-use Rattle.image_meaning.specs.Meaning.{versions_on}
-use Rattle.image_check.specs.declared.filling.Filling.{Filling}
-use Rattle.image_check.specs.Filling.{AreKept, HaveRoom, HearsLog, RedoneFits, opened, put_back_by}
-use Rattle.log_records.specs.Unfinished.{losers}
-use Rattle.image_check.specs.Judging.{Sees, reading_of, records_of}
-use Rattle.image_check.specs.Showing.{FindsVersions}
-use Rattle.image_check.specs.Unended.{AreLeft}
+use Rattle.image_check.proofs.Names.{rules, ◌≡◌, ◌↔◌, IsTrue, List, [], true≢false, sym, ap, ◌∙◌, subst, arith, ◌+◌, ◌*◌, Result, IfOk, IfSome, IfNone, is_none, is_ok, AreKept, HaveRoom, HearsLog, RedoneFits, opened, put_back_by, Sees, kept_blocks, reading_of, records_of, without, FindsVersions, Filling, few_more, few_then, answers_as, shown_some, AreFound, ShowsFrames, AreGroups, AreVersions, OctetsAreFormed, RecordsFollowBegins, LosersCanBeUndone, VersionsFit, PagesHaveRoom, logical_image_of, Place, versions_on, AreLeft, losers, LogRecord, looks_then, looks_answered, looks_failed, State, Image, Geometry}
+use Rattle.std.specs.Prelude.{Some}
+use Rattle.image_check.proofs.Looks.{without_most}
 use Rattle.image_check.proofs.FilledOnes.{both_of_rule, filled_is, keeps_open, kept_as, rule_of_both, shown_room, under}
 use Rattle.image_check.proofs.ShownOnes.{versions_later}
-use Rattle.image_check.proofs.ValuesCounted.{shows_some, none_found}
+use Rattle.image_check.proofs.ValuesCounted.{none_found}
 use Rattle.image_check.proofs.Walking.{in_order, may_later, sees_later}
 use Rattle.image_check.proofs.filling.rule_page_room.Given.{Over}
-use Rattle.image_check.proofs.filling.rule_page_room.Goals as goal
 use Rattle.image_check.proofs.filling.rule_page_room.Goals.{In-Ok-Some}
+use Rattle.image_check.proofs.filling.rule_page_room.Goals as goal
 
 pub returns-in-Ok-None : goal.returns-in-Ok-None
 returns-in-Ok-None g c = record {
@@ -32,7 +16,7 @@ returns-in-Ok-None g c = record {
       let none = subst (λ (k : Geometry). IsTrue old.honest → AreFound c.args.found.now.rings old → AreGroups k old.image → IfNone c.in-Ok-None.field-0 ⊥) c.geometry.ensures c.in-Ok-None.ensures.formed sees.log.honest rings formed.groups in
       absurd (none_found c.in-Ok-None.field-0 c.in-Ok-None.field-0-is none);
   reads = search rules;
-  few = let same = c.in-Ok-None.ensures.log in omega (arith, same);
+  few = few_more 0 c.geometry.result.groups (1 * kept_blocks c.args.found.now) (c.args.found.now.log.geometry.groups + 2 * c.args.found.now.log.geometry.pages) (g.S.Site.state c.args.site.now) (g.S.Site.state c.find_frames.new.site) (omega arith) (omega (arith, ap (λ (k : Geometry). k.groups) c.geometry.ensures)) c.in-Ok-None.ensures.looks;
 }
 
 -- the queue shows the frames that stand there
@@ -43,7 +27,7 @@ shown_there g c blocks sees rings formed =
     let sizes : Geometry = found.log.geometry in
     let old : State = g.S.Site.state c.args.site.now in
     let some = subst (λ (k : Geometry). IsTrue old.honest → AreFound found.rings old → AreGroups k old.image → IfSome c.in-Ok-Some.field-0 (λ queue. ShowsFrames k old.image queue)) c.geometry.ensures c.in-Ok-Some.ensures.shown sees.log.honest rings formed.groups in
-    record { honest = sees.log.honest; rings = rings; groups = formed.groups; shown = shows_some sizes old.image c.in-Ok-Some.field-0 c.in-Ok-Some.frames c.in-Ok-Some.field-0-is some }
+    record { honest = sees.log.honest; rings = rings; groups = formed.groups; shown = shown_some sizes old.image c.in-Ok-Some.field-0 c.in-Ok-Some.frames c.in-Ok-Some.field-0-is some }
 
 pub of_log-requires-clause-may : goal.of_log-requires-clause-may
 of_log-requires-clause-may g c = may_later c.in-Ok-Some.ensures.reads c.requires
@@ -89,7 +73,7 @@ returns-in-Ok-Ok g c =
           (c.find_crowded.ensures.crowded log (versions_later reads' there') (subst (AreVersions sizes) (sym same') formed.versions) a.7 (keeps_open p filling.chains a.5 hears.chains)) kept (shown_room p _ _ (in_order sees) redone) in
           answers_as c.find_crowded.result _ _ (λ failing both. (λ none. rule_of_both p redone (both.0 none), λ rule. both.1 (both_of_rule p rule).1)) crowded));
       reads = looks_then c.in-Ok-Some.field-0 _ old s1 s3 reads (looks_then c.in-Ok-Ok.field-0 _ s1 s2 s3 reads' c.find_crowded.ensures.reads);
-      few = let first = c.in-Ok-Some.ensures.log in let few = c.in-Ok-Ok.ensures.few in let last = c.find_crowded.ensures.log in omega (arith, first, few, last);
+      few = few_then (1 * kept_blocks c.args.found.now) (c.args.found.now.log.geometry.groups + c.args.found.now.log.geometry.pages) 0 (without filling.lengths.pages c.args.found.now.log.geometry.pages) (1 * kept_blocks c.args.found.now) (c.args.found.now.log.geometry.groups + 2 * c.args.found.now.log.geometry.pages) (g.S.Site.state c.args.site.now) (g.S.Site.state c.of_log.new.site) (g.S.Site.state c.find_crowded.new.site) (omega arith) (let few = without_most filling.lengths.pages c.args.found.now.log.geometry.pages in omega (arith, few)) (few_then 0 c.geometry.result.groups (1 * kept_blocks c.args.found.now) c.args.found.now.log.geometry.pages (1 * kept_blocks c.args.found.now) (c.args.found.now.log.geometry.groups + c.args.found.now.log.geometry.pages) (g.S.Site.state c.args.site.now) (g.S.Site.state c.find_frames.new.site) (g.S.Site.state c.of_log.new.site) (omega arith) (omega (arith, ap (λ (k : Geometry). k.groups) c.geometry.ensures)) c.in-Ok-Some.ensures.looks c.in-Ok-Ok.ensures.few) c.find_crowded.ensures.looks;
     }
 
 pub returns-in-Ok-Err : goal.returns-in-Ok-Err
@@ -112,7 +96,7 @@ returns-in-Ok-Err g c =
             λ rule. absurd (true≢false (sym (says.0.1 (both_of_rule p rule).0) ∙ ap is_ok c.in-Ok-Err.field-0-is)),
           );
       reads = looks_then c.in-Ok-Some.field-0 _ old s1 s2 reads (looks_answered c.in-Ok-Err.field-0 (Some c.in-Ok-Err.place) s1 s2 c.in-Ok-Err.ensures.reads);
-      few = let first = c.in-Ok-Some.ensures.log in let few = c.in-Ok-Err.ensures.few in omega (arith, first, few);
+      few = few_then 0 c.geometry.result.groups (1 * kept_blocks c.args.found.now) c.args.found.now.log.geometry.pages (1 * kept_blocks c.args.found.now) (c.args.found.now.log.geometry.groups + 2 * c.args.found.now.log.geometry.pages) (g.S.Site.state c.args.site.now) (g.S.Site.state c.find_frames.new.site) (g.S.Site.state c.of_log.new.site) (omega arith) (omega (arith, ap (λ (k : Geometry). k.groups) c.geometry.ensures)) c.in-Ok-Some.ensures.looks c.in-Ok-Err.ensures.few;
     }
 
 pub returns : goal.returns
@@ -123,5 +107,12 @@ returns g c =
     record {
       says = tt;
       reads = looks_then c.in-Ok-Some.field-0 _ old s1 s2 c.in-Ok-Some.ensures.reads (looks_failed c.in-Err-of_log.stop s1 s2 c.in-Err-of_log.ensures.reads);
-      few = let first = c.in-Ok-Some.ensures.log in let few = c.in-Err-of_log.ensures.few in omega (arith, first, few);
+      few = few_then 0 c.geometry.result.groups (1 * kept_blocks c.args.found.now) c.args.found.now.log.geometry.pages (1 * kept_blocks c.args.found.now) (c.args.found.now.log.geometry.groups + 2 * c.args.found.now.log.geometry.pages) (g.S.Site.state c.args.site.now) (g.S.Site.state c.find_frames.new.site) (g.S.Site.state c.of_log.new.site) (omega arith) (omega (arith, ap (λ (k : Geometry). k.groups) c.geometry.ensures)) c.in-Ok-Some.ensures.looks c.in-Err-of_log.ensures.few;
     }
+
+pub returns-in-Err : goal.returns-in-Err
+returns-in-Err g c = record {
+  says = tt;
+  reads = looks_failed c.in-Err.stop _ _ c.in-Err.ensures.reads;
+  few = few_more 0 c.geometry.result.groups (1 * kept_blocks c.args.found.now) (c.args.found.now.log.geometry.groups + 2 * c.args.found.now.log.geometry.pages) (g.S.Site.state c.args.site.now) (g.S.Site.state c.find_frames.new.site) (omega arith) (omega (arith, ap (λ (k : Geometry). k.groups) c.geometry.ensures)) c.in-Err.ensures.looks;
+}

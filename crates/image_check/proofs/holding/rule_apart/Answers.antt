@@ -1,11 +1,6 @@
-use Rattle.std.proofs.Common.{arith, rules, None, true≢false, refl, sym, ◌∙◌, subst}
-use Rattle.std.proofs.lemmas.Result.{err_from_is_err_and}
-use Rattle.site.proofs.Working.{looks_then, looks_failed}
-use Rattle.log_records.specs.Sound.{Pairwise, HoldsOff}
-use Rattle.image_form.specs.Verdict.{logical_image_of}
-use Rattle.image_check.specs.Judging.{reading_of, records_of}
+use Rattle.image_check.proofs.Names.{rules, None, true≢false, refl, sym, ◌∙◌, subst, err_from_is_err_and, reading_of, records_of, logical_image_of, Pairwise, HoldsOff, looks_then, looks_failed}
 use Rattle.image_check.proofs.HeldOnes.{held_none, listed, apart_none, none_apart, pairwise_push, pairwise_at}
-use Rattle.image_check.proofs.Walking.{reads_lacked, walk_begins, walk_goes_on, judged_at, judged_end}
+use Rattle.image_check.proofs.Walking.{reads_lacked, walk_begins, walk_goes_on, judged_at, judged_end, walk_few}
 use Rattle.image_check.proofs.holding.rule_apart.Goals as goal
 
 pub loop-held-init : goal.loop-held-init
@@ -22,7 +17,7 @@ returns-then-clashes g c = judged_at c.loop-held.invariant c.in_ok-lsn.field-0 c
 ))
 
 pub loop-held-preserved : goal.loop-held-preserved
-loop-held-preserved g c = walk_goes_on c.loop-held.invariant c.in_ok-lsn.field-0 c.next.new.self c.in_ok-lsn.ensures.next c.in-Some.lsn c.in-Some.rec c.in-Some.is c.in_ok-lsn.ensures.walk c.in_ok-lsn.ensures.reads c.in_ok-lsn.ensures.few _ (λ blocks sees at fourth left.
+loop-held-preserved g c = walk_goes_on c.loop-held.invariant c.in_ok-lsn.field-0 c.next.new.self c.in_ok-lsn.ensures.next c.in-Some.lsn c.in-Some.rec c.in-Some.is c.in_ok-lsn.ensures.walk c.in_ok-lsn.ensures.reads c.in_ok-lsn.ensures.few c.in_ok-lsn.ensures.ends _ (λ blocks sees at fourth left.
     let records = records_of c.args.found.now blocks in
     let p = logical_image_of (reading_of c.args.found.now blocks) (g.S.Site.state c.args.site.now).image in
     let so_far = at.holds fourth left in
@@ -38,10 +33,10 @@ returns g c = judged_end c.loop-held.invariant c.in_ok-lsn.field-0 c.next.new.se
 pub returns-in-Err : goal.returns-in-Err
 returns-in-Err g c =
     let now = g.S.Site.state c.loop-held.site in
-    record { says = tt; reads = reads_lacked c.in-Err.ensures.stops (looks_then tt _ _ now _ c.loop-held.invariant.reads c.in_ok-lsn.ensures.reads); few = let before = c.loop-held.invariant.few in let ends = c.in_ok-lsn.ensures.ends in omega (arith, before, ends) }
+    record { says = tt; reads = reads_lacked c.in-Err.ensures.stops (looks_then tt _ _ now _ c.loop-held.invariant.reads c.in_ok-lsn.ensures.reads); few = walk_few c.loop-held.invariant c.in_ok-lsn.ensures.ends }
 
 pub returns-in_err-lsn : goal.returns-in_err-lsn
 returns-in_err-lsn g c =
     let p = err_from_is_err_and c.from_residual.result c.from_residual.ensures.1 in
     let now = g.S.Site.state c.loop-held.site in
-    record { says = search rules; reads = rw (p.1, p.2) (looks_then tt _ _ now _ c.loop-held.invariant.reads (looks_failed c.in_err-lsn.field-0.0 now _ c.in_err-lsn.ensures.reads)); few = let before = c.loop-held.invariant.few in let ends = c.in_err-lsn.ensures.ends in omega (arith, before, ends) }
+    record { says = search rules; reads = rw (p.1, p.2) (looks_then tt _ _ now _ c.loop-held.invariant.reads (looks_failed c.in_err-lsn.field-0.0 now _ c.in_err-lsn.ensures.reads)); few = walk_few c.loop-held.invariant c.in_err-lsn.ensures.ends }

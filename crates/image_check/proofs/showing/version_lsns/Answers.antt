@@ -1,9 +1,5 @@
-use Rattle.std.proofs.Common.{length, ◌∙◌, ap, arith, length-append}
-use Rattle.site.specs.declared.geometry.Geometry.{Geometry}
-use Rattle.site.specs.State.{State, Image}
-use Rattle.site.proofs.Working.{looks_then, looks_answered}
-use Rattle.slotted_page.specs.Layout.{lsn_of}
-use Rattle.flash_cache.specs.Representation.{version_on}
+use Rattle.image_check.proofs.Names.{length, ◌∙◌, ap, arith, ◌+◌, version_on, few_then, looks_then, looks_answered, State, Image, Geometry, lsn_of}
+use Rattle.std.proofs.Common.{length-append}
 use Rattle.image_check.proofs.ShownOnes.{versions_later, first_lsns, lsns_more}
 use Rattle.image_check.proofs.Walking.{may_later}
 use Rattle.image_check.proofs.showing.version_lsns.Goals as goal
@@ -18,6 +14,7 @@ loop-page-preserved g c = record {
       let reads = c.loop-page.invariant.reads in
       let version = c.in-Ok.ensures.version (versions_later reads finds) ∙ ap (λ (image : Image). version_on geometry image c.loop-page.page) (reads.same finds.honest).image in
       lsns_more geometry old.image c.loop-page.page c.lsn.result c.loop-page.lsns.items c.push.new.self.items (c.loop-page.invariant.lsns finds) (c.lsn.ensures ∙ ap lsn_of version) c.in-Ok-push.ensures.items;
+  looks = few_then 0 c.loop-page.page 0 1 0 (c.loop-page.page + 1) (g.S.Site.state c.args.site.now) (g.S.Site.state c.loop-page.site) (g.S.Site.state c.version_of.new.site) (omega arith) (omega arith) c.loop-page.invariant.looks c.in-Ok.ensures.looks;
   reads = looks_then tt _ (g.S.Site.state c.args.site.now) (g.S.Site.state c.loop-page.site) (g.S.Site.state c.version_of.new.site) c.loop-page.invariant.reads
       (looks_answered c.in-Ok.version tt (g.S.Site.state c.loop-page.site) (g.S.Site.state c.version_of.new.site) c.in-Ok.ensures.reads);
 }

@@ -1,10 +1,4 @@
-use Rattle.std.proofs.Common.{◌≡◌, IsTrue, ◌∙◌, subst}
-use Rattle.site.specs.declared.geometry.Geometry.{Geometry}
-use Rattle.site.specs.State.{State}
-use Rattle.flash_cache.specs.Representation.{version_on}
-use Rattle.image_form.specs.Octets.{AreGroups}
-use Rattle.image_form.specs.Findings.{AreFound}
-use Rattle.image_form.specs.Newest.{ShowsFrames}
+use Rattle.image_check.proofs.Names.{◌≡◌, IsTrue, ◌∙◌, subst, version_on, AreFound, ShowsFrames, AreGroups, State, Geometry}
 use Rattle.image_check.proofs.showing.version_of.Goals as goal
 
 pub returns-clause-version : goal.returns-clause-version

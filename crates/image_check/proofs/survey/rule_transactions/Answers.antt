@@ -1,17 +1,8 @@
-use Rattle.std.proofs.lemmas.Result.{err_from_is_err_and}
-use Rattle.site.proofs.Working.{looks_then, looks_failed}
-use Rattle.std.proofs.Common.{rules, ◌+◌, ◌*◌, List, length, ◌<◌, ℕ, true≢false, Err, Ok, refl, sym, ◌∙◌, subst, arith}
-use Rattle.std.specs.Prelude.{Option, IfSome}
-use Rattle.log_records.specs.declared.log_record.LogRecord.{LogRecord}
-use Rattle.log_records.specs.Log.{Entry}
-use Rattle.log_records.specs.Sound.{IsInOrder}
-use Rattle.checkpoint.specs.Newest.{seen}
-use Rattle.image_form.specs.Walking.{to_go}
-use Rattle.image_form.specs.Verdict.{logical_image_of}
-use Rattle.image_check.specs.Judging.{reading_of}
-use Rattle.image_check.proofs.OpenOnes.{third_at, third_of}
-use Rattle.image_check.proofs.Surveyed.{comes, one_more}
-use Rattle.image_check.proofs.Walking.{in_order, walk_begins, walk_goes_on, judged_at, judged_end, reads_lacked}
+use Rattle.image_check.proofs.Names.{rules, ◌+◌, ◌*◌, List, length, ◌<◌, ℕ, true≢false, Err, refl, sym, ◌∙◌, subst, arith, err_from_is_err_and, IfSome, seen, reading_of, logical_image_of, to_go, Entry, IsInOrder, LogRecord, looks_then, looks_failed}
+use Rattle.std.proofs.Common.{Ok}
+use Rattle.std.specs.Prelude.{Option}
+use Rattle.image_check.proofs.Surveyed.{third_at, third_of, comes, one_more}
+use Rattle.image_check.proofs.Walking.{in_order, walk_begins, walk_goes_on, judged_at, judged_end, reads_lacked, walk_few}
 use Rattle.image_check.proofs.survey.rule_transactions.Goals as goal
 
 pub loop-survey-init : goal.loop-survey-init
@@ -33,7 +24,7 @@ returns-then-not-admits g c = judged_at c.loop-survey.invariant c.in_ok-lsn.fiel
 ))
 
 pub loop-survey-preserved : goal.loop-survey-preserved
-loop-survey-preserved g c = walk_goes_on c.loop-survey.invariant c.in_ok-lsn.field-0 c.next.new.self c.in_ok-lsn.ensures.next c.in-Some.lsn c.in-Some.rec c.in-Some.is c.in_ok-lsn.ensures.walk c.in_ok-lsn.ensures.reads c.in_ok-lsn.ensures.few _ (λ blocks sees at.
+loop-survey-preserved g c = walk_goes_on c.loop-survey.invariant c.in_ok-lsn.field-0 c.next.new.self c.in_ok-lsn.ensures.next c.in-Some.lsn c.in-Some.rec c.in-Some.is c.in_ok-lsn.ensures.walk c.in_ok-lsn.ensures.reads c.in_ok-lsn.ensures.few c.in_ok-lsn.ensures.ends _ (λ blocks sees at.
     let log = c.args.found.now.log in
     let m = seen c.args.found.now.master in
     let first : ℕ = 512 * c.args.found.now.master.kept in
@@ -51,15 +42,15 @@ returns g c = judged_end c.loop-survey.invariant c.in_ok-lsn.field-0 c.next.new.
 pub returns-in-Err : goal.returns-in-Err
 returns-in-Err g c =
     let now = g.S.Site.state c.loop-survey.site in
-    record { says = tt; reads = reads_lacked c.in-Err.ensures.stops (looks_then tt _ _ now _ c.loop-survey.invariant.reads c.in_ok-lsn.ensures.reads); few = let before = c.loop-survey.invariant.few in let ends = c.in_ok-lsn.ensures.ends in omega (arith, before, ends) }
+    record { says = tt; reads = reads_lacked c.in-Err.ensures.stops (looks_then tt _ _ now _ c.loop-survey.invariant.reads c.in_ok-lsn.ensures.reads); few = walk_few c.loop-survey.invariant c.in_ok-lsn.ensures.ends }
 
 pub returns-in-Err-hear : goal.returns-in-Err-hear
 returns-in-Err-hear g c =
     let now = g.S.Site.state c.loop-survey.site in
-    record { says = tt; reads = reads_lacked c.in-Err-hear.ensures.stops (looks_then tt _ _ now _ c.loop-survey.invariant.reads c.in_ok-lsn.ensures.reads); few = let before = c.loop-survey.invariant.few in let ends = c.in_ok-lsn.ensures.ends in omega (arith, before, ends) }
+    record { says = tt; reads = reads_lacked c.in-Err-hear.ensures.stops (looks_then tt _ _ now _ c.loop-survey.invariant.reads c.in_ok-lsn.ensures.reads); few = walk_few c.loop-survey.invariant c.in_ok-lsn.ensures.ends }
 
 pub returns-in_err-lsn : goal.returns-in_err-lsn
 returns-in_err-lsn g c =
     let p = err_from_is_err_and c.from_residual-in_err-lsn.result c.from_residual-in_err-lsn.ensures.1 in
     let now = g.S.Site.state c.loop-survey.site in
-    record { says = search rules; reads = rw (p.1, p.2) (looks_then tt _ _ now _ c.loop-survey.invariant.reads (looks_failed c.in_err-lsn.field-0.0 now _ c.in_err-lsn.ensures.reads)); few = let before = c.loop-survey.invariant.few in let ends = c.in_err-lsn.ensures.ends in omega (arith, before, ends) }
+    record { says = search rules; reads = rw (p.1, p.2) (looks_then tt _ _ now _ c.loop-survey.invariant.reads (looks_failed c.in_err-lsn.field-0.0 now _ c.in_err-lsn.ensures.reads)); few = walk_few c.loop-survey.invariant c.in_err-lsn.ensures.ends }

@@ -1,14 +1,6 @@
-use Rattle.std.proofs.Common.{arith, rules, ◌≡◌, ◌==◌, ◌&&◌, ℕ, Bool, true, false, true≢false, not, nat_eq, cond, refl, sym, ap, ◌∙◌}
-use Rattle.std.specs.Prelude.{is_some}
-use Rattle.std.proofs.lemmas.Bool.{and_parts, not-true}
-use Rattle.std.proofs.lemmas.Result.{err_from_is_err_and}
-use Rattle.std_lemmas.proofs.Bools.{and_true}
-use Rattle.indexmap.specs.IndexMap.{get}
-use Rattle.site.proofs.Working.{looks_then, looks_failed}
-use Rattle.log_records.specs.Log.{Entry, txn_of, is_closed, is_closing}
-use Rattle.image_check.specs.Judging.{records_of}
+use Rattle.image_check.proofs.Names.{rules, ◌≡◌, ◌==◌, ◌&&◌, ℕ, Bool, true, false, true≢false, not, nat_eq, cond, refl, sym, ap, ◌∙◌, and_parts, not-true, err_from_is_err_and, is_some, records_of, get, Entry, txn_of, is_closed, is_closing, looks_then, looks_failed, and_true}
 use Rattle.image_check.proofs.StrayOnes.{closing_more}
-use Rattle.image_check.proofs.Walking.{walk_begins, walk_goes_on, judged_end}
+use Rattle.image_check.proofs.Walking.{walk_begins, walk_goes_on, judged_end, walk_few}
 use Rattle.image_check.proofs.undoable.find_open.Goals as goal
 
 pub loop-strays-init : goal.loop-strays-init
@@ -18,7 +10,7 @@ pub returns-in_err-lsn : goal.returns-in_err-lsn
 returns-in_err-lsn g c =
     let p = err_from_is_err_and c.from_residual.result c.from_residual.ensures.1 in
     let now = g.S.Site.state c.loop-strays.site in
-    record { says = search rules; reads = rw (p.1, p.2) (looks_then tt _ _ now _ c.loop-strays.invariant.reads (looks_failed c.in_err-lsn.field-0.0 now _ c.in_err-lsn.ensures.reads)); few = let before = c.loop-strays.invariant.few in let ends = c.in_err-lsn.ensures.ends in omega (arith, before, ends) }
+    record { says = search rules; reads = rw (p.1, p.2) (looks_then tt _ _ now _ c.loop-strays.invariant.reads (looks_failed c.in_err-lsn.field-0.0 now _ c.in_err-lsn.ensures.reads)); few = walk_few c.loop-strays.invariant c.in_err-lsn.ensures.ends }
 
 stays : (q k b : Bool) → k ≡ false → b ≡ cond (q && k) false b
 stays q k b off = by q ∙ ap (λ (x : Bool). cond (q && x) false b) (sym off)
@@ -28,7 +20,7 @@ stays q k b off = by q ∙ ap (λ (x : Bool). cond (q && x) false b) (sym off)
     by false = refl
 
 pub loop-strays-preserved-then-closes : goal.loop-strays-preserved-then-closes
-loop-strays-preserved-then-closes g c = walk_goes_on c.loop-strays.invariant c.in_ok-lsn.field-0 c.next.new.self c.in_ok-lsn.ensures.next c.in-Some.lsn c.in-Some.rec c.in-Some.is c.in_ok-lsn.ensures.walk c.in_ok-lsn.ensures.reads c.in_ok-lsn.ensures.few _ (λ blocks sees at t.
+loop-strays-preserved-then-closes g c = walk_goes_on c.loop-strays.invariant c.in_ok-lsn.field-0 c.next.new.self c.in_ok-lsn.ensures.next c.in-Some.lsn c.in-Some.rec c.in-Some.is c.in_ok-lsn.ensures.walk c.in_ok-lsn.ensures.reads c.in_ok-lsn.ensures.few c.in_ok-lsn.ensures.ends _ (λ blocks sees at t.
     let e : Entry = record { lsn = c.in-Some.lsn; rec = c.in-Some.rec } in
     let some : Bool = is_some (get nat_eq c.args.strays.txns t) in
     let left : Bool = some && not (is_closed at.front t) in
@@ -40,7 +32,7 @@ loop-strays-preserved-then-closes g c = walk_goes_on c.loop-strays.invariant c.i
     ∙ closing_more at.front e t some)
 
 pub loop-strays-preserved : goal.loop-strays-preserved
-loop-strays-preserved g c = walk_goes_on c.loop-strays.invariant c.in_ok-lsn.field-0 c.next.new.self c.in_ok-lsn.ensures.next c.in-Some.lsn c.in-Some.rec c.in-Some.is c.in_ok-lsn.ensures.walk c.in_ok-lsn.ensures.reads c.in_ok-lsn.ensures.few _ (λ blocks sees at t.
+loop-strays-preserved g c = walk_goes_on c.loop-strays.invariant c.in_ok-lsn.field-0 c.next.new.self c.in_ok-lsn.ensures.next c.in-Some.lsn c.in-Some.rec c.in-Some.is c.in_ok-lsn.ensures.walk c.in_ok-lsn.ensures.reads c.in_ok-lsn.ensures.few c.in_ok-lsn.ensures.ends _ (λ blocks sees at t.
     let e : Entry = record { lsn = c.in-Some.lsn; rec = c.in-Some.rec } in
     let some : Bool = is_some (get nat_eq c.args.strays.txns t) in
     at.holds t ∙ stays (txn_of e == t) (is_closing e.rec) (some && not (is_closed at.front t)) (sym c.closes.ensures ∙ c.if-closes.false) ∙ closing_more at.front e t some)

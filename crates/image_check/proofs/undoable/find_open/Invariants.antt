@@ -1,13 +1,9 @@
-use Rattle.std.proofs.Common.{◌≡◌, ◌&&◌, ℕ, nat_eq, not}
-use Rattle.std.specs.Prelude.{is_some}
-use Rattle.indexmap.specs.IndexMap.{get}
-use Rattle.log_records.specs.Log.{is_closed}
-use Rattle.image_form.specs.Walking.{to_go}
+use Rattle.image_check.proofs.Names.{◌≡◌, ◌&&◌, ℕ, nat_eq, not, is_some, to_go, get, is_closed}
 use Rattle.image_check.proofs.Walking.{WalksOver}
 use Rattle.image_check.proofs.undoable.find_open.Given as goal
 
 abbrev pub invariant-loop-strays : goal.invariant-loop-strays
-invariant-loop-strays g l = WalksOver l.found l.walk (g.S.Site.state l.fn.site) (g.S.Site.state l.site) (λ blocks done. (t : ℕ) →
+invariant-loop-strays g l = WalksOver l.found l.walk (g.S.Site.state l.fn.site) (g.S.Site.state l.site) 0 0 (λ blocks done. (t : ℕ) →
     is_some (get nat_eq l.strays.txns t) ≡ (is_some (get nat_eq l.fn.strays.txns t) && not (is_closed done t)))
 
 abbrev pub decreases-loop-strays : goal.decreases-loop-strays

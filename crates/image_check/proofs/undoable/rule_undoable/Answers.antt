@@ -1,11 +1,4 @@
-use Rattle.std.proofs.Common.{arith, rules, ◌≡◌, ◌==◌, ℕ, Option, true, true≢false, sym, subst}
-use Rattle.std.specs.Prelude.{IfSome}
-use Rattle.std.specs.List.{list_any}
-use Rattle.log_records.specs.Log.{entries_of}
-use Rattle.log_records.specs.Unfinished.{losers}
-use Rattle.log_records.specs.Sound.{IsLoserChain}
-use Rattle.image_form.specs.Verdict.{logical_image_of}
-use Rattle.image_check.specs.Judging.{reading_of, records_of}
+use Rattle.image_check.proofs.Names.{◌*◌, arith, rules, ◌≡◌, ◌==◌, ℕ, Option, true, true≢false, sym, subst, list_any, IfSome, kept_blocks, reading_of, records_of, few_more, few_then, logical_image_of, entries_of, IsLoserChain, losers}
 use Rattle.image_check.proofs.StrayOnes.{fourth_of, chains_of, chains_whole, closed_of}
 use Rattle.image_check.proofs.Walking.{in_order, may_later, sees_later}
 use Rattle.image_check.proofs.undoable.rule_undoable.Goals as goal
@@ -24,7 +17,7 @@ returns-in-Some g c = record {
         λ rule. absurd (found.1 (chains_of p rule c.in-Some.txn found.0)),
       );
   reads = search rules;
-  few = let ends = c.in-Ok.ensures.few in omega (arith, ends);
+  few = few_more (1 * kept_blocks c.args.found.now) 0 (2 * kept_blocks c.args.found.now) 0 _ _ (omega arith) (omega arith) c.in-Ok.ensures.few;
 }
 
 pub returns-in-Ok-find_open : goal.returns-in-Ok-find_open
@@ -38,5 +31,5 @@ returns-in-Ok-find_open g c = record {
         λ rule. closed.1 (closed_of p txns undoing.strays rule),
       );
   reads = search rules;
-  few = let first = c.in-Ok.ensures.few in let second = c.in-Ok-find_open.ensures.few in omega (arith, first, second);
+  few = few_then (1 * kept_blocks c.args.found.now) 0 (1 * kept_blocks c.args.found.now) 0 (2 * kept_blocks c.args.found.now) 0 _ _ _ (omega arith) (omega arith) c.in-Ok.ensures.few c.in-Ok-find_open.ensures.few;
 }

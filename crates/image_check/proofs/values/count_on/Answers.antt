@@ -1,7 +1,5 @@
-use Rattle.std.proofs.Common.{sym, ◌≡◌, ◌+◌, ◌*◌, ℕ, ap, ◌∙◌, arith}
-use Rattle.log_records.specs.Log.{value_of}
+use Rattle.image_check.proofs.Names.{sym, ◌≡◌, ◌+◌, ◌*◌, ℕ, ap, ◌∙◌, arith, value_of, some_mapped}
 use Rattle.image_check.proofs.ValuesCounted.{values_among, one_value, one_at_most, slot_has}
-use Rattle.std_lemmas.proofs.Options.{some_mapped}
 use Rattle.image_check.proofs.values.count_on.Goals as goal
 
 pub loop-slot-preserved : goal.loop-slot-preserved

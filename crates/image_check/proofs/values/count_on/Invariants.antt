@@ -1,7 +1,4 @@
-use Rattle.std.proofs.Common.{◌≡◌, ◌*◌, ◌≤◌, List}
-use Rattle.log_records.specs.Log.{Entry, Version, version_at, value_of}
-use Rattle.image_meaning.specs.Meaning.{version_in}
-use Rattle.image_check.specs.Writing.{AreWritten}
+use Rattle.image_check.proofs.Names.{◌≡◌, ◌*◌, ◌≤◌, List, AreWritten, version_in, Entry, Version, version_at, value_of}
 use Rattle.image_check.proofs.ValuesCounted.{values_among}
 use Rattle.image_check.proofs.values.count_on.Given as goal
 

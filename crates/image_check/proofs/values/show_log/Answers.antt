@@ -1,15 +1,6 @@
-use Rattle.std.proofs.Common.{rules, ◌≡◌, ◌*◌, ◌↔◌, ℕ, IsTrue, List, Result, Err, true, true≢false, refl, sym, ap, ◌∙◌, subst}
-use Rattle.std.specs.Prelude.{IfOk, is_ok}
-use Rattle.std.specs.List.{AllByRecursion, list_all}
-use Rattle.site.specs.State.{State, Image}
-use Rattle.site.proofs.Working.{looks_then, looks_answered}
-use Rattle.image_form.specs.declared.place.Place.{Place}
-use Rattle.image_form.specs.Octets.{AreVersions}
-use Rattle.image_form.specs.Verdict.{logical_image_of, values_of}
+use Rattle.image_check.proofs.Names.{rules, ◌≡◌, ◌*◌, ◌↔◌, ℕ, IsTrue, List, Err, true, true≢false, refl, sym, ap, ◌∙◌, subst, arith, AllByRecursion, list_all, IfOk, is_ok, kept_blocks, reading_of, records_of, IsKnownEarly, is_logged, Hears, few_more, few_then, AreVersions, logical_image_of, values_of, Place, looks_then, looks_answered, looks_failed, State, Image}
+use Rattle.std.proofs.Common.{Result}
 use Rattle.image_check.specs.declared.values.Logged.{Logged}
-use Rattle.image_check.specs.Judging.{reading_of, records_of}
-use Rattle.image_check.specs.Showing.{IsKnownEarly, is_logged}
-use Rattle.image_check.specs.Values.{Hears}
 use Rattle.image_check.proofs.ShownOnes.{versions_later, AllHave, rule_logged, rule_early, rule_contents, rule_of}
 use Rattle.image_check.proofs.Walking.{may_later, sees_later}
 use Rattle.image_check.proofs.values.show_log.Goals as goal
@@ -29,6 +20,7 @@ returns-in-Some g c = record {
     values = λ apart. tt;
   };
   reads = search rules;
+  few = few_more 0 c.args.found.now.log.geometry.pages (1 * kept_blocks c.args.found.now) (2 * c.args.found.now.log.geometry.pages) (g.S.Site.state c.args.site.now) (g.S.Site.state c.version_lsns.new.site) (omega arith) (omega arith) c.in-Ok.ensures.looks;
 }
 
 pub of_log-requires : goal.of_log-requires
@@ -51,6 +43,7 @@ returns-in-Ok-Err g c = record {
   };
   reads = looks_then c.in-Ok.lsns _ (g.S.Site.state c.args.site.now) (g.S.Site.state c.version_lsns.new.site) (g.S.Site.state c.of_log.new.site) c.in-Ok.ensures.reads
       (looks_answered c.in-Ok-Err.field-0 (Err c.in-Ok-Err.place) (g.S.Site.state c.version_lsns.new.site) (g.S.Site.state c.of_log.new.site) c.in-Ok-Err.ensures.reads);
+  few = few_more (1 * kept_blocks c.args.found.now) c.args.found.now.log.geometry.pages (1 * kept_blocks c.args.found.now) (2 * c.args.found.now.log.geometry.pages) (g.S.Site.state c.args.site.now) (g.S.Site.state c.of_log.new.site) (omega arith) (omega arith) (few_then 0 c.args.found.now.log.geometry.pages (1 * kept_blocks c.args.found.now) 0 (1 * kept_blocks c.args.found.now) c.args.found.now.log.geometry.pages (g.S.Site.state c.args.site.now) (g.S.Site.state c.version_lsns.new.site) (g.S.Site.state c.of_log.new.site) (omega arith) (omega arith) c.in-Ok.ensures.looks c.in-Ok-Err.ensures.few);
 }
 
 pub count_pages-requires-clause-may : goal.count_pages-requires-clause-may
@@ -91,6 +84,7 @@ returns-in-Ok-count_pages g c = record {
       };
   reads = looks_then c.in-Ok-Ok.field-0 _ (g.S.Site.state c.args.site.now) (g.S.Site.state c.of_log.new.site) (g.S.Site.state c.count_pages.new.site)
       (looks_then c.in-Ok.lsns _ (g.S.Site.state c.args.site.now) (g.S.Site.state c.version_lsns.new.site) (g.S.Site.state c.of_log.new.site) c.in-Ok.ensures.reads c.in-Ok-Ok.ensures.reads) c.in-Ok-count_pages.ensures.reads;
+  few = few_then (1 * kept_blocks c.args.found.now) c.args.found.now.log.geometry.pages 0 c.args.found.now.log.geometry.pages (1 * kept_blocks c.args.found.now) (2 * c.args.found.now.log.geometry.pages) (g.S.Site.state c.args.site.now) (g.S.Site.state c.of_log.new.site) (g.S.Site.state c.count_pages.new.site) (omega arith) (omega arith) (few_then 0 c.args.found.now.log.geometry.pages (1 * kept_blocks c.args.found.now) 0 (1 * kept_blocks c.args.found.now) c.args.found.now.log.geometry.pages (g.S.Site.state c.args.site.now) (g.S.Site.state c.version_lsns.new.site) (g.S.Site.state c.of_log.new.site) (omega arith) (omega arith) c.in-Ok.ensures.looks c.in-Ok-Ok.ensures.few) c.in-Ok-count_pages.ensures.looks;
 }
 
 pub returns : goal.returns
@@ -98,4 +92,15 @@ returns g c = record {
   says = tt;
   reads = looks_then c.in-Ok-Ok.field-0 _ (g.S.Site.state c.args.site.now) (g.S.Site.state c.of_log.new.site) (g.S.Site.state c.count_pages.new.site)
       (looks_then c.in-Ok.lsns _ (g.S.Site.state c.args.site.now) (g.S.Site.state c.version_lsns.new.site) (g.S.Site.state c.of_log.new.site) c.in-Ok.ensures.reads c.in-Ok-Ok.ensures.reads) c.in-Err-count_pages.ensures.reads;
+  few = few_then (1 * kept_blocks c.args.found.now) c.args.found.now.log.geometry.pages 0 c.args.found.now.log.geometry.pages (1 * kept_blocks c.args.found.now) (2 * c.args.found.now.log.geometry.pages) (g.S.Site.state c.args.site.now) (g.S.Site.state c.of_log.new.site) (g.S.Site.state c.count_pages.new.site) (omega arith) (omega arith) (few_then 0 c.args.found.now.log.geometry.pages (1 * kept_blocks c.args.found.now) 0 (1 * kept_blocks c.args.found.now) c.args.found.now.log.geometry.pages (g.S.Site.state c.args.site.now) (g.S.Site.state c.version_lsns.new.site) (g.S.Site.state c.of_log.new.site) (omega arith) (omega arith) c.in-Ok.ensures.looks c.in-Ok-Ok.ensures.few) c.in-Err-count_pages.ensures.looks;
+}
+
+pub returns-in-Err : goal.returns-in-Err
+returns-in-Err g c = record { says = tt; reads = looks_failed c.in-Err.stop _ _ c.in-Err.ensures.reads; few = few_more 0 c.args.found.now.log.geometry.pages (1 * kept_blocks c.args.found.now) (2 * c.args.found.now.log.geometry.pages) (g.S.Site.state c.args.site.now) (g.S.Site.state c.version_lsns.new.site) (omega arith) (omega arith) c.in-Err.ensures.looks }
+
+pub returns-in-Err-of_log : goal.returns-in-Err-of_log
+returns-in-Err-of_log g c = record {
+  says = tt;
+  reads = looks_then c.in-Ok.lsns _ (g.S.Site.state c.args.site.now) (g.S.Site.state c.version_lsns.new.site) (g.S.Site.state c.of_log.new.site) c.in-Ok.ensures.reads (looks_failed c.in-Err-of_log.stop (g.S.Site.state c.version_lsns.new.site) (g.S.Site.state c.of_log.new.site) c.in-Err-of_log.ensures.reads);
+  few = few_more (1 * kept_blocks c.args.found.now) c.args.found.now.log.geometry.pages (1 * kept_blocks c.args.found.now) (2 * c.args.found.now.log.geometry.pages) (g.S.Site.state c.args.site.now) (g.S.Site.state c.of_log.new.site) (omega arith) (omega arith) (few_then 0 c.args.found.now.log.geometry.pages (1 * kept_blocks c.args.found.now) 0 (1 * kept_blocks c.args.found.now) c.args.found.now.log.geometry.pages (g.S.Site.state c.args.site.now) (g.S.Site.state c.version_lsns.new.site) (g.S.Site.state c.of_log.new.site) (omega arith) (omega arith) c.in-Ok.ensures.looks c.in-Err-of_log.ensures.few);
 }

@@ -1,19 +1,10 @@
-use Rattle.std.proofs.Common.{rules, ℕ, List, ap, subst, arith}
-use Rattle.std.specs.Prelude.{Option, Some, Result, IfOk, is_ok}
-use Rattle.site.specs.State.{State, Image}
-use Rattle.log_records.specs.declared.log_record.LogRecord.{LogRecord}
-use Rattle.image_form.specs.declared.place.Place.{Place}
-use Rattle.image_form.specs.Verdict.{HoldBefore}
-use Rattle.image_form.proofs.FirstRule.{answers_as}
-use Rattle.image_check.specs.declared.survey.Survey.{Survey}
-use Rattle.image_check.specs.Deciding.{MeetsBefore, HoldOr, IsSurveyOf}
-use Rattle.image_check.specs.Judgement.{IsVerdictOn}
-use Rattle.image_check.specs.Judging.{reading_of}
+use Rattle.image_check.proofs.Names.{rules, ℕ, List, ap, subst, arith, ◌*◌, ◌+◌, Result, IfOk, is_ok, MeetsBefore, HoldOr, IsSurveyOf, IsVerdictOn, kept_blocks, reading_of, Survey, few_more, few_then, answers_as, HoldBefore, Place, LogRecord, State, Image}
+use Rattle.std.specs.Prelude.{Option, Some}
 use Rattle.image_check.proofs.Decisions.{Past, sees_of, at_first, holds_so, fails_so, reaches, verdict_by}
 use Rattle.image_check.proofs.Walking.{may_later}
 use Rattle.image_check.proofs.verdict.judge_found.Given.{Over}
-use Rattle.image_check.proofs.verdict.judge_found.Goals as goal
 use Rattle.image_check.proofs.verdict.judge_found.Goals.{In-Ok}
+use Rattle.image_check.proofs.verdict.judge_found.Goals as goal
 
 pub failing_on_log-requires : goal.failing_on_log-requires
 failing_on_log-requires g c = may_later c.in_ok-survey.ensures.reads c.requires
@@ -34,6 +25,7 @@ pub returns-in-Err : goal.returns-in-Err
 returns-in-Err g c = record {
   says = λ blocks meets. verdict_by 3 meets.reads (fails_so (at_first meets) (omega arith) (c.in_ok-survey.ensures.says blocks (sees_of meets)).0 (ap is_ok c.in-Err.is));
   reads = search rules;
+  few = few_more (1 * kept_blocks c.args.found.now) 0 (6 * kept_blocks c.args.found.now) (22 * c.args.found.now.log.geometry.groups + 4 * c.args.found.now.log.geometry.pages) (g.S.Site.state c.args.site.now) (g.S.Site.state c.rule_transactions.new.site) (omega arith) (omega arith) c.rule_transactions.ensures.few;
 }
 
 pub returns-in-Some : goal.returns-in-Some
@@ -45,6 +37,7 @@ returns-in-Some g c = record {
       let failing : HoldOr 6 (Some (c.in-Some.rule, c.in-Some.place)) r s1.image = subst (λ (o : Option (ℕ × Place)). HoldOr 6 o r s1.image) c.in-Some.is (c.in_ok-rule.ensures.says blocks p.0.meets p.1) in
       verdict_by c.in-Some.rule meets.reads (subst (HoldOr 6 (Some (c.in-Some.rule, c.in-Some.place)) r) p.0.same failing);
   reads = search rules;
+  few = few_then (1 * kept_blocks c.args.found.now) 0 (3 * kept_blocks c.args.found.now) 0 (6 * kept_blocks c.args.found.now) (22 * c.args.found.now.log.geometry.groups + 4 * c.args.found.now.log.geometry.pages) (g.S.Site.state c.args.site.now) (g.S.Site.state c.rule_transactions.new.site) (g.S.Site.state c.failing_on_log.new.site) (omega arith) (omega arith) c.rule_transactions.ensures.few c.failing_on_log.ensures.few;
 }
 
 pub returns : goal.returns
@@ -57,4 +50,11 @@ returns g c = record {
       let p2 = reaches p.0 6 c.in_ok-rule.ensures.reads holds in
       subst (λ (image : Image). IsVerdictOn image verdict) p2.same (says blocks p2.meets p.1)) c.judge_pages.ensures.says;
   reads = search rules;
+  few = few_then (4 * kept_blocks c.args.found.now) 0 (2 * kept_blocks c.args.found.now) (22 * c.args.found.now.log.geometry.groups + 4 * c.args.found.now.log.geometry.pages) (6 * kept_blocks c.args.found.now) (22 * c.args.found.now.log.geometry.groups + 4 * c.args.found.now.log.geometry.pages) (g.S.Site.state c.args.site.now) (g.S.Site.state c.failing_on_log.new.site) (g.S.Site.state c.judge_pages.new.site) (omega arith) (omega arith) (few_then (1 * kept_blocks c.args.found.now) 0 (3 * kept_blocks c.args.found.now) 0 (4 * kept_blocks c.args.found.now) 0 (g.S.Site.state c.args.site.now) (g.S.Site.state c.rule_transactions.new.site) (g.S.Site.state c.failing_on_log.new.site) (omega arith) (omega arith) c.rule_transactions.ensures.few c.failing_on_log.ensures.few) c.judge_pages.ensures.few;
 }
+
+pub returns-in_err-survey : goal.returns-in_err-survey
+returns-in_err-survey g c = record { says = search rules; reads = search rules; few = few_more (1 * kept_blocks c.args.found.now) 0 (6 * kept_blocks c.args.found.now) (22 * c.args.found.now.log.geometry.groups + 4 * c.args.found.now.log.geometry.pages) (g.S.Site.state c.args.site.now) (g.S.Site.state c.rule_transactions.new.site) (omega arith) (omega arith) c.rule_transactions.ensures.few }
+
+pub returns-in_err-rule : goal.returns-in_err-rule
+returns-in_err-rule g c = record { says = search rules; reads = search rules; few = few_then (1 * kept_blocks c.args.found.now) 0 (3 * kept_blocks c.args.found.now) 0 (6 * kept_blocks c.args.found.now) (22 * c.args.found.now.log.geometry.groups + 4 * c.args.found.now.log.geometry.pages) (g.S.Site.state c.args.site.now) (g.S.Site.state c.rule_transactions.new.site) (g.S.Site.state c.failing_on_log.new.site) (omega arith) (omega arith) c.rule_transactions.ensures.few c.failing_on_log.ensures.few }

@@ -1,6 +1,4 @@
-use Rattle.std.proofs.Common.{◌≡◌, true, false, refl, sym, ◌∙◌, true≢false, arith}
-use Rattle.log_records.proofs.Blocks.{used_is, used_low, some_octet}
-use Rattle.image_form.specs.Octets.{IsOnPage}
+use Rattle.image_form.proofs.Names.{◌≡◌, true, false, refl, sym, ◌∙◌, true≢false, arith, IsOnPage, used_is, used_low, some_octet}
 use Rattle.image_form.proofs.BlockReading.{some_spelled}
 use Rattle.image_form.proofs.PagesRead.{none_read, one_more, one_off, all_read, same_end}
 use Rattle.image_form.proofs.blocks.are_on_pages.Goals as goal

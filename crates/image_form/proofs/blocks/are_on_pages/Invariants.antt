@@ -1,4 +1,4 @@
-use Rattle.std.proofs.Common.{◌-◌}
+use Rattle.image_form.proofs.Names.{◌-◌}
 use Rattle.image_form.proofs.PagesRead.{PagesTo}
 use Rattle.image_form.proofs.blocks.are_on_pages.Given as goal
 

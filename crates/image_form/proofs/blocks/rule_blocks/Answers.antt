@@ -1,9 +1,5 @@
-use Rattle.std.proofs.Common.{rules, ◌≡◌, ◌-◌, ◌≤◌, ◌<◌, ℕ, true, false, sym, ap, ◌∙◌, subst, true≢false, arith}
-use Rattle.std.specs.Prelude.{Err}
-use Rattle.site.specs.declared.geometry.Geometry.{Geometry}
-use Rattle.site.specs.State.{State, Image}
-use Rattle.log_store.specs.Representation.{Finds, block_on}
-use Rattle.image_form.specs.Octets.{IsBlockOn}
+use Rattle.image_form.proofs.Names.{rules, ◌≡◌, ◌-◌, ◌≤◌, ◌<◌, ℕ, true, false, sym, ap, ◌∙◌, subst, true≢false, arith, ◌+◌, min, refl, Err, ReadsAtMost, IsBlockOn, Finds, block_on, State, Image, Geometry, Log}
+use Rattle.image_form.proofs.Counts.{few_then, few_more, log_few}
 use Rattle.image_form.proofs.BlocksJudged.{finds_later, going_later, one_is_not, one_is}
 use Rattle.image_form.proofs.blocks.rule_blocks.Goals as goal
 
@@ -58,9 +54,42 @@ loop-block-preserved g c =
           let here = c.are_on_pages.ensures.0 c.if-not-are_on_pages.false in
           one_is log old c.args.kept c.loop-block.block c.read_block.new.into is (here.0, subst (λ (n : ℕ). IsBlockOn n c.read_block.new.into here.0) pages here.1) (c.loop-block.invariant.stand finds);
       reads = search rules;
-      few =
-          let below : c.loop-block.block < log.ring.hi = omega (arith, c.loop-block-test.true, c.sealed_end-hi.ensures) in
-          let once = c.in-Ok.ensures.reads.reads in
-          let so_far = c.loop-block.invariant.few in
-          omega (arith, below, once, so_far);
+      most = omega (arith, c.loop-block-test.true, c.sealed_end-hi.ensures);
+      looks =
+          let next : ReadsAtMost 1 0 now (g.S.Site.state c.read_block.new.site) = log_few c.read_block.result Log 1 1 _ _ refl (omega arith) c.read_block.ensures.reads in
+          few_then (c.loop-block.block - c.max-first.result) 0 1 0 (c.loop-block.block + 1 - c.max-first.result) 0 old now (g.S.Site.state c.read_block.new.site) (omega (arith, c.loop-block.auto.block)) (omega arith) c.loop-block.invariant.looks next;
     }
+
+pub returns-in-Err-Foreign-clause-looks : goal.returns-in-Err-Foreign-clause-looks
+returns-in-Err-Foreign-clause-looks g c =
+    let log = c.args.log.now in
+    let old : State = g.S.Site.state c.args.site.now in
+    let now : State = g.S.Site.state c.loop-block.site in
+    let next : ReadsAtMost 1 0 now (g.S.Site.state c.read_block.new.site) = log_few c.read_block.result Log 1 1 _ _ refl (omega arith) c.read_block.ensures.reads in
+    few_then (c.loop-block.block - c.max-first.result) 0 1 0 (min (log.ring.hi - c.args.kept) (log.geometry.blocks - 1)) 0 old now (g.S.Site.state c.read_block.new.site)
+    (omega (arith, c.loop-block.auto.block, c.loop-block-test.true, c.max-first.ensures, c.saturating_sub.ensures, c.sealed_end-hi.ensures, ap (λ (x : Geometry). x.blocks) c.geometry-geometry.ensures)) (omega arith) c.loop-block.invariant.looks next
+
+pub returns-in-Err-clause-looks : goal.returns-in-Err-clause-looks
+returns-in-Err-clause-looks g c =
+    let log = c.args.log.now in
+    let old : State = g.S.Site.state c.args.site.now in
+    let now : State = g.S.Site.state c.loop-block.site in
+    let next : ReadsAtMost 1 0 now (g.S.Site.state c.read_block.new.site) = log_few c.read_block.result Log 1 1 _ _ refl (omega arith) c.read_block.ensures.reads in
+    few_then (c.loop-block.block - c.max-first.result) 0 1 0 (min (log.ring.hi - c.args.kept) (log.geometry.blocks - 1)) 0 old now (g.S.Site.state c.read_block.new.site)
+    (omega (arith, c.loop-block.auto.block, c.loop-block-test.true, c.max-first.ensures, c.saturating_sub.ensures, c.sealed_end-hi.ensures, ap (λ (x : Geometry). x.blocks) c.geometry-geometry.ensures)) (omega arith) c.loop-block.invariant.looks next
+
+pub returns-then-not-are_on_pages-clause-looks : goal.returns-then-not-are_on_pages-clause-looks
+returns-then-not-are_on_pages-clause-looks g c =
+    let log = c.args.log.now in
+    let old : State = g.S.Site.state c.args.site.now in
+    let now : State = g.S.Site.state c.loop-block.site in
+    let next : ReadsAtMost 1 0 now (g.S.Site.state c.read_block.new.site) = log_few c.read_block.result Log 1 1 _ _ refl (omega arith) c.read_block.ensures.reads in
+    few_then (c.loop-block.block - c.max-first.result) 0 1 0 (min (log.ring.hi - c.args.kept) (log.geometry.blocks - 1)) 0 old now (g.S.Site.state c.read_block.new.site)
+    (omega (arith, c.loop-block.auto.block, c.loop-block-test.true, c.max-first.ensures, c.saturating_sub.ensures, c.sealed_end-hi.ensures, ap (λ (x : Geometry). x.blocks) c.geometry-geometry.ensures)) (omega arith) c.loop-block.invariant.looks next
+
+pub returns-clause-looks : goal.returns-clause-looks
+returns-clause-looks g c =
+    let log = c.args.log.now in
+    let most = c.loop-block.invariant.most in
+    few_more (c.loop-block.block - c.max-first.result) 0 (min (log.ring.hi - c.args.kept) (log.geometry.blocks - 1)) 0 (g.S.Site.state c.args.site.now) (g.S.Site.state c.loop-block.site)
+    (omega (arith, most, c.loop-block.auto.block, c.max-first.ensures, c.saturating_sub.ensures, c.sealed_end-hi.ensures, ap (λ (x : Geometry). x.blocks) c.geometry-geometry.ensures)) (omega arith) c.loop-block.invariant.looks

@@ -1,77 +1,25 @@
-use Rattle.std.proofs.Common.{rules, ◌≡◌, inl, inr, ℕ, List, true≢false, refl, sym, ◌∙◌, subst, arith}
-use Rattle.std.proofs.lemmas.Bool.{cases_eq}
-use Rattle.site.specs.State.{State, Image}
-use Rattle.site.proofs.Laws.{stays_honest}
-use Rattle.sealed_ring.specs.Ring.{IsLive, hi_of}
-use Rattle.image_changes.specs.Rings.{group_shape}
-use Rattle.frame_group.specs.Groups.{Frame, frames_in}
-use Rattle.frame_group.proofs.Contents.{frames_are_in}
-use Rattle.tail_rebuild.specs.Standing.{group_on}
-use Rattle.image_form.specs.Octets.{IsGroupOn, AreGroups}
-use Rattle.image_form.specs.Framing.{IsCleanFrame}
+use Rattle.image_form.proofs.Names.{◌≡◌, ◌↔◌, IsTrue, sym, subst, Ok, Err, is_none, ShowsFrames, AreGroups, FramesAreClean, stays_honest, looks_then, State, Image}
 use Rattle.image_form.proofs.Lasting.{found_later, may_read_later}
-use Rattle.image_form.proofs.CleanOnes.{clean_of_each, each_clean}
-use Rattle.image_form.proofs.UnitsJudged.{end_is, live_there}
+use Rattle.image_form.proofs.NewestRead.{shown_some}
 use Rattle.image_form.proofs.clean.rule_clean.Goals as goal
 
-pub returns-then-not-clean-clause-clean : goal.returns-then-not-clean-clause-clean
-returns-then-not-clean-clause-clean g c honest found groups =
+pub find_unclean-requires : goal.find_unclean-requires
+find_unclean-requires g c = may_read_later c.args.geometry.now c.args.rings.now (g.S.Site.state c.args.site.now) (g.S.Site.state c.find_frames.new.site) c.in-Ok-Some.ensures.reads.preserves c.requires
+
+pub returns-in-Ok-clause-clean : goal.returns-in-Ok-clause-clean
+returns-in-Ok-clause-clean g c honest found groups =
     let geometry = c.args.geometry.now in
-    let rings = c.args.rings.now in
-    let ring = rings.groups in
     let old : State = g.S.Site.state c.args.site.now in
-    let now : State = g.S.Site.state c.loop-group.site in
-    let reads = c.loop-group.invariant.reads in
+    let now : State = g.S.Site.state c.find_frames.new.site in
+    let reads = c.in-Ok-Some.ensures.reads in
     let same : now.image ≡ old.image = (reads.same honest).image in
-    let n : ℕ = c.loop-group.group in
-    let some = c.requires.sizes.limits.groups in
-    let live = live_there (group_shape geometry) ring old n c.requires.groups_shape found.groups (omega (arith, c.loop-group.auto.group, c.oldest-group.ensures)) (omega (arith, c.loop-group-test.true, c.hi-group-end.ensures)) in
-    let frames = groups n live in
-    let mine = frames_are_in (group_on geometry old.image n) frames.0 frames.1.group in
-    let says = c.in-Ok.ensures.clean frames.0 (stays_honest old now reads.preserves honest) (found_later rings old now same found) (subst (AreGroups geometry) (sym same) groups)
-    (subst (λ (image : Image). IsGroupOn geometry (group_on geometry image n) frames.0) (sym same) frames.1) in (
-      λ wrong. absurd (true≢false (sym wrong)),
-      λ rule. absurd (true≢false (sym (says.1 (λ i. subst (λ (image : Image). IsCleanFrame geometry image n frames.0 i) (sym same)
-          (subst (λ (l : List Frame). IsCleanFrame geometry old.image n l i) mine (each_clean geometry old.image (omega (arith, some)) rule n live i)))) ∙ c.if-not-clean.true)),
-    )
+    let shows = shown_some geometry old.image c.in-Ok-Some.field-0 c.in-Ok-Some.frames c.in-Ok-Some.field-0-is (c.in-Ok-Some.ensures.shown honest found groups) in
+    subst (λ (image : Image). IsTrue (is_none c.in-Ok.failing) ↔ FramesAreClean geometry image) same
+    (c.in-Ok.ensures.clean (stays_honest old now reads.preserves honest) (found_later c.args.rings.now old now same found) (subst (AreGroups geometry) (sym same) groups)
+    (subst (λ (image : Image). ShowsFrames geometry image c.in-Ok-Some.frames) (sym same) shows))
 
-pub loop-group-preserved : goal.loop-group-preserved
-loop-group-preserved g c =
-    let geometry = c.args.geometry.now in
-    let rings = c.args.rings.now in
-    let ring = rings.groups in
-    let old : State = g.S.Site.state c.args.site.now in
-    let now : State = g.S.Site.state c.loop-group.site in
-    let reads = c.loop-group.invariant.reads in
-    let at : ℕ = c.loop-group.group in
-    record {
-      may_read = may_read_later geometry rings now (g.S.Site.state c.is_clean_group.new.site) c.in-Ok.ensures.reads.preserves c.loop-group.invariant.may_read;
-      stand = λ honest found groups n live below. elim (cases_eq n at) [
-        | inl here ↦
-            let same : now.image ≡ old.image = (reads.same honest).image in
-            let hi : ring.hi ≡ hi_of (group_shape geometry) old.image.flash = end_is (group_shape geometry) ring old c.requires.groups_shape found.groups in
-            let lives : IsLive (group_shape geometry) (hi_of (group_shape geometry) old.image.flash) at = subst (λ (h : ℕ). IsLive (group_shape geometry) h at) hi (subst (IsLive (group_shape geometry) ring.hi) here live) in
-            let frames = groups at lives in
-            let mine = frames_are_in (group_on geometry old.image at) frames.0 frames.1.group in
-            let says = c.in-Ok.ensures.clean frames.0 (stays_honest old now reads.preserves honest) (found_later rings old now same found) (subst (AreGroups geometry) (sym same) groups)
-            (subst (λ (image : Image). IsGroupOn geometry (group_on geometry image at) frames.0) (sym same) frames.1) in
-            λ i. subst (λ (k : ℕ). IsCleanFrame geometry old.image k (frames_in (group_on geometry old.image k)) i) (sym here)
-            (subst (λ (l : List Frame). IsCleanFrame geometry old.image at l i) (sym mine) (subst (λ (image : Image). IsCleanFrame geometry image at frames.0 i) same (says.0 c.if-not-clean.false i)))
-        | inr other ↦ c.loop-group.invariant.stand honest found groups n live (omega (arith, below, other))
-      ];
-      reads = search rules;
-    }
+pub returns-in-Ok-clause-reads : goal.returns-in-Ok-clause-reads
+returns-in-Ok-clause-reads g c = looks_then c.in-Ok-Some.field-0 (Ok c.in-Ok.failing) _ _ _ c.in-Ok-Some.ensures.reads c.in-Ok.ensures.reads
 
-pub returns-clause-clean : goal.returns-clause-clean
-returns-clause-clean g c honest found groups =
-    let geometry = c.args.geometry.now in
-    let ring = c.args.rings.now.groups in
-    let old : State = g.S.Site.state c.args.site.now in
-    let some = c.requires.sizes.limits.groups in
-    let hi : ring.hi ≡ hi_of (group_shape geometry) old.image.flash = end_is (group_shape geometry) ring old c.requires.groups_shape found.groups in (
-      λ yes. clean_of_each geometry old.image (omega (arith, some)) (λ n live i.
-          let here = subst (λ (h : ℕ). IsLive (group_shape geometry) h n) (sym hi) live in
-          let below = here.below in
-          c.loop-group.invariant.stand honest found groups n here (omega (arith, below, c.loop-group-test.false, c.hi-group-end.ensures)) i),
-      λ rule. refl,
-    )
+pub returns-clause-reads : goal.returns-clause-reads
+returns-clause-reads g c = looks_then c.in-Ok-Some.field-0 (Err c.in-Err-find_unclean.stop) _ _ _ c.in-Ok-Some.ensures.reads c.in-Err-find_unclean.ensures.reads

@@ -1,17 +1,8 @@
-use Rattle.std.proofs.Common.{◌≡◌, inl, inr, ℕ, true, false, sym, ap, refl, ◌∙◌, subst, true≢false, arith}
-use Rattle.std.specs.Prelude.{Ok, Some}
-use Rattle.std.proofs.lemmas.Bool.{cases_eq}
-use Rattle.site.specs.State.{State, Image}
-use Rattle.site.proofs.Laws.{stays_honest}
-use Rattle.sealed_ring.specs.declared.slots.Shape.{Shape}
-use Rattle.sealed_ring.specs.Ring.{IsLive, hi_of}
-use Rattle.sealed_ring.specs.Ready.{region}
-use Rattle.image_changes.specs.Rings.{group_shape, segment_shape}
-use Rattle.site.proofs.Working.{looks_then, looks_answered}
-use Rattle.image_form.specs.declared.place.Place.TheVariants as place
-use Rattle.image_form.specs.Findings.{AreHeadsSaved}
+use Rattle.image_form.proofs.Names.{◌≡◌, inl, inr, ℕ, true, false, sym, ap, refl, ◌∙◌, subst, true≢false, arith, ◌+◌, ◌-◌, ◌*◌, cases_eq, Ok, Some, group_shape, segment_shape, AreHeadsSaved, region, IsLive, hi_of, Shape, stays_honest, looks_then, looks_answered, State, Image}
+use Rattle.image_form.proofs.Counts.{few_then}
 use Rattle.image_form.proofs.Lasting.{found_later, may_read_later}
 use Rattle.image_form.proofs.SavedHeads.{follows, saved}
+use Rattle.image_form.specs.declared.place.Place.TheVariants as place
 use Rattle.image_form.proofs.following.rule_following.Goals as goal
 
 -- src/following.rt:74:13
@@ -70,6 +61,7 @@ loop-group-preserved g c =
             | inl is ↦ subst (AreHeadsSaved geometry old.image) (sym is) here
             | inr other ↦ c.loop-group.invariant.saved honest found n live (omega (arith, below, other))
           ];
+      looks = few_then 0 (2 * (group - (c.args.rings.now.groups.hi - (c.args.rings.now.groups.shape.slots - 1)))) 0 2 0 (2 * (group + 1 - (c.args.rings.now.groups.hi - (c.args.rings.now.groups.shape.slots - 1)))) old now new (omega arith) (omega (arith, c.loop-group.auto.group, c.oldest-group.ensures)) c.loop-group.invariant.looks c.in-Ok.ensures.looks;
       reads = looks_answered c.in-Ok.same tt old new (looks_then tt (Ok c.in-Ok.same) old now new reads c.in-Ok.ensures.reads);
     }
 

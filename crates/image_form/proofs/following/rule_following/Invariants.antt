@@ -1,9 +1,4 @@
-use Rattle.std.proofs.Common.{ℕ, ◌<◌, IsTrue}
-use Rattle.std.specs.Prelude.{Ok}
-use Rattle.sealed_ring.specs.Ring.{IsLive}
-use Rattle.image_changes.specs.Rings.{group_shape}
-use Rattle.site.specs.Work.{OnlyReads}
-use Rattle.image_form.specs.Findings.{MayRead, AreFound, AreHeadsSaved}
+use Rattle.image_form.proofs.Names.{ℕ, ◌<◌, IsTrue, ◌*◌, ◌-◌, Ok, group_shape, ReadsAtMost, MayRead, AreFound, AreHeadsSaved, IsLive, OnlyReads}
 use Rattle.image_form.proofs.following.rule_following.Given as goal
 
 abbrev pub invariant-loop-group : goal.invariant-loop-group
@@ -13,5 +8,6 @@ invariant-loop-group g l =
     record {
       may_read : MayRead l.geometry l.rings now;
       saved : IsTrue old.honest → AreFound l.rings old → (n : ℕ) → IsLive (group_shape l.geometry) l.rings.groups.hi n → n < l.group → AreHeadsSaved l.geometry old.image n;
+      looks : ReadsAtMost 0 (2 * (l.group - (l.rings.groups.hi - (l.rings.groups.shape.slots - 1)))) old now;
       reads : OnlyReads {T = Unit {0}} (Ok tt) old now;
     }

@@ -1,16 +1,8 @@
-use Rattle.std.proofs.Common.{rules, subst}
-use Rattle.std.specs.Prelude.{Option, Result, Ok, Err}
-use Rattle.site.specs.declared.geometry.Geometry.{Geometry}
-use Rattle.site.specs.State.{State}
-use Rattle.site.proofs.Working.{looks_then, looks_answered}
-use Rattle.image_form.specs.declared.formed.Found.{Found}
-use Rattle.image_form.specs.declared.place.Place.{Place}
-use Rattle.image_form.specs.declared.place.Place.TheVariants as place
-use Rattle.image_form.specs.declared.rings.Rings.{Rings}
-use Rattle.image_form.specs.Octets.{HasSizes, AreRings}
-use Rattle.image_form.specs.Findings.{SizesAre, RingsAre}
+use Rattle.image_form.proofs.Names.{rules, subst, ◌+◌, ◌*◌, arith, Option, Result, Ok, Err, log_to_find, pages_to_find, SizesAre, RingsAre, HasSizes, AreRings, Found, Place, Rings, looks_then, looks_answered, State, Geometry}
+use Rattle.image_form.proofs.Counts.{by_no_sizes, by_sizes, few_more, few_then}
 use Rattle.image_form.proofs.Lasting.{sizes_later}
 use Rattle.image_form.proofs.FirstRule.{one_size}
+use Rattle.image_form.specs.declared.place.Place.TheVariants as place
 use Rattle.image_form.proofs.formed.find.Goals as goal
 
 pub find_log-requires : goal.find_log-requires
@@ -53,3 +45,65 @@ returns-clause-reads g c =
     let answer : Result Found Place = Ok found in
     looks_then c.in_ok-rings.field-0 (Ok answer) _ _ _ c.in_ok-rings.ensures.reads
     (looks_then c.in_ok-master.field-0 (Ok answer) _ _ _ c.in_ok-master.ensures.reads (looks_answered c.in_ok-log.field-0 answer _ _ c.in_ok-log.ensures.reads))
+
+pub returns-in_default-clause-looks : goal.returns-in_default-clause-looks
+returns-in_default-clause-looks g c =
+    let old : State = g.S.Site.state c.args.site.now in
+    by_no_sizes log_to_find pages_to_find old (subst (λ (o : Option Geometry). SizesAre o old.image) c.in_default.is c.rule_lengths.ensures)
+
+pub returns-in_err-rings-clause-looks : goal.returns-in_err-rings-clause-looks
+returns-in_err-rings-clause-looks g c =
+    let geometry = c.in-Some.geometry in
+    let old : State = g.S.Site.state c.args.site.now in
+    let sizes : HasSizes geometry old.image = subst (λ (o : Option Geometry). SizesAre o old.image) c.in-Some.is c.rule_lengths.ensures in
+    by_sizes log_to_find pages_to_find geometry old (g.S.Site.state c.rule_rings.new.site) sizes (few_more (2 * geometry.blocks + 6) (pages_to_find geometry) (log_to_find geometry) (pages_to_find geometry) _ _ (omega arith) (omega arith) c.rule_rings.ensures.looks)
+
+pub returns-in-Err-clause-looks : goal.returns-in-Err-clause-looks
+returns-in-Err-clause-looks g c =
+    let geometry = c.in-Some.geometry in
+    let old : State = g.S.Site.state c.args.site.now in
+    let sizes : HasSizes geometry old.image = subst (λ (o : Option Geometry). SizesAre o old.image) c.in-Some.is c.rule_lengths.ensures in
+    by_sizes log_to_find pages_to_find geometry old (g.S.Site.state c.rule_rings.new.site) sizes (few_more (2 * geometry.blocks + 6) (pages_to_find geometry) (log_to_find geometry) (pages_to_find geometry) _ _ (omega arith) (omega arith) c.rule_rings.ensures.looks)
+
+pub returns-in_err-master-clause-looks : goal.returns-in_err-master-clause-looks
+returns-in_err-master-clause-looks g c =
+    let geometry = c.in-Some.geometry in
+    let old : State = g.S.Site.state c.args.site.now in
+    let sizes : HasSizes geometry old.image = subst (λ (o : Option Geometry). SizesAre o old.image) c.in-Some.is c.rule_lengths.ensures in
+    by_sizes log_to_find pages_to_find geometry old (g.S.Site.state c.rule_master.new.site) sizes (few_then (2 * geometry.blocks + 6) (pages_to_find geometry) 5 0 (log_to_find geometry) (pages_to_find geometry) _ _ _ (omega arith) (omega arith)
+    c.rule_rings.ensures.looks c.rule_master.ensures.looks)
+
+pub returns-in_default-2-clause-looks : goal.returns-in_default-2-clause-looks
+returns-in_default-2-clause-looks g c =
+    let geometry = c.in-Some.geometry in
+    let old : State = g.S.Site.state c.args.site.now in
+    let sizes : HasSizes geometry old.image = subst (λ (o : Option Geometry). SizesAre o old.image) c.in-Some.is c.rule_lengths.ensures in
+    by_sizes log_to_find pages_to_find geometry old (g.S.Site.state c.rule_master.new.site) sizes (few_then (2 * geometry.blocks + 6) (pages_to_find geometry) 5 0 (log_to_find geometry) (pages_to_find geometry) _ _ _ (omega arith) (omega arith)
+    c.rule_rings.ensures.looks c.rule_master.ensures.looks)
+
+pub returns-in_err-log-clause-looks : goal.returns-in_err-log-clause-looks
+returns-in_err-log-clause-looks g c =
+    let geometry = c.in-Some.geometry in
+    let old : State = g.S.Site.state c.args.site.now in
+    let sizes : HasSizes geometry old.image = subst (λ (o : Option Geometry). SizesAre o old.image) c.in-Some.is c.rule_lengths.ensures in
+    by_sizes log_to_find pages_to_find geometry old (g.S.Site.state c.find_log.new.site) sizes (few_then (2 * geometry.blocks + 11) (pages_to_find geometry) (geometry.blocks + 1) 0 (log_to_find geometry) (pages_to_find geometry) _ _ _ (omega arith) (omega arith)
+    (few_then (2 * geometry.blocks + 6) (pages_to_find geometry) 5 0 (2 * geometry.blocks + 11) (pages_to_find geometry) _ _ _ (omega arith) (omega arith) c.rule_rings.ensures.looks c.rule_master.ensures.looks)
+    c.find_log.ensures.looks)
+
+pub returns-in_default-3-clause-looks : goal.returns-in_default-3-clause-looks
+returns-in_default-3-clause-looks g c =
+    let geometry = c.in-Some.geometry in
+    let old : State = g.S.Site.state c.args.site.now in
+    let sizes : HasSizes geometry old.image = subst (λ (o : Option Geometry). SizesAre o old.image) c.in-Some.is c.rule_lengths.ensures in
+    by_sizes log_to_find pages_to_find geometry old (g.S.Site.state c.find_log.new.site) sizes (few_then (2 * geometry.blocks + 11) (pages_to_find geometry) (geometry.blocks + 1) 0 (log_to_find geometry) (pages_to_find geometry) _ _ _ (omega arith) (omega arith)
+    (few_then (2 * geometry.blocks + 6) (pages_to_find geometry) 5 0 (2 * geometry.blocks + 11) (pages_to_find geometry) _ _ _ (omega arith) (omega arith) c.rule_rings.ensures.looks c.rule_master.ensures.looks)
+    c.find_log.ensures.looks)
+
+pub returns-clause-looks : goal.returns-clause-looks
+returns-clause-looks g c =
+    let geometry = c.in-Some.geometry in
+    let old : State = g.S.Site.state c.args.site.now in
+    let sizes : HasSizes geometry old.image = subst (λ (o : Option Geometry). SizesAre o old.image) c.in-Some.is c.rule_lengths.ensures in
+    by_sizes log_to_find pages_to_find geometry old (g.S.Site.state c.find_log.new.site) sizes (few_then (2 * geometry.blocks + 11) (pages_to_find geometry) (geometry.blocks + 1) 0 (log_to_find geometry) (pages_to_find geometry) _ _ _ (omega arith) (omega arith)
+    (few_then (2 * geometry.blocks + 6) (pages_to_find geometry) 5 0 (2 * geometry.blocks + 11) (pages_to_find geometry) _ _ _ (omega arith) (omega arith) c.rule_rings.ensures.looks c.rule_master.ensures.looks)
+    c.find_log.ensures.looks)

@@ -1,16 +1,10 @@
-use Rattle.std.proofs.Common.{rules, ◌≡◌, ◌↔◌, IsTrue, true≢false, Ok, refl, sym, subst}
-use Rattle.std.specs.Prelude.{Some, is_none}
-use Rattle.site.specs.declared.geometry.Geometry.{Geometry}
-use Rattle.site.specs.State.{State}
-use Rattle.site.proofs.Working.{looks_then, looks_answered}
-use Rattle.image_form.specs.Octets.{AreBlocks, AreGroups, SegmentsAreFormed, AreVersions}
-use Rattle.image_form.specs.Findings.{MayRead}
-use Rattle.image_form.specs.Formed.{IsThere}
-use Rattle.image_form.specs.Verdict.{OctetsAreFormed}
+use Rattle.image_form.proofs.Names.{rules, ◌≡◌, ◌↔◌, IsTrue, true≢false, refl, sym, subst, ◌+◌, ◌*◌, ap, arith, Some, is_none, segment_slots, MayRead, IsThere, AreBlocks, AreGroups, SegmentsAreFormed, AreVersions, OctetsAreFormed, looks_then, looks_answered, State, Geometry}
+use Rattle.std.proofs.Common.{Ok}
+use Rattle.image_form.proofs.Counts.{few_more, few_then}
 use Rattle.image_form.proofs.FirstRule.{StillThere, may_be_read_later, still_there, part_holds, part_fails, placed, unplaced, answers_as}
 use Rattle.image_form.proofs.formed.find_unformed.Given.{Over}
-use Rattle.image_form.proofs.formed.find_unformed.Goals as goal
 use Rattle.image_form.proofs.formed.find_unformed.Goals.{In_default, In_default-2}
+use Rattle.image_form.proofs.formed.find_unformed.Goals as goal
 
 pub rule_groups-requires : goal.rule_groups-requires
 rule_groups-requires g c =
@@ -110,3 +104,71 @@ returns-clause-reads g c =
     looks_then c.in_ok-place.field-0 c.rule_versions.result _ _ _ c.in_ok-place.ensures.reads
     (looks_then c.in_ok-place-2.field-0 c.rule_versions.result _ _ _ c.in_ok-place-2.ensures.reads
     (looks_then c.in_ok-place-3.field-0 c.rule_versions.result _ _ _ c.in_ok-place-3.ensures.reads c.rule_versions.ensures.reads))
+
+pub returns-in_err-place-clause-looks : goal.returns-in_err-place-clause-looks
+returns-in_err-place-clause-looks g c =
+    let found = c.args.found.now in
+    let sizes : Geometry = found.log.geometry in
+    let most = 10 * sizes.groups + segment_slots sizes + sizes.pages in
+    few_more _ 0 sizes.blocks most (g.S.Site.state c.args.site.now) (g.S.Site.state c.rule_blocks.new.site) (omega arith) (omega arith) c.rule_blocks.ensures.looks
+
+pub returns-in-Some-clause-looks : goal.returns-in-Some-clause-looks
+returns-in-Some-clause-looks g c =
+    let found = c.args.found.now in
+    let sizes : Geometry = found.log.geometry in
+    let most = 10 * sizes.groups + segment_slots sizes + sizes.pages in
+    few_more _ 0 sizes.blocks most (g.S.Site.state c.args.site.now) (g.S.Site.state c.rule_blocks.new.site) (omega arith) (omega arith) c.rule_blocks.ensures.looks
+
+pub returns-in_err-place-2-clause-looks : goal.returns-in_err-place-2-clause-looks
+returns-in_err-place-2-clause-looks g c =
+    let found = c.args.found.now in
+    let sizes : Geometry = found.log.geometry in
+    let most = 10 * sizes.groups + segment_slots sizes + sizes.pages in
+    let groups = ap (λ (x : Geometry). x.groups) c.geometry-geometry.ensures in
+    let pages = ap (λ (x : Geometry). x.pages) c.geometry-geometry.ensures in
+    few_then sizes.blocks 0 0 (9 * c.geometry-geometry.result.groups) sizes.blocks most (g.S.Site.state c.args.site.now) (g.S.Site.state c.rule_blocks.new.site) (g.S.Site.state c.rule_groups.new.site) (omega arith) (omega (arith, groups, pages))
+    (few_more _ 0 sizes.blocks 0 (g.S.Site.state c.args.site.now) (g.S.Site.state c.rule_blocks.new.site) (omega arith) (omega arith) c.rule_blocks.ensures.looks) c.rule_groups.ensures.looks
+
+pub returns-in-Some-2-clause-looks : goal.returns-in-Some-2-clause-looks
+returns-in-Some-2-clause-looks g c =
+    let found = c.args.found.now in
+    let sizes : Geometry = found.log.geometry in
+    let most = 10 * sizes.groups + segment_slots sizes + sizes.pages in
+    let groups = ap (λ (x : Geometry). x.groups) c.geometry-geometry.ensures in
+    let pages = ap (λ (x : Geometry). x.pages) c.geometry-geometry.ensures in
+    few_then sizes.blocks 0 0 (9 * c.geometry-geometry.result.groups) sizes.blocks most (g.S.Site.state c.args.site.now) (g.S.Site.state c.rule_blocks.new.site) (g.S.Site.state c.rule_groups.new.site) (omega arith) (omega (arith, groups, pages))
+    (few_more _ 0 sizes.blocks 0 (g.S.Site.state c.args.site.now) (g.S.Site.state c.rule_blocks.new.site) (omega arith) (omega arith) c.rule_blocks.ensures.looks) c.rule_groups.ensures.looks
+
+pub returns-in_err-place-3-clause-looks : goal.returns-in_err-place-3-clause-looks
+returns-in_err-place-3-clause-looks g c =
+    let found = c.args.found.now in
+    let sizes : Geometry = found.log.geometry in
+    let most = 10 * sizes.groups + segment_slots sizes + sizes.pages in
+    let groups = ap (λ (x : Geometry). x.groups) c.geometry-geometry.ensures in
+    let pages = ap (λ (x : Geometry). x.pages) c.geometry-geometry.ensures in
+    few_then sizes.blocks (9 * sizes.groups) 0 (segment_slots c.geometry-geometry.result) sizes.blocks most (g.S.Site.state c.args.site.now) (g.S.Site.state c.rule_groups.new.site) (g.S.Site.state c.rule_segments.new.site) (omega arith) (omega (arith, groups, pages))
+    (few_then sizes.blocks 0 0 (9 * c.geometry-geometry.result.groups) sizes.blocks (9 * sizes.groups) (g.S.Site.state c.args.site.now) (g.S.Site.state c.rule_blocks.new.site) (g.S.Site.state c.rule_groups.new.site) (omega arith) (omega (arith, groups, pages))
+    (few_more _ 0 sizes.blocks 0 (g.S.Site.state c.args.site.now) (g.S.Site.state c.rule_blocks.new.site) (omega arith) (omega arith) c.rule_blocks.ensures.looks) c.rule_groups.ensures.looks) c.rule_segments.ensures.looks
+
+pub returns-in-Some-3-clause-looks : goal.returns-in-Some-3-clause-looks
+returns-in-Some-3-clause-looks g c =
+    let found = c.args.found.now in
+    let sizes : Geometry = found.log.geometry in
+    let most = 10 * sizes.groups + segment_slots sizes + sizes.pages in
+    let groups = ap (λ (x : Geometry). x.groups) c.geometry-geometry.ensures in
+    let pages = ap (λ (x : Geometry). x.pages) c.geometry-geometry.ensures in
+    few_then sizes.blocks (9 * sizes.groups) 0 (segment_slots c.geometry-geometry.result) sizes.blocks most (g.S.Site.state c.args.site.now) (g.S.Site.state c.rule_groups.new.site) (g.S.Site.state c.rule_segments.new.site) (omega arith) (omega (arith, groups, pages))
+    (few_then sizes.blocks 0 0 (9 * c.geometry-geometry.result.groups) sizes.blocks (9 * sizes.groups) (g.S.Site.state c.args.site.now) (g.S.Site.state c.rule_blocks.new.site) (g.S.Site.state c.rule_groups.new.site) (omega arith) (omega (arith, groups, pages))
+    (few_more _ 0 sizes.blocks 0 (g.S.Site.state c.args.site.now) (g.S.Site.state c.rule_blocks.new.site) (omega arith) (omega arith) c.rule_blocks.ensures.looks) c.rule_groups.ensures.looks) c.rule_segments.ensures.looks
+
+pub returns-clause-looks : goal.returns-clause-looks
+returns-clause-looks g c =
+    let found = c.args.found.now in
+    let sizes : Geometry = found.log.geometry in
+    let most = 10 * sizes.groups + segment_slots sizes + sizes.pages in
+    let groups = ap (λ (x : Geometry). x.groups) c.geometry-geometry.ensures in
+    let pages = ap (λ (x : Geometry). x.pages) c.geometry-geometry.ensures in
+    few_then sizes.blocks (9 * sizes.groups + segment_slots sizes) 0 (c.geometry-geometry.result.groups + c.geometry-geometry.result.pages) sizes.blocks most (g.S.Site.state c.args.site.now) (g.S.Site.state c.rule_segments.new.site) (g.S.Site.state c.rule_versions.new.site) (omega arith) (omega (arith, groups, pages))
+    (few_then sizes.blocks (9 * sizes.groups) 0 (segment_slots c.geometry-geometry.result) sizes.blocks (9 * sizes.groups + segment_slots sizes) (g.S.Site.state c.args.site.now) (g.S.Site.state c.rule_groups.new.site) (g.S.Site.state c.rule_segments.new.site) (omega arith) (omega (arith, groups, pages))
+    (few_then sizes.blocks 0 0 (9 * c.geometry-geometry.result.groups) sizes.blocks (9 * sizes.groups) (g.S.Site.state c.args.site.now) (g.S.Site.state c.rule_blocks.new.site) (g.S.Site.state c.rule_groups.new.site) (omega arith) (omega (arith, groups, pages))
+    (few_more _ 0 sizes.blocks 0 (g.S.Site.state c.args.site.now) (g.S.Site.state c.rule_blocks.new.site) (omega arith) (omega arith) c.rule_blocks.ensures.looks) c.rule_groups.ensures.looks) c.rule_segments.ensures.looks) c.rule_versions.ensures.looks

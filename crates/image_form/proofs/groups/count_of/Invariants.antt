@@ -1,5 +1,4 @@
-use Rattle.std.proofs.Common.{◌≡◌, ◌+◌, drop}
-use Rattle.byte_fields.specs.FrameHeads.{present_in_front}
+use Rattle.image_form.proofs.Names.{◌≡◌, ◌+◌, drop, present_in_front}
 use Rattle.image_form.proofs.groups.count_of.Given as goal
 
 abbrev pub invariant-loop-head : goal.invariant-loop-head

@@ -1,14 +1,4 @@
-use Rattle.std.proofs.Common.{◌≡◌, ◌+◌, ◌-◌, ◌*◌, ◌<◌, ℕ, List, get_or, take, drop, replicate, true≢false, refl, sym, ap, ◌∙◌, subst, arith}
-use Rattle.std.proofs.lemmas.List.{length-replicate}
-use Rattle.byte_fields.specs.declared.frame_head.FrameHead.{FrameHead}
-use Rattle.byte_fields.specs.FrameHeads.{blank, present_in_front}
-use Rattle.byte_fields.proofs.GroupHeads.{present_are_first}
-use Rattle.frame_group.specs.declared.group.TheConstants.{PAGE_LEN, HEADS_LEN}
-use Rattle.frame_group.specs.Groups.{heads_of, lsn_of}
-use Rattle.frame_group.proofs.Front.{begins_with_heads}
-use Rattle.frame_group.proofs.Pages.{zeros_have_no_frames}
-use Rattle.flash_cache.proofs.Given.{same_lsn}
-use Rattle.image_form.specs.Framing.{IsFrameBy}
+use Rattle.image_form.proofs.Names.{◌≡◌, ◌+◌, ◌-◌, ◌*◌, ◌<◌, ℕ, List, get_or, take, drop, replicate, true≢false, refl, sym, ap, ◌∙◌, subst, arith, length-replicate, present_are_first, blank, present_in_front, FrameHead, same_lsn, begins_with_heads, zeros_have_no_frames, heads_of, lsn_of, PAGE_LEN, HEADS_LEN, IsFrameBy}
 use Rattle.image_form.proofs.GroupsRead.{put_none, put_more, not_put, put_all, all_put}
 use Rattle.image_form.proofs.groups.is_group_on.Goals as goal
 

@@ -1,12 +1,4 @@
-use Rattle.std.proofs.Common.{ℕ, ◌<◌, List, IsTrue}
-use Rattle.std.specs.Prelude.{Ok}
-use Rattle.sealed_ring.specs.Ring.{IsLive}
-use Rattle.image_changes.specs.Rings.{group_shape}
-use Rattle.frame_group.specs.Groups.{Frame}
-use Rattle.tail_rebuild.specs.Standing.{group_on}
-use Rattle.site.specs.Work.{OnlyReads}
-use Rattle.image_form.specs.Octets.{IsGroupOn}
-use Rattle.image_form.specs.Findings.{MayRead, AreFound}
+use Rattle.image_form.proofs.Names.{ℕ, ◌<◌, List, IsTrue, ◌*◌, ◌-◌, Ok, Frame, group_shape, ReadsAtMost, MayRead, AreFound, IsGroupOn, IsLive, OnlyReads, group_on}
 use Rattle.image_form.proofs.groups.rule_groups.Given as goal
 
 abbrev pub invariant-loop-group : goal.invariant-loop-group
@@ -17,5 +9,6 @@ invariant-loop-group g l =
       may_read : MayRead l.geometry l.rings now;
       stand : IsTrue old.honest → AreFound l.rings old → (n : ℕ) → IsLive (group_shape l.geometry) l.rings.groups.hi n → n < l.group →
           (frames : List Frame) × IsGroupOn l.geometry (group_on l.geometry old.image n) frames;
+      looks : ReadsAtMost 0 (9 * (l.group - (l.rings.groups.hi - (l.rings.groups.shape.slots - 1)))) old now;
       reads : OnlyReads {T = Unit {0}} (Ok tt) old now;
     }

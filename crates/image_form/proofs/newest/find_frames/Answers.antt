@@ -1,19 +1,5 @@
-use Rattle.std.proofs.Common.{rules, ◌≡◌, ◌++◌, ◌∷◌, [], ℕ, List, All, map, length, sym, ap, ◌∙◌, subst, arith}
-use Rattle.std.proofs.lemmas.List.{length-append}
-use Rattle.std.proofs.lemmas.Option.{none-some, same_Some}
-use Rattle.site.specs.State.{State, Image}
-use Rattle.site.proofs.Laws.{stays_honest}
-use Rattle.site.proofs.Working.{looks_then, looks_answered}
-use Rattle.std.specs.Prelude.{Ok}
-use Rattle.sealed_ring.specs.declared.slots.Shape.{Shape}
-use Rattle.sealed_ring.specs.Ring.{hi_of}
-use Rattle.byte_fields.specs.declared.frame_head.FrameHead.{FrameHead}
-use Rattle.byte_fields.specs.FrameHeads.{AreGroupHeads}
-use Rattle.image_changes.specs.Rings.{group_shape}
-use Rattle.second_chance.specs.Queue.{Queue}
-use Rattle.frame_group.specs.Groups.{heads_of, IsGroup}
-use Rattle.tail_rebuild.specs.Standing.{group_on}
-use Rattle.flash_directory.specs.Heads.{frames_in as known_in}
+use Rattle.image_form.proofs.Names.{rules, ◌≡◌, ◌+◌, ◌-◌, ◌++◌, ◌∷◌, [], ℕ, List, All, map, length, sym, ap, ◌∙◌, subst, arith, length-append, none-some, same_Some, Ok, AreGroupHeads, FrameHead, known_in, heads_of, IsGroup, group_shape, hi_of, Shape, Queue, stays_honest, looks_then, looks_answered, State, Image, group_on}
+use Rattle.image_form.proofs.Counts.{few_then}
 use Rattle.image_form.proofs.Lasting.{found_later, may_read_later}
 use Rattle.image_form.proofs.NewestRead.{AreHeadsFrom, some_formed, all_pushed, one_group_more, all_groups}
 use Rattle.image_form.proofs.UnitsJudged.{end_is, live_there}
@@ -53,7 +39,7 @@ loop-group-preserved g c =
       formed = subst (All (λ x. AreGroupHeads x)) (sym items) (all_pushed list heads c.loop-group.invariant.formed (some_formed c.in-Ok-Some.field-0 heads c.in-Ok-Some.field-0-is c.in-Ok-Some.ensures.formed));
       count = let long = ap length items ∙ length-append list (heads ∷ []) in omega (arith, long, count);
       most = omega (arith, c.loop-group-test.true, c.hi-group-end.ensures);
-      log = c.in-Ok-Some.ensures.log ∙ c.loop-group.invariant.log;
+      looks = few_then 0 (n - c.oldest-first.result) 0 1 0 (n + 1 - c.oldest-first.result) old now (g.S.Site.state c.heads_at.new.site) (omega arith) (omega (arith, c.loop-group.auto.group)) c.loop-group.invariant.looks c.in-Ok-Some.ensures.looks;
       heads = λ honest found groups.
           let same : now.image ≡ old.image = (reads.same honest).image in
           let some = c.requires.sizes.limits.groups in

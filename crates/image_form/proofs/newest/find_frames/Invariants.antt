@@ -1,9 +1,4 @@
-use Rattle.std.proofs.Common.{◌≡◌, ◌+◌, ◌≤◌, length, All, IsTrue}
-use Rattle.std.specs.Prelude.{Ok}
-use Rattle.byte_fields.specs.FrameHeads.{AreGroupHeads}
-use Rattle.site.specs.Work.{OnlyReads}
-use Rattle.image_form.specs.Octets.{AreGroups}
-use Rattle.image_form.specs.Findings.{MayRead, AreFound}
+use Rattle.image_form.proofs.Names.{◌≡◌, ◌+◌, ◌-◌, ◌≤◌, length, All, IsTrue, Ok, AreGroupHeads, ReadsAtMost, MayRead, AreFound, AreGroups, OnlyReads}
 use Rattle.image_form.proofs.NewestRead.{AreHeadsFrom}
 use Rattle.image_form.proofs.newest.find_frames.Given as goal
 
@@ -16,7 +11,7 @@ invariant-loop-group g l =
       formed : All (λ heads. AreGroupHeads heads) l.list.items;
       count : l.first + length l.list.items ≡ l.group;
       most : l.group ≤ l.rings.groups.hi;
-      log : now.log_reads ≡ old.log_reads;
+      looks : ReadsAtMost 0 (l.group - l.first) old now;
       heads : IsTrue old.honest → AreFound l.rings old → AreGroups l.geometry old.image → AreHeadsFrom l.geometry old.image l.first l.list.items;
       reads : OnlyReads {T = Unit {0}} (Ok tt) old now;
     }

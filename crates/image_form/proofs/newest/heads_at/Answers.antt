@@ -1,11 +1,7 @@
-use Rattle.std.proofs.Common.{◌≡◌, take, drop, Some, ap, ◌∙◌}
-use Rattle.sealed_ring.specs.declared.slots.Shape.{Shape}
-use Rattle.sealed_ring.specs.Ring.{unit_at}
-use Rattle.site.specs.State.{State}
-use Rattle.image_changes.specs.Rings.{units_on}
-use Rattle.tail_rebuild.specs.Standing.{group_on}
-use Rattle.image_form.proofs.NewestRead.{log_unread, groups_off_log}
-use Rattle.image_form.proofs.LastOnes.{heads_of_part, no_heads_of_part}
+use Rattle.image_form.proofs.Names.{◌≡◌, take, drop, ap, ◌∙◌, arith, units_on, unit_at, Shape, State, group_on}
+use Rattle.std.proofs.Common.{Some}
+use Rattle.image_form.proofs.Counts.{flash_few}
+use Rattle.image_form.proofs.SavedHeads.{heads_of_part, no_heads_of_part}
 use Rattle.image_form.proofs.newest.heads_at.Goals as goal
 
 pub returns-in_default-group_heads-clause-heads : goal.returns-in_default-group_heads-clause-heads
@@ -24,17 +20,20 @@ returns-clause-heads g c g' frames may honest found is =
     c.in_default.ensures.part honest found.groups ∙ ap (λ (s : Shape). take 128 (drop 0 (unit_at s (units_on s old.image) n))) may.groups_shape in
     ap Some (heads_of_part (group_on g' old.image n) c.read_part.new.into frames c.in-Ok.heads part is c.in-Ok.ensures.found)
 
-pub returns-in-Err-clause-log : goal.returns-in-Err-clause-log
-returns-in-Err-clause-log g c =
+pub returns-in-Err-clause-looks : goal.returns-in-Err-clause-looks
+returns-in-Err-clause-looks g c =
     let may = c.requires.may_read in
-    log_unread c.args.rings.now.groups.shape.dev (g.S.Site.state c.args.site.now) (g.S.Site.state c.read_part.new.site) (groups_off_log c.args.rings.now.groups.shape may.0 may.1.groups_shape) c.read_part.ensures.reads.others
+    let shape = c.args.rings.now.groups.shape in
+    flash_few c.read_part.result shape.dev _ 1 (g.S.Site.state c.args.site.now) (g.S.Site.state c.read_part.new.site) (ap (λ (s : Shape). s.dev) may.1.groups_shape) (omega arith) c.read_part.ensures.reads
 
-pub returns-in_default-group_heads-clause-log : goal.returns-in_default-group_heads-clause-log
-returns-in_default-group_heads-clause-log g c =
+pub returns-in_default-group_heads-clause-looks : goal.returns-in_default-group_heads-clause-looks
+returns-in_default-group_heads-clause-looks g c =
     let may = c.requires.may_read in
-    log_unread c.args.rings.now.groups.shape.dev (g.S.Site.state c.args.site.now) (g.S.Site.state c.read_part.new.site) (groups_off_log c.args.rings.now.groups.shape may.0 may.1.groups_shape) c.read_part.ensures.reads.others
+    let shape = c.args.rings.now.groups.shape in
+    flash_few c.read_part.result shape.dev _ 1 (g.S.Site.state c.args.site.now) (g.S.Site.state c.read_part.new.site) (ap (λ (s : Shape). s.dev) may.1.groups_shape) (omega arith) c.read_part.ensures.reads
 
-pub returns-clause-log : goal.returns-clause-log
-returns-clause-log g c =
+pub returns-clause-looks : goal.returns-clause-looks
+returns-clause-looks g c =
     let may = c.requires.may_read in
-    log_unread c.args.rings.now.groups.shape.dev (g.S.Site.state c.args.site.now) (g.S.Site.state c.read_part.new.site) (groups_off_log c.args.rings.now.groups.shape may.0 may.1.groups_shape) c.read_part.ensures.reads.others
+    let shape = c.args.rings.now.groups.shape in
+    flash_few c.read_part.result shape.dev _ 1 (g.S.Site.state c.args.site.now) (g.S.Site.state c.read_part.new.site) (ap (λ (s : Shape). s.dev) may.1.groups_shape) (omega arith) c.read_part.ensures.reads

@@ -1,11 +1,7 @@
-use Rattle.std.proofs.Common.{◌≡◌, ◌+◌, ◌-◌, ◌*◌, rules, ℕ, length, take, drop, sym, ap, ◌∙◌, subst, arith}
+use Rattle.image_form.proofs.Names.{◌≡◌, ◌+◌, ◌-◌, ◌*◌, rules, ℕ, length, take, drop, sym, ap, ◌∙◌, subst, arith, units_on, IsLive, unit_at, Shape, State}
 use Rattle.std.proofs.lemmas.Result.{on_ok_weaker}
-use Rattle.sealed_ring.specs.declared.slots.Shape.{Shape}
-use Rattle.sealed_ring.specs.Ring.{IsLive, unit_at}
-use Rattle.site.specs.declared.outside.Dev.TheVariants.{Disk}
-use Rattle.site.specs.State.{State}
-use Rattle.image_changes.specs.Rings.{units_on}
-use Rattle.image_form.proofs.NewestRead.{disk_version, frame_version, log_unread, disk_is_not_log, groups_off_log}
+use Rattle.image_form.proofs.Counts.{flash_few, disk_few}
+use Rattle.image_form.proofs.NewestRead.{disk_version, frame_version}
 use Rattle.image_form.proofs.newest.read_version.Goals as goal
 
 pub returns-in_default-clause-version : goal.returns-in_default-clause-version
@@ -38,10 +34,10 @@ returns-clause-version g c honest found groups shows =
     ∙ frame_version geometry old.image c.args.frames.now c.args.page (omega (arith, some)) groups shows place (sym c.in-Some.is ∙ c.newest.ensures.newest))
     (c.read_part.ensures.part honest found.groups)
 
-pub returns-in_default-clause-log : goal.returns-in_default-clause-log
-returns-in_default-clause-log g c = log_unread Disk (g.S.Site.state c.args.site.now) (g.S.Site.state c.read_page.new.site) disk_is_not_log c.read_page.ensures.others
+pub returns-in_default-clause-looks : goal.returns-in_default-clause-looks
+returns-in_default-clause-looks g c = disk_few 1 1 (g.S.Site.state c.args.site.now) (g.S.Site.state c.read_page.new.site) (omega arith) c.read_page.ensures.reads c.read_page.ensures.others
 
-pub returns-clause-log : goal.returns-clause-log
-returns-clause-log g c =
+pub returns-clause-looks : goal.returns-clause-looks
+returns-clause-looks g c =
     let shape = c.args.rings.now.groups.shape in
-    log_unread shape.dev (g.S.Site.state c.args.site.now) (g.S.Site.state c.read_part.new.site) (groups_off_log shape c.args.geometry.now c.requires.may_read.groups_shape) c.read_part.ensures.reads.others
+    flash_few c.read_part.result shape.dev _ 1 (g.S.Site.state c.args.site.now) (g.S.Site.state c.read_part.new.site) (ap (λ (s : Shape). s.dev) c.requires.may_read.groups_shape) (omega arith) c.read_part.ensures.reads

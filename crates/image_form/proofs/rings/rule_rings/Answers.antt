@@ -1,16 +1,7 @@
-use Rattle.std.proofs.Common.{◌≡◌, IsTrue, sym, ◌∙◌, subst}
-use Rattle.std.specs.Prelude.{Ok, Err}
-use Rattle.site.specs.State.{State, Image}
-use Rattle.site.proofs.Laws.{stays_honest, goes_in_sequence}
-use Rattle.site.specs.Calls.{Preserves}
-use Rattle.sealed_ring.specs.declared.slots.Shape.{Shape}
-use Rattle.sealed_ring.specs.Ring.{IsRing}
-use Rattle.sealed_ring.specs.Ready.{region}
-use Rattle.image_changes.specs.Rings.{master_shape, log_shape, group_shape}
-use Rattle.site.proofs.Working.{looks_then, looks_failed, looks_answered}
-use Rattle.image_form.specs.declared.rings.Rings.{Rings}
+use Rattle.image_form.proofs.Names.{◌≡◌, IsTrue, sym, ◌∙◌, subst, Result, Ok, Err, master_shape, log_shape, group_shape, Place, Rings, usable_later, region, IsRing, Shape, stays_honest, goes_in_sequence, looks_then, looks_failed, looks_answered, Preserves, State, Image}
+use Rattle.image_form.proofs.Counts.{one_ring, two_rings, three_rings, four_rings}
 use Rattle.image_form.proofs.Lasting.{judged_some, usable_some, shape_some, fits_later, sizes_later}
-use Rattle.sealed_ring.proofs.Stays.{usable_later}
+use Rattle.image_form.specs.declared.place.Place.TheVariants as place
 use Rattle.image_form.proofs.rings.rule_rings.Goals as goal
 
 pub returns-clause-rings : goal.returns-clause-rings
@@ -84,3 +75,38 @@ returns-clause-reads g c =
     (looks_then c.in-Ok-Some-judge.field-0 (Ok (Ok answer)) _ _ _ c.in-Ok-Some-judge.ensures.reads
     (looks_then c.in-Ok-Some-judge-2.field-0 (Ok (Ok answer)) _ _ _ c.in-Ok-Some-judge-2.ensures.reads
     (looks_answered c.in-Ok-Some-judge-3.field-0 (Ok answer) _ _ c.in-Ok-Some-judge-3.ensures.reads)))
+
+pub returns-in-Ok-None-clause-looks : goal.returns-in-Ok-None-clause-looks
+returns-in-Ok-None-clause-looks g c = one_ring c.args.geometry.now (g.S.Site.state c.args.site.now) (g.S.Site.state c.judge.new.site) (g.S.Site.state c.judge.new.site) (g.S.Site.state c.judge.new.site) (g.S.Site.state c.judge.new.site) c.judge.result c.judge.ensures.looks
+
+pub returns-in-Err-clause-looks : goal.returns-in-Err-clause-looks
+returns-in-Err-clause-looks g c = one_ring c.args.geometry.now (g.S.Site.state c.args.site.now) (g.S.Site.state c.judge.new.site) (g.S.Site.state c.judge.new.site) (g.S.Site.state c.judge.new.site) (g.S.Site.state c.judge.new.site) c.judge.result c.judge.ensures.looks
+
+pub returns-in-Ok-None-judge-clause-looks : goal.returns-in-Ok-None-judge-clause-looks
+returns-in-Ok-None-judge-clause-looks g c = two_rings c.args.geometry.now (g.S.Site.state c.args.site.now) (g.S.Site.state c.judge.new.site) (g.S.Site.state c.judge-2.new.site) (g.S.Site.state c.judge-2.new.site) (g.S.Site.state c.judge-2.new.site) c.judge.result c.judge-2.result c.blocks_of.result c.blocks_of.ensures c.judge.ensures.looks c.judge-2.ensures.looks
+
+pub returns-in-Err-judge-clause-looks : goal.returns-in-Err-judge-clause-looks
+returns-in-Err-judge-clause-looks g c = two_rings c.args.geometry.now (g.S.Site.state c.args.site.now) (g.S.Site.state c.judge.new.site) (g.S.Site.state c.judge-2.new.site) (g.S.Site.state c.judge-2.new.site) (g.S.Site.state c.judge-2.new.site) c.judge.result c.judge-2.result c.blocks_of.result c.blocks_of.ensures c.judge.ensures.looks c.judge-2.ensures.looks
+
+pub returns-in-Ok-None-judge-2-clause-looks : goal.returns-in-Ok-None-judge-2-clause-looks
+returns-in-Ok-None-judge-2-clause-looks g c = three_rings c.args.geometry.now (g.S.Site.state c.args.site.now) (g.S.Site.state c.judge.new.site) (g.S.Site.state c.judge-2.new.site) (g.S.Site.state c.judge-3.new.site) (g.S.Site.state c.judge-3.new.site) c.judge.result c.judge-2.result c.judge-3.result c.blocks_of.result c.groups_of.result c.blocks_of.ensures c.groups_of.ensures c.judge.ensures.looks c.judge-2.ensures.looks c.judge-3.ensures.looks
+
+pub returns-in-Err-judge-2-clause-looks : goal.returns-in-Err-judge-2-clause-looks
+returns-in-Err-judge-2-clause-looks g c = three_rings c.args.geometry.now (g.S.Site.state c.args.site.now) (g.S.Site.state c.judge.new.site) (g.S.Site.state c.judge-2.new.site) (g.S.Site.state c.judge-3.new.site) (g.S.Site.state c.judge-3.new.site) c.judge.result c.judge-2.result c.judge-3.result c.blocks_of.result c.groups_of.result c.blocks_of.ensures c.groups_of.ensures c.judge.ensures.looks c.judge-2.ensures.looks c.judge-3.ensures.looks
+
+pub returns-in-Ok-None-judge-3-clause-looks : goal.returns-in-Ok-None-judge-3-clause-looks
+returns-in-Ok-None-judge-3-clause-looks g c = four_rings c.args.geometry.now (g.S.Site.state c.args.site.now) (g.S.Site.state c.judge.new.site) (g.S.Site.state c.judge-2.new.site) (g.S.Site.state c.judge-3.new.site) (g.S.Site.state c.judge-4.new.site) c.judge.result c.judge-2.result c.judge-3.result c.judge-4.result c.blocks_of.result c.groups_of.result c.segments_of.result c.blocks_of.ensures c.groups_of.ensures c.segments_of.ensures c.judge.ensures.looks c.judge-2.ensures.looks c.judge-3.ensures.looks c.judge-4.ensures.looks
+
+pub returns-in-Err-judge-3-clause-looks : goal.returns-in-Err-judge-3-clause-looks
+returns-in-Err-judge-3-clause-looks g c = four_rings c.args.geometry.now (g.S.Site.state c.args.site.now) (g.S.Site.state c.judge.new.site) (g.S.Site.state c.judge-2.new.site) (g.S.Site.state c.judge-3.new.site) (g.S.Site.state c.judge-4.new.site) c.judge.result c.judge-2.result c.judge-3.result c.judge-4.result c.blocks_of.result c.groups_of.result c.segments_of.result c.blocks_of.ensures c.groups_of.ensures c.segments_of.ensures c.judge.ensures.looks c.judge-2.ensures.looks c.judge-3.ensures.looks c.judge-4.ensures.looks
+
+pub returns-clause-looks : goal.returns-clause-looks
+returns-clause-looks g c = four_rings c.args.geometry.now (g.S.Site.state c.args.site.now) (g.S.Site.state c.judge.new.site) (g.S.Site.state c.judge-2.new.site) (g.S.Site.state c.judge-3.new.site) (g.S.Site.state c.judge-4.new.site) c.judge.result c.judge-2.result c.judge-3.result c.judge-4.result c.blocks_of.result c.groups_of.result c.segments_of.result c.blocks_of.ensures c.groups_of.ensures c.segments_of.ensures c.judge.ensures.looks c.judge-2.ensures.looks c.judge-3.ensures.looks c.judge-4.ensures.looks
+
+pub returns-in-Ok-None-judge-3-clause-reads : goal.returns-in-Ok-None-judge-3-clause-reads
+returns-in-Ok-None-judge-3-clause-reads g c =
+    let answer : Result Rings Place = Err place.Segments in
+    looks_then c.in-Ok-Some.field-0 (Ok answer) _ _ _ c.in-Ok-Some.ensures.reads
+    (looks_then c.in-Ok-Some-judge.field-0 (Ok answer) _ _ _ c.in-Ok-Some-judge.ensures.reads
+    (looks_then c.in-Ok-Some-judge-2.field-0 (Ok answer) _ _ _ c.in-Ok-Some-judge-2.ensures.reads
+    (looks_answered c.in-Ok-None-judge-3.field-0 answer _ _ c.in-Ok-None-judge-3.ensures.reads)))

@@ -1,6 +1,4 @@
-use Rattle.std.proofs.Common.{ℕ, ◌<◌, IsTrue}
-use Rattle.std.specs.Prelude.{slice_index_or}
-use Rattle.byte_fields.specs.declared.frame_head.FrameHead.{FrameHead}
+use Rattle.image_form.proofs.Names.{ℕ, ◌<◌, IsTrue, slice_index_or, FrameHead}
 use Rattle.image_form.proofs.segments.pages_exist.Given as goal
 
 abbrev pub invariant-loop-head : goal.invariant-loop-head

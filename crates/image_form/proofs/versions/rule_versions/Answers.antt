@@ -1,48 +1,25 @@
-use Rattle.std.proofs.Common.{rules, ◌≡◌, inl, inr, ℕ, true≢false, refl, sym, ◌∙◌, subst, arith}
-use Rattle.std.proofs.lemmas.Bool.{cases_eq}
-use Rattle.site.specs.State.{State, Image}
-use Rattle.site.proofs.Laws.{stays_honest}
-use Rattle.slotted_page.specs.Layout.{IsSound}
-use Rattle.flash_cache.specs.Representation.{version_on}
-use Rattle.image_form.specs.Octets.{AreGroups}
+use Rattle.image_form.proofs.Names.{◌≡◌, ◌↔◌, IsTrue, sym, subst, Ok, Err, is_none, ShowsFrames, AreGroups, AreVersions, stays_honest, looks_then, State, Image}
 use Rattle.image_form.proofs.Lasting.{found_later, may_read_later}
+use Rattle.image_form.proofs.NewestRead.{shown_some}
 use Rattle.image_form.proofs.versions.rule_versions.Goals as goal
 
-pub returns-then-not-stands-clause-versions : goal.returns-then-not-stands-clause-versions
-returns-then-not-stands-clause-versions g c honest found groups =
+pub find_unsound-requires-clause-may_read : goal.find_unsound-requires-clause-may_read
+find_unsound-requires-clause-may_read g c = may_read_later c.args.geometry.now c.args.rings.now (g.S.Site.state c.args.site.now) (g.S.Site.state c.find_frames.new.site) c.in-Ok-Some.ensures.reads.preserves c.requires
+
+pub returns-in-Ok-clause-versions : goal.returns-in-Ok-clause-versions
+returns-in-Ok-clause-versions g c honest found groups =
     let geometry = c.args.geometry.now in
     let old : State = g.S.Site.state c.args.site.now in
-    let now : State = g.S.Site.state c.loop-page.site in
-    let reads = c.loop-page.invariant.reads in
+    let now : State = g.S.Site.state c.find_frames.new.site in
+    let reads = c.in-Ok-Some.ensures.reads in
     let same : now.image ≡ old.image = (reads.same honest).image in
-    let page : ℕ = c.loop-page.page in
-    let says = c.in-Ok.ensures.sound (stays_honest old now reads.preserves honest) (found_later c.args.rings.now old now same found) (subst (AreGroups geometry) (sym same) groups) in (
-      λ wrong. absurd (true≢false (sym wrong)),
-      λ all. absurd (true≢false (sym (says.1 (subst (λ (image : Image). IsSound (version_on geometry image page)) (sym same) (all page c.loop-page-test.true))) ∙ c.if-not-stands.true)),
-    )
+    let shows = shown_some geometry old.image c.in-Ok-Some.field-0 c.in-Ok-Some.frames c.in-Ok-Some.field-0-is (c.in-Ok-Some.ensures.shown honest found groups) in
+    subst (λ (image : Image). IsTrue (is_none c.in-Ok.failing) ↔ AreVersions geometry image) same
+    (c.in-Ok.ensures.versions (stays_honest old now reads.preserves honest) (found_later c.args.rings.now old now same found) (subst (AreGroups geometry) (sym same) groups)
+    (subst (λ (image : Image). ShowsFrames geometry image c.in-Ok-Some.frames) (sym same) shows))
 
-pub loop-page-preserved : goal.loop-page-preserved
-loop-page-preserved g c =
-    let geometry = c.args.geometry.now in
-    let old : State = g.S.Site.state c.args.site.now in
-    let now : State = g.S.Site.state c.loop-page.site in
-    let reads = c.loop-page.invariant.reads in
-    let page : ℕ = c.loop-page.page in
-    record {
-      may_read = may_read_later geometry c.args.rings.now now (g.S.Site.state c.is_sound_version.new.site) c.in-Ok.ensures.reads.preserves c.loop-page.invariant.may_read;
-      stand = λ honest found groups n below. elim (cases_eq n page) [
-        | inl here ↦
-            let same : now.image ≡ old.image = (reads.same honest).image in
-            let says = c.in-Ok.ensures.sound (stays_honest old now reads.preserves honest) (found_later c.args.rings.now old now same found) (subst (AreGroups geometry) (sym same) groups) in
-            let sound : IsSound (version_on geometry old.image page) = subst (λ (image : Image). IsSound (version_on geometry image page)) same (says.0 c.if-not-stands.false) in
-            subst (λ (k : ℕ). IsSound (version_on geometry old.image k)) (sym here) sound
-        | inr other ↦ c.loop-page.invariant.stand honest found groups n (omega (arith, below, other))
-      ];
-      reads = search rules;
-    }
+pub returns-in-Ok-clause-reads : goal.returns-in-Ok-clause-reads
+returns-in-Ok-clause-reads g c = looks_then c.in-Ok-Some.field-0 (Ok c.in-Ok.failing) _ _ _ c.in-Ok-Some.ensures.reads c.in-Ok.ensures.reads
 
-pub returns-clause-versions : goal.returns-clause-versions
-returns-clause-versions g c honest found groups = (
-  λ yes number below. c.loop-page.invariant.stand honest found groups number (omega (arith, below, c.loop-page-test.false)),
-  λ all. refl,
-)
+pub returns-clause-reads : goal.returns-clause-reads
+returns-clause-reads g c = looks_then c.in-Ok-Some.field-0 (Err c.in-Err-find_unsound.stop) _ _ _ c.in-Ok-Some.ensures.reads c.in-Err-find_unsound.ensures.reads

@@ -1,7 +1,4 @@
-use Rattle.std.proofs.Common.{◌≡◌, ◌*◌, ◌<◌, ℕ, nat_lt, Some, length, sym, subst}
-use Rattle.std.specs.Prelude.{IsTrue, ◌↔◌}
-use Rattle.log_records.specs.declared.log_record.LogRecord.{LogRecord}
-use Rattle.log_records.specs.Log.{number_of}
+use Rattle.log_judge.proofs.Names.{◌≡◌, ◌*◌, ◌<◌, ℕ, nat_lt, Some, length, sym, subst, IsTrue, ◌↔◌, number_of, LogRecord}
 use Rattle.log_records.specs.Spelling.{HasForm}
 use Rattle.log_judge.proofs.Judged.{on_disk}
 use Rattle.log_judge.proofs.judge.is_on_disk.Goals as goal

@@ -1,4 +1,4 @@
-use Rattle.std.proofs.lemmas.Bool.{lt-ltb}
+use Rattle.log_store.proofs.Names.{lt-ltb}
 use Rattle.log_store.proofs.TailLaws.{spelling_short, full_tail}
 use Rattle.log_store.proofs.laws.full_tail.Goals as goal
 

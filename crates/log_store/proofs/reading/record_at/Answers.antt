@@ -1,5 +1,4 @@
-use Rattle.std.proofs.Common.{arith}
-use Rattle.log_records.proofs.Blocks.{some_octet}
+use Rattle.log_store.proofs.Names.{arith, some_octet}
 use Rattle.log_store.proofs.Finding.{read_on, read_here, read_none, read_all}
 use Rattle.log_store.proofs.reading.record_at.Goals as goal
 

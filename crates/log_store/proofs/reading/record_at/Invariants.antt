@@ -1,4 +1,4 @@
-use Rattle.std.proofs.Common.{◌-◌}
+use Rattle.log_store.proofs.Names.{◌-◌}
 use Rattle.log_store.proofs.Finding.{IsReading}
 use Rattle.log_store.proofs.reading.record_at.Given as goal
 

@@ -1,6 +1,6 @@
 -- The turns that the first octets have made.
-use Rattle.std.proofs.Common.{◌≡◌, take}
-use Rattle.std.specs.Prelude.{fold, bit_xor}
+use Rattle.name_table.proofs.Names.{◌≡◌, fold, bit_xor}
+use Rattle.std.proofs.Common.{take}
 use Rattle.record_model.specs.Numbers.{following}
 use Rattle.name_table.proofs.buckets.home_of.Given as goal
 

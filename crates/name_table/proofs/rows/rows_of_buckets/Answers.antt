@@ -1,4 +1,4 @@
-use Rattle.std.proofs.Common.{refl}
+use Rattle.name_table.proofs.Names.{refl}
 use Rattle.name_table.proofs.rows.rows_of_buckets.Goals as goal
 
 pub returns-clause-homes : goal.returns-clause-homes

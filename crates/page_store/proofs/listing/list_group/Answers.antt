@@ -1,6 +1,4 @@
-use Rattle.std.proofs.Common.{rules, ◌+◌, ℕ, ap}
-use Rattle.std.proofs.lemmas.Option.{slice_get-get_or}
-use Rattle.byte_fields.specs.declared.frame_head.Mark.{Mark}
+use Rattle.page_store.proofs.Names.{rules, ◌+◌, ℕ, ap, slice_get-get_or, Mark}
 use Rattle.flash_cache.specs.Leaving.{no_mark}
 use Rattle.page_store.proofs.Lines.{next_frame}
 use Rattle.page_store.proofs.listing.list_group.Goals as goal

@@ -1,5 +1,4 @@
-use Rattle.std.proofs.Common.{◌≡◌, ◌+◌, ◌++◌, take}
-use Rattle.second_chance.specs.Machine.{frame_lines}
+use Rattle.page_store.proofs.Names.{◌≡◌, ◌+◌, ◌++◌, take, frame_lines}
 use Rattle.page_store.proofs.listing.list_group.Given as goal
 
 abbrev pub invariant-loop-index : goal.invariant-loop-index

@@ -1,5 +1,4 @@
-use Rattle.std.proofs.Common.{◌++◌, List, map, ap, ◌∙◌, take_all}
-use Rattle.record_model.specs.declared.words.CacheLine.{CacheLine}
+use Rattle.page_store.proofs.Names.{◌++◌, List, map, ap, ◌∙◌, take_all, CacheLine}
 use Rattle.page_store.proofs.Lines.{page_line, page_lines}
 use Rattle.page_store.proofs.listing.list_pool.Goals as goal
 

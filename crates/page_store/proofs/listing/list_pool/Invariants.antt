@@ -1,4 +1,4 @@
-use Rattle.std.proofs.Common.{◌≡◌, ◌++◌, map, take}
+use Rattle.page_store.proofs.Names.{◌≡◌, ◌++◌, map, take}
 use Rattle.page_store.proofs.Lines.{page_line}
 use Rattle.page_store.proofs.listing.list_pool.Given as goal
 

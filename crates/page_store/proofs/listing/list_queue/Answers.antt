@@ -1,9 +1,5 @@
-use Rattle.std.proofs.Common.{◌++◌, [], List, ap, ◌∙◌, arith}
+use Rattle.page_store.proofs.Names.{◌++◌, [], List, ap, ◌∙◌, arith, slice_get-get_or, Mark, group_lines, marks}
 use Rattle.std.proofs.lemmas.List.{take_all}
-use Rattle.std.proofs.lemmas.Option.{slice_get-get_or}
-use Rattle.byte_fields.specs.declared.frame_head.Mark.{Mark}
-use Rattle.second_chance.specs.Queue.{marks}
-use Rattle.second_chance.specs.Machine.{group_lines}
 use Rattle.page_store.proofs.Lines.{next_group, count_marks}
 use Rattle.page_store.proofs.listing.list_queue.Goals as goal
 

@@ -1,6 +1,4 @@
-use Rattle.std.proofs.Common.{◌≡◌, ◌++◌, take}
-use Rattle.second_chance.specs.Queue.{marks}
-use Rattle.second_chance.specs.Machine.{group_lines}
+use Rattle.page_store.proofs.Names.{◌≡◌, ◌++◌, take, group_lines, marks}
 use Rattle.page_store.proofs.listing.list_queue.Given as goal
 
 abbrev pub invariant-loop-place : goal.invariant-loop-place

@@ -1,4 +1,4 @@
-use Rattle.site.specs.declared.outside.Dev.TheVariants.{Log, Flash}
+use Rattle.page_store.proofs.Names.{Log, Flash}
 use Rattle.page_store.proofs.reading.read_disk.Goals as goal
 
 pub returns-in_err-read_page-clause-flash : goal.returns-in_err-read_page-clause-flash

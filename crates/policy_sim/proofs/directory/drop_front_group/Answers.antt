@@ -1,5 +1,4 @@
-use Rattle.flash_directory.proofs.Keeping.{places_left}
-use Rattle.policy_sim.specs.Tables.{at_page}
+use Rattle.policy_sim.proofs.Names.{places_left, at_page}
 use Rattle.policy_sim.proofs.directory.drop_front_group.Goals as goal
 
 pub returns-clause-places : goal.returns-clause-places

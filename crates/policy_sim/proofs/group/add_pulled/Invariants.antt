@@ -1,5 +1,4 @@
-use Rattle.std.proofs.Common.{◌≡◌, ◌++◌, take}
-use Rattle.policy_sim.specs.Pools.{pages_of, pulled_frames}
+use Rattle.policy_sim.proofs.Names.{◌≡◌, ◌++◌, take, pages_of, pulled_frames}
 use Rattle.policy_sim.proofs.group.add_pulled.Given as goal
 
 abbrev pub invariant-loop-place : goal.invariant-loop-place

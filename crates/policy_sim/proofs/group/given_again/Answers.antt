@@ -1,7 +1,4 @@
-use Rattle.std.proofs.Common.{◌≡◌, ◌∷◌, ◌++◌, ◌+◌, [], List, take, length, append-nil, arith, ap, sym, ◌∙◌}
-use Rattle.std_lemmas.proofs.Lists.{take_next}
-use Rattle.second_chance.specs.declared.frame.Frame.{Frame}
-use Rattle.second_chance.specs.Laws.{given_again}
+use Rattle.policy_sim.proofs.Names.{◌≡◌, ◌∷◌, ◌++◌, ◌+◌, [], List, take, length, append-nil, arith, ap, sym, ◌∙◌, given_again, Frame, take_next}
 use Rattle.policy_sim.proofs.Pushed.{given_more, given_none, there, not_there}
 use Rattle.policy_sim.proofs.group.given_again.Goals.{in-Some, in_default}
 use Rattle.policy_sim.proofs.group.given_again.Goals as goal

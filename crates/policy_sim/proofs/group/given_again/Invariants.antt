@@ -1,5 +1,4 @@
-use Rattle.std.proofs.Common.{◌≡◌, ◌≤◌, take, length}
-use Rattle.second_chance.specs.Laws.{given_again}
+use Rattle.policy_sim.proofs.Names.{◌≡◌, ◌≤◌, take, length, given_again}
 use Rattle.policy_sim.proofs.group.given_again.Given as goal
 
 abbrev pub invariant-loop-place : goal.invariant-loop-place

@@ -1,9 +1,5 @@
-use Rattle.std.proofs.Common.{◌≡◌, ◌∷◌, ◌++◌, ◌+◌, ℕ, false, List, [], take, get_or, add-one, ap, sym, subst, ◌∙◌}
-use Rattle.std.proofs.lemmas.List.{take_all}
-use Rattle.byte_fields.specs.declared.frame_head.Mark.{Mark}
+use Rattle.policy_sim.proofs.Names.{◌≡◌, ◌∷◌, ◌++◌, ◌+◌, ℕ, false, List, [], take, get_or, add-one, ap, sym, subst, ◌∙◌, take_all, Mark, IsListedBy, IsPool, but, unless, pages_of}
 use Rattle.policy_sim.specs.declared.pool.Pool.{Pool}
-use Rattle.policy_sim.specs.Pools.{pages_of}
-use Rattle.policy_sim.specs.Listing.{IsListedBy, IsPool, but, unless}
 use Rattle.policy_sim.proofs.Filled.{take_more}
 use Rattle.policy_sim.proofs.Struck.{listed_by}
 use Rattle.policy_sim.proofs.Lost.{unless_none, unless_list, unless_stay}

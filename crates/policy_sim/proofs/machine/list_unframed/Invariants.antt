@@ -1,6 +1,4 @@
-use Rattle.std.proofs.Common.{◌≡◌, ℕ, Bool, take}
-use Rattle.policy_sim.specs.Pools.{pages_of}
-use Rattle.policy_sim.specs.Listing.{IsPool, IsListedBy, unless}
+use Rattle.policy_sim.proofs.Names.{◌≡◌, ℕ, Bool, take, IsPool, IsListedBy, unless, pages_of}
 use Rattle.policy_sim.proofs.machine.list_unframed.Given as goal
 
 abbrev pub invariant-loop-mark : goal.invariant-loop-mark

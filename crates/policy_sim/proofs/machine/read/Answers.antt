@@ -1,6 +1,4 @@
-use Rattle.std.proofs.Common.{ap, sym, ◌∙◌}
-use Rattle.second_chance.specs.Queue.{Queue, has_frame}
-use Rattle.second_chance.proofs.Unread.{with_read_none, read_has}
+use Rattle.policy_sim.proofs.Names.{ap, sym, ◌∙◌, with_read_none, read_has, Queue, has_frame}
 use Rattle.policy_sim.proofs.machine.read.Goals as goal
 
 pub returns-then-is_none-clause-after : goal.returns-then-is_none-clause-after

@@ -1,5 +1,4 @@
-use Rattle.flash_directory.proofs.Keeping.{entered_more}
-use Rattle.policy_sim.specs.Tables.{at_page}
+use Rattle.policy_sim.proofs.Names.{entered_more, at_page}
 use Rattle.policy_sim.proofs.table.enter_group.Goals as goal
 
 pub loop-index-preserved : goal.loop-index-preserved

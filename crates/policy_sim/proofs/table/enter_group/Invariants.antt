@@ -1,6 +1,4 @@
-use Rattle.std.proofs.Common.{◌≡◌, ℕ, take}
-use Rattle.flash_directory.specs.Places.{newer}
-use Rattle.policy_sim.specs.Tables.{at_page}
+use Rattle.policy_sim.proofs.Names.{◌≡◌, ℕ, take, newer, at_page}
 use Rattle.policy_sim.proofs.table.enter_group.Given as goal
 
 abbrev pub invariant-loop-index : goal.invariant-loop-index

@@ -1,7 +1,4 @@
-use Rattle.std.proofs.Common.{◌≡◌, ℕ, take, if◌then◌else◌}
-use Rattle.second_chance.specs.Queue.{in_group}
-use Rattle.flash_directory.specs.Places.{elsewhere}
-use Rattle.policy_sim.specs.Tables.{at_page}
+use Rattle.policy_sim.proofs.Names.{◌≡◌, ℕ, take, if◌then◌else◌, elsewhere, at_page, in_group}
 use Rattle.policy_sim.proofs.table.forget_group.Given as goal
 
 abbrev pub invariant-loop-frame : goal.invariant-loop-frame

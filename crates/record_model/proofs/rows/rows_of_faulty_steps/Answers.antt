@@ -1,4 +1,4 @@
-use Rattle.std.proofs.Common.{refl}
+use Rattle.record_model.proofs.Citing.{refl}
 use Rattle.record_model.proofs.rows.rows_of_faulty_steps.Goals as goal
 
 pub returns-clause-read_locks : goal.returns-clause-read_locks

@@ -1,4 +1,4 @@
-use Rattle.std.proofs.Common.{refl}
+use Rattle.record_model.proofs.Citing.{refl}
 use Rattle.record_model.proofs.rows.rows_of_full_pages.Goals as goal
 
 pub returns-clause-full_to_the_last_octet : goal.returns-clause-full_to_the_last_octet

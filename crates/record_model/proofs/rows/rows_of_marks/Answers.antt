@@ -1,4 +1,4 @@
-use Rattle.std.proofs.Common.{refl}
+use Rattle.record_model.proofs.Citing.{refl}
 use Rattle.record_model.proofs.rows.rows_of_marks.Goals as goal
 
 pub returns-clause-back_to_a_mark : goal.returns-clause-back_to_a_mark

@@ -1,4 +1,4 @@
-use Rattle.std.proofs.Common.{refl}
+use Rattle.record_model.proofs.Citing.{refl}
 use Rattle.record_model.proofs.rows.rows_of_serial_order.Goals as goal
 
 pub returns-clause-second_transaction : goal.returns-clause-second_transaction

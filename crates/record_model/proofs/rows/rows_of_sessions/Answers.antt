@@ -1,4 +1,4 @@
-use Rattle.std.proofs.Common.{refl}
+use Rattle.record_model.proofs.Citing.{refl}
 use Rattle.record_model.proofs.rows.rows_of_sessions.Goals as goal
 
 pub returns-clause-write_keeps_readers_off : goal.returns-clause-write_keeps_readers_off

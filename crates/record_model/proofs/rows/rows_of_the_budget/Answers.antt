@@ -1,4 +1,4 @@
-use Rattle.std.proofs.Common.{refl}
+use Rattle.record_model.proofs.Citing.{refl}
 use Rattle.record_model.proofs.rows.rows_of_the_budget.Goals as goal
 
 pub returns-clause-checkpoint_makes_room : goal.returns-clause-checkpoint_makes_room

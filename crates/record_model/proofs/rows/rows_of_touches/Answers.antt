@@ -1,4 +1,4 @@
-use Rattle.std.proofs.Common.{refl}
+use Rattle.record_model.proofs.Citing.{refl}
 use Rattle.record_model.proofs.rows.rows_of_touches.Goals as goal
 
 pub returns-clause-touches_of_two_readers : goal.returns-clause-touches_of_two_readers

@@ -1,4 +1,4 @@
-use Rattle.std.proofs.Common.{refl}
+use Rattle.record_model.proofs.Citing.{refl}
 use Rattle.record_model.proofs.rows.rows_of_values.Goals as goal
 
 pub returns-clause-longest_value : goal.returns-clause-longest_value

@@ -1,6 +1,4 @@
-use Rattle.std.proofs.Common.{◌%◌, sym, arith}
-use Rattle.std.specs.Prelude.{option_copied}
-use Rattle.log_records.specs.Log.{after_of}
+use Rattle.redo_undo.proofs.Names.{◌%◌, sym, arith, option_copied, after_of}
 use Rattle.redo_undo.proofs.Rooms.{fits_as}
 use Rattle.redo_undo.proofs.changing.change_front.Goals as goal
 

@@ -1,6 +1,4 @@
-use Rattle.std.proofs.Common.{◌≡◌, ◌%◌, ℕ, Some, sym, arith}
-use Rattle.std.specs.Prelude.{option_copied}
-use Rattle.log_records.specs.Log.{number_of, after_of}
+use Rattle.redo_undo.proofs.Names.{◌≡◌, ◌%◌, ℕ, Some, sym, arith, option_copied, number_of, after_of}
 use Rattle.redo_undo.proofs.Rooms.{fits_as, fits_next, fits_redone}
 use Rattle.redo_undo.proofs.changing.fits_front.Goals as goal
 

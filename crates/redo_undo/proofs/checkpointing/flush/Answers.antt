@@ -1,27 +1,8 @@
-use Rattle.std.proofs.Common.{append-nil, Bool, sym, subst, ◌∙◌, arith, refl, ◌≡◌, ap, true≢false, false, ◌+◌}
-use Rattle.record_model.specs.Touches.{flush}
-use Rattle.write_ahead.specs.Forcing.{forces}
-use Rattle.page_store.specs.Caching.{cache_of, rules}
-use Rattle.page_store.proofs.StagingLaws.{stages_as}
-use Rattle.second_chance.specs.Machine.{rules_of, staged_by}
-use Rattle.site.specs.declared.outside.Dev.TheVariants.{Disk}
-use Rattle.site.specs.declared.geometry.Geometry.{Geometry}
-use Rattle.image_changes.specs.Rings.{KeepsUnits, master_shape}
-use Rattle.log_store.specs.LogList.{LogList}
+use Rattle.redo_undo.proofs.Names.{append-nil, Bool, sym, subst, ◌∙◌, arith, refl, ◌≡◌, ap, true≢false, false, ◌+◌, if◌then◌else◌, KeepsUnits, master_shape, kept_by, used_by, LogList, stages_as, cache_of, rules, current, flush, ends_by_pages, pages_skip, ready_next, forced_tail, leaves_table, touched_holds, RepresentsIn, Represents, rules_of, staged_by, ok_as, Geometry, Disk, ok_both, forces}
 use Rattle.page_store.specs.Flushing.{flushed_contents}
-use Rattle.image_meaning.specs.Meaning.{kept_by}
-use Rattle.redo_laws.specs.Holding.{RepresentsIn, Represents}
-use Rattle.redo_laws.proofs.Endings.{ends_by_pages}
 use Rattle.redo_undo.proofs.Mirroring.{numbers_left, logged_now, flush_performs, used_where}
 use Rattle.redo_undo.proofs.Redoings.{never_forced}
-use Rattle.log_records.specs.Spelling.{used_by}
-use Rattle.std.specs.Prelude.{if◌then◌else◌}
-use Rattle.redo_laws.proofs.Touched.{forced_tail, leaves_table, touched_holds}
-use Rattle.site.proofs.Working.{ok_as}
-use Rattle.page_store.specs.Representation.{current}
-use Rattle.redo_laws.proofs.LeftNumbers.{pages_skip, ready_next}
 use Rattle.std.proofs.lemmas.Grind.{common_steps}
-use Rattle.std_lemmas.proofs.Results.{ok_both}
 use Rattle.redo_undo.proofs.checkpointing.flush.Goals as goal
 
 pub returns : goal.returns
@@ -46,7 +27,7 @@ returns g c =
           record {
             ends = ends_by_pages (c.flush_all.ensures.keeps list ready) (λ quiet. leaves_table log pages site newest records table commits h c.requires.going.pages_going.own sealing tail new
                 ((c.flush_all.ensures.keeps list ready).any_moment quiet) ((c.flush_all.ensures.keeps list ready).ahead_moment quiet h.log_holds.ahead) ((c.flush_all.ensures.keeps list ready).rings_moment newest quiet h.log_holds.rings));
-            numbers = λ quiet. pages_skip c.flush_all.result pages.flash.geometry (current pages site.image) log c.flush_all.new.log list sealing site new (ready_next pages log list site ready) tail ((c.flush_all.ensures.keeps list ready).any_moment quiet) c.flush_all.ensures.works.forces.end (ok_as c.flush_all.result _ _ (λ stands. stands.device_calls) (c.flush_all.ensures.stands list ready));
+            numbers = λ quiet. pages_skip c.flush_all.result pages.flash.geometry (current pages site.image) log c.flush_all.new.log list sealing site new (ready_next pages log list site ready) tail ((c.flush_all.ensures.keeps list ready).any_moment quiet) c.flush_all.ensures.works.forces.end (ok_as c.flush_all.result _ _ (λ stands. stands.device_calls quiet) (c.flush_all.ensures.stands list ready));
             masters = λ none. ok_as c.flush_all.result _ (KeepsUnits master_shape site.image new.image) (λ stands. stands.leaves.masters) (c.flush_all.ensures.stands list ready);
           };
       asks =

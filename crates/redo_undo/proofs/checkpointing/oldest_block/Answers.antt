@@ -1,8 +1,5 @@
-use Rattle.std.proofs.Common.{sym, arith}
+use Rattle.redo_undo.proofs.Names.{sym, arith, min-le_right, first_block, begins_of}
 use Rattle.redo_undo.proofs.Saved.{first_is}
-use Rattle.std.proofs.Math.Nat.{min-le_right}
-use Rattle.image_meaning.specs.Flushed.{first_block}
-use Rattle.redo_laws.specs.Checkpointing.{begins_of}
 use Rattle.redo_undo.proofs.checkpointing.oldest_block.Goals as goal
 
 pub returns-then-block-kept-clause-is : goal.returns-then-block-kept-clause-is

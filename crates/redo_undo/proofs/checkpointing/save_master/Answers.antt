@@ -1,39 +1,11 @@
-use Rattle.std.proofs.Common.{inl, inr, ◌≡◌, ◌∙◌, ◌≤◌, ◌/◌, ℕ, sym, subst, arith, refl, ap, Err, List, false, [], ◌∷◌}
-use Rattle.site.specs.declared.outside.Dev.TheVariants.{Log}
-use Rattle.site.specs.State.{State, IsSettled, IsQuiet}
-use Rattle.site.proofs.Laws.{quiet_settled}
-use Rattle.sealed_ring.specs.declared.ring.Ring.{Ring}
-use Rattle.sealed_ring.specs.declared.slots.Shape.{Shape}
-use Rattle.sealed_ring.specs.Ready.{region, IsReady, Finds}
-use Rattle.image_changes.specs.Rings.{master_shape}
-use Rattle.checkpoint.specs.declared.master.Master.{Master}
-use Rattle.image_meaning.specs.Flushed.{first_block}
-use Rattle.redo_laws.specs.Checkpointing.{begins_of, MayBeMade}
-use Rattle.redo_laws.proofs.Endings.{ends_ok}
+use Rattle.redo_undo.proofs.Names.{inl, inr, ◌≡◌, ◌∙◌, ◌≤◌, ◌/◌, ℕ, sym, subst, arith, refl, ap, List, false, [], ◌∷◌, unit, Master, AppendsMaster, LeavesFront, master_shape, first_block, LeavesFor, Entry, cache_of, PageStore, Content, never_worn_flash, ends_ok, save_skips, save_calls, hi_on, masters_at_end, begins_of, MayBeMade, blocks_to, Represents, region, IsReady, Finds, hi_of, Ring, Shape, wants_flush, quiet_settled, no_error, err_again, LeavesOnly, State, IsSettled, IsQuiet, Log, Worn}
+use Rattle.std.proofs.Common.{Err}
 use Rattle.redo_undo.proofs.Saved.{needed_there, save_leaves, is_saved, log_still}
-use Rattle.site.specs.declared.outside.Stop.TheVariants.{Worn}
-use Rattle.redo_laws.proofs.WornLogs.{masters_at_end}
-use Rattle.sealed_ring.specs.Ring.{hi_of}
-use Rattle.site.proofs.Working.{no_error, err_again}
 use Rattle.log_store.proofs.NextBlocks.{blocks_beside}
-use Rattle.redo_laws.specs.Holding.{blocks_to, Represents}
-use Rattle.redo_laws.proofs.RingNumbers.{hi_on}
-use Rattle.redo_laws.proofs.LeftNumbers.{save_skips, save_calls}
-use Rattle.redo_laws.proofs.AskingFlush.{never_worn_flash}
 use Rattle.redo_undo.proofs.Calling.{appends_foreign}
-use Rattle.checkpoint.specs.Units.{unit}
 use Rattle.redo_undo.proofs.checkpointing.save_master.Given.{Over}
 use Rattle.redo_undo.proofs.checkpointing.save_master.Goals.{After-save}
 use Rattle.std.specs.Prelude.{Option}
-use Rattle.log_records.specs.Log.{Entry}
-use Rattle.record_model.specs.State.{Content}
-use Rattle.page_store.specs.declared.store.PageStore.{PageStore}
-use Rattle.page_store.specs.Caching.{cache_of}
-use Rattle.second_chance.specs.Machine.{wants_flush}
-use Rattle.site.specs.Moments.{LeavesOnly}
-use Rattle.image_changes.specs.Reached.{LeavesFront}
-use Rattle.image_changes.specs.Changes.{AppendsMaster}
-use Rattle.image_meaning.specs.Moments.{LeavesFor}
 use Rattle.redo_undo.proofs.checkpointing.save_master.Goals as goal
 
 -- the ring that was found, where nothing of its device is loose
@@ -131,7 +103,7 @@ returns-clause-keeps g c pages newest records table sizes h empty clean may =
           (hi_on log.geometry pages.flash.geometry log site.image sizes h.log_holds.ready.blocks.hi)
           (front g s pages newest records table sizes h empty clean may quiet)
           (ap blocks_to c.keep.ensures.kept)
-          (save_calls pages.flash.geometry (unit (m g s pages newest records table sizes h empty clean may)) site (g.S.Site.state c.save.new.site) (c.save.ensures.changes h.log_holds.ready.blocks.honest)
+          (save_calls pages.flash.geometry (unit (m g s pages newest records table sizes h empty clean may)) site (g.S.Site.state c.save.new.site) quiet (c.save.ensures.changes h.log_holds.ready.blocks.honest)
           (c.in-Ok.ensures.reaches pages.flash.geometry h.log_holds.rings.limits h.log_holds.rings.lengths h.log_holds.ready.blocks.honest may.ring) (c.in-Ok.ensures.device_calls h.log_holds.ready.blocks.honest));
       masters = λ none. absurd (omega (arith, none));
     }

@@ -1,22 +1,6 @@
-use Rattle.image_changes.proofs.Sequence.{ring_kept}
-use Rattle.std_lemmas.proofs.Results.{ok_both}
-use Rattle.page_store.proofs.PushLaws.{log_fits}
-use Rattle.std.proofs.Common.{◌≡◌, ◌∙◌, true, sym, ap, inr, refl, true≢false, ◌+◌, Bool, false, nat_lt}
-use Rattle.log_store.specs.LogList.{LogList, changes_if}
-use Rattle.log_store.specs.Representation.{has_tail}
-use Rattle.image_meaning.specs.Meaning.{kept_by}
-use Rattle.image_changes.specs.Rings.{Masters, KeepsUnits, master_shape}
-use Rattle.redo_laws.specs.Holding.{Represents}
-use Rattle.site.proofs.Working.{no_error, ok_as}
-use Rattle.redo_laws.proofs.CallsInSequence.{nothing_happens}
-use Rattle.redo_laws.proofs.Appended.{append_leaves, current_same}
-use Rattle.redo_laws.proofs.Forced.{forced_holds, some_now, ok_five, quiet_stops, seals_only}
-use Rattle.redo_laws.proofs.WornLogs.{log_at_end}
-use Rattle.redo_laws.proofs.RingNumbers.{skips_nothing}
-use Rattle.redo_laws.proofs.LeftNumbers.{log_skips, log_calls, ready_next, same_at_most}
-use Rattle.redo_undo.proofs.forcing.force.Goals as goal
+use Rattle.redo_undo.proofs.Names.{◌≡◌, ◌∙◌, true, sym, ap, inr, refl, true≢false, ◌+◌, Bool, false, nat_lt, Ok, if◌then◌else◌, ring_kept, Masters, KeepsUnits, master_shape, kept_by, LogList, changes_if, has_tail, log_fits, append_leaves, current_same, nothing_happens, forced_holds, some_now, ok_five, quiet_stops, seals_only, log_skips, log_calls, ready_next, same_at_most, skips_nothing, log_at_end, Represents, no_error, ok_as, ok_both}
 use Rattle.redo_undo.proofs.Mirroring.{force_performs, numbers_left}
-use Rattle.std.specs.Prelude.{Ok, if◌then◌else◌}
+use Rattle.redo_undo.proofs.forcing.force.Goals as goal
 
 pub returns-clause-holds : goal.returns-clause-holds
 returns-clause-holds g c pages newest records table commits sizes h =
@@ -58,7 +42,7 @@ returns-clause-keeps g c pages newest records table commits h =
       numbers = λ going quiet. log_skips c.force.result log.geometry log c.force.new.self list (has_tail log) site new 0 (ready_next pages log list site ready) (λ tail. tail)
           (c.force.ensures.seals.any_moment list (log_fits log site quiet ready.blocks) ready.records) (c.force.ensures.seals.front list (log_fits log site quiet ready.blocks) ready.records quiet)
           (ok_both c.force.result _ _ _ (λ next empty. same_at_most log c.force.new.self some next empty) c.force.ensures.seals.next c.force.ensures.empty)
-          (log_calls c.force.result log.geometry log.ring.hi c.force.new.self.ring.hi list (has_tail log) site new (c.force.ensures.seals.changes ready.blocks.honest) (c.force.ensures.seals.reaches list ready.blocks ready.records) c.force.ensures.seals.next (c.force.ensures.seals.device_calls ready.blocks.honest));
+          (log_calls c.force.result log.geometry log.ring.hi c.force.new.self.ring.hi list (has_tail log) site new quiet (c.force.ensures.seals.changes ready.blocks.honest) (c.force.ensures.seals.reaches list ready.blocks ready.records) c.force.ensures.seals.next (c.force.ensures.seals.device_calls ready.blocks.honest));
       quiet = λ quiet. quiet_stops c.force.result new site quiet (λ is. ap g.S.Site.state (c.force.ensures.unchanged (inr (c.force.ensures.seals.worn.0 is).1))) c.force.ensures.seals.stops;
       worn_log = λ is. (let worn = (c.force.ensures.seals.worn.0 is).1 in log_at_end log site new ready.blocks (ap g.S.Site.state (c.force.ensures.unchanged (inr worn))) worn);
       masters = ok_as c.force.result _ (KeepsUnits master_shape site.image new.image)

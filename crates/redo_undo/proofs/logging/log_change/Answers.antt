@@ -1,20 +1,7 @@
-use Rattle.std.specs.Prelude.{Err}
-use Rattle.std.proofs.Common.{refl, ◌≡◌, ◌∷◌, [], ◌++◌, ℕ, sym, ap, subst, arith}
-use Rattle.slotted_page.specs.Layout.{lsn_of}
-use Rattle.site.specs.declared.geometry.Geometry.{Geometry}
-use Rattle.page_store.specs.Representation.{current}
-use Rattle.flash_cache.specs.declared.cache.FlashCache.{FlashCache}
-use Rattle.page_store.proofs.Fitting.{front_exists}
-use Rattle.redo_laws.specs.Holding.{RepresentsIn}
-use Rattle.redo_laws.proofs.Changed.{holds_on, other_pages, front_is_current}
-use Rattle.page_store.proofs.StagingLaws.{stages_between, stages_ok, stages_err}
-use Rattle.redo_laws.proofs.Asking.{stages_log}
-use Rattle.redo_undo.proofs.logging.log_change.Goals as goal
-use Rattle.buffer_pool.specs.Frames.{front_of}
+use Rattle.redo_undo.proofs.Names.{refl, ◌≡◌, ◌∷◌, [], ◌++◌, ℕ, sym, ap, subst, arith, Err, front_of, FlashCache, front_exists, stages_between, stages_ok, stages_err, current, stages_log, holds_on, other_pages, front_is_current, RepresentsIn, performs_refused, octets_of, Geometry, lsn_of}
 use Rattle.redo_undo.proofs.Calling.{appends_foreign, keeps_appended}
-use Rattle.ring_machine.specs.Octets.{octets_of}
-use Rattle.ring_machine.proofs.Performing.{performs_refused}
 use Rattle.redo_undo.proofs.Mirroring.{change_performs, change_stopped_by}
+use Rattle.redo_undo.proofs.logging.log_change.Goals as goal
 
 pub returns-clause-holds : goal.returns-clause-holds
 returns-clause-holds g c newest records table commits h may =

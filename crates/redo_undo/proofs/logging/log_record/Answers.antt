@@ -1,39 +1,13 @@
-use Rattle.image_changes.proofs.Sequence.{ring_kept}
+use Rattle.redo_undo.proofs.Names.{List, ◌≡◌, ◌≤◌, ◌<◌, Bool, true, ◌∷◌, [], ◌++◌, ap, inr, ℕ, length, subst, IfOk, Master, ring_kept, Masters, KeepsUnits, master_shape, AreRingsSoundUnder, versions_on, kept_by, Entry, AreOrderly, spelling, LogList, changes_if, overflows, end_of, has_tail, log_fits, AreSealed, rules as rules_of_pages, PageStore, Content, appended, ends_with, append_leaves, rings_now, more_sealed, versions_same, current_same, IsNumbered, IsAppended, if_ok_four, if_ok_one, if_ok_two, if_ok_three, ok_by, most_blocks, holds_off, quiet_stops, seals_only, log_skips, log_calls, ready_next, ends_orderly, log_at_end, EndsWith, MayGrow, RepresentsLog, Represents, Mirrors, logged, Performs, ok_as, State}
 use Rattle.log_store.proofs.TailLaws.{full_tail, spelling_short}
-use Rattle.page_store.proofs.PushLaws.{log_fits}
-use Rattle.std.proofs.Common.{List, ◌≡◌, ◌≤◌, ◌<◌, Bool, true, ◌∷◌, [], ◌++◌, ap, inr, ℕ, lt-ltb, length, subst}
-use Rattle.std.specs.Prelude.{IfOk, Option}
-use Rattle.log_records.specs.Sound.{AreOrderly}
-use Rattle.image_meaning.specs.Meaning.{versions_on, kept_by}
-use Rattle.redo_laws.proofs.Forced.{quiet_stops, seals_only}
-use Rattle.redo_laws.proofs.Orderlies.{ends_orderly}
-use Rattle.log_store.specs.Representation.{overflows, next_lsn, end_of, has_tail}
-use Rattle.log_store.specs.LogList.{LogList, changes_if}
-use Rattle.page_store.specs.Ahead.{AreSealed}
-use Rattle.redo_laws.specs.Holding.{MayGrow, RepresentsLog, Represents}
-use Rattle.redo_laws.proofs.Appended.{appended, ends_with, append_leaves, rings_now, more_sealed, versions_same, current_same, IsNumbered, IsAppended, if_ok_four, if_ok_one, if_ok_two, if_ok_three, ok_by, most_blocks}
-use Rattle.redo_laws.specs.Committing.{EndsWith}
-use Rattle.image_meaning.specs.Beside.{AreRingsSoundUnder}
-use Rattle.checkpoint.specs.declared.master.Master.{Master}
-use Rattle.record_model.specs.State.{Content}
-use Rattle.log_records.specs.Log.{Entry}
-use Rattle.site.specs.State.{State}
-use Rattle.page_store.specs.declared.store.PageStore.{PageStore}
-use Rattle.redo_laws.proofs.Changed.{holds_off}
-use Rattle.image_changes.specs.Rings.{Masters, KeepsUnits, master_shape}
-use Rattle.site.proofs.Working.{ok_as}
-use Rattle.redo_laws.proofs.WornLogs.{log_at_end}
-use Rattle.redo_laws.proofs.LeftNumbers.{log_skips, log_calls, ready_next}
+use Rattle.std.proofs.Common.{lt-ltb}
+use Rattle.std.specs.Prelude.{Option}
+use Rattle.log_store.specs.Representation.{next_lsn}
 use Rattle.redo_undo.proofs.logging.log_record.Given.{Over}
 use Rattle.redo_undo.proofs.logging.log_record.Goals.{After-append}
-use Rattle.redo_undo.proofs.logging.log_record.Goals as goal
-use Rattle.ring_machine.specs.Machine.{logged}
-use Rattle.ring_machine.specs.Performing.{Performs}
 use Rattle.ring_machine.proofs.Spelled.{octets_spelled}
-use Rattle.log_records.specs.Spelling.{spelling}
-use Rattle.page_store.specs.Caching.{rules as rules_of_pages}
-use Rattle.redo_undo.specs.Mirroring.{Mirrors}
 use Rattle.redo_undo.proofs.Mirroring.{logged_performs, logged_used, numbers_left}
+use Rattle.redo_undo.proofs.logging.log_record.Goals as goal
 
 pub returns-clause-pages : goal.returns-clause-pages
 returns-clause-pages g c pages newest records table commits h =
@@ -154,7 +128,7 @@ returns-clause-keeps g c pages newest records table commits h =
       numbers = λ going quiet. log_skips c.append.result log.geometry log c.append.new.self list sealing site new 1 (ready_next pages log list site ready) full
           (c.append.ensures.seals.any_moment list (log_fits log site quiet ready.blocks) ready.records) (c.append.ensures.seals.front list (log_fits log site quiet ready.blocks) ready.records quiet)
           (ok_by c.append.result _ _ (λ lsn is. most_blocks log c.append.new.self lsn sealing full is) (numbered g c))
-          (log_calls c.append.result log.geometry log.ring.hi c.append.new.self.ring.hi list sealing site new (c.append.ensures.seals.changes ready.blocks.honest) (c.append.ensures.seals.reaches list ready.blocks ready.records) c.append.ensures.seals.next (c.append.ensures.seals.device_calls ready.blocks.honest));
+          (log_calls c.append.result log.geometry log.ring.hi c.append.new.self.ring.hi list sealing site new quiet (c.append.ensures.seals.changes ready.blocks.honest) (c.append.ensures.seals.reaches list ready.blocks ready.records) c.append.ensures.seals.next (c.append.ensures.seals.device_calls ready.blocks.honest));
       quiet = λ quiet. quiet_stops c.append.result new site quiet (λ is. ap g.S.Site.state (c.append.ensures.unchanged (inr (c.append.ensures.seals.worn.0 is).1))) c.append.ensures.seals.stops;
       worn_log = λ is. (let worn = (c.append.ensures.seals.worn.0 is).1 in log_at_end log site new ready.blocks (ap g.S.Site.state (c.append.ensures.unchanged (inr worn))) worn);
       masters = ok_as c.append.result _ (KeepsUnits master_shape site.image new.image)

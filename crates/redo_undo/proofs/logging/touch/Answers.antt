@@ -1,36 +1,12 @@
-use Rattle.std.proofs.Common.{Bool, false, [], arith, ◌∙◌, List, ap, ℕ, sym, subst, append-nil, true≢false}
-use Rattle.std.specs.Prelude.{◌≡◌, OnOk, if◌then◌else◌}
-use Rattle.write_ahead.specs.Forcing.{forces}
-use Rattle.page_store.specs.Ahead.{pushed_by_touch}
-use Rattle.log_store.specs.LogList.{LogList, sealed_if}
-use Rattle.log_records.specs.Spelling.{used_by}
-use Rattle.page_store.specs.Leaves.{AreReady}
-use Rattle.redo_undo.specs.Redoing.{IsRedoing, Opening}
-use Rattle.redo_laws.proofs.Endings.{ends_by_pages}
-use Rattle.redo_laws.proofs.CallsInSequence.{some_group}
+use Rattle.redo_undo.proofs.Names.{Bool, false, [], arith, ◌∙◌, List, ap, ℕ, sym, subst, append-nil, true≢false, OnOk, if◌then◌else◌, KeepsUnits, master_shape, kept_by, Entry, used_by, LogList, sealed_if, stages_as, pushed_by_touch, cache_of, rules, AreReady, current, touch, touch_reads, some_group, touched_next, ends_by_pages, pages_skip, ready_next, forced_tail, leaves_table, touched_holds, RepresentsIn, Represents, IsRedoing, Opening, rules_of, staged_by, ok_as, Geometry, ok_both, forces}
+use Rattle.std.specs.Prelude.{◌≡◌}
 use Rattle.redo_undo.proofs.Redoings.{never_forced, rings_given, rings_of, touch_leaves, touched}
-use Rattle.record_model.specs.Touches.{touch}
-use Rattle.page_store.proofs.StagingLaws.{stages_as}
-use Rattle.redo_laws.proofs.Costs.{touched_next}
-use Rattle.second_chance.specs.Machine.{rules_of, staged_by}
-use Rattle.page_store.specs.Caching.{cache_of, rules}
-use Rattle.redo_laws.proofs.Asking.{touch_reads}
 use Rattle.redo_undo.proofs.Mirroring.{numbers_left, touch_performs, used_where}
 use Rattle.redo_undo.proofs.Resting.{rests_touched}
-use Rattle.image_meaning.specs.Meaning.{kept_by}
 use Rattle.redo_undo.proofs.UndoneNumbers.{skips_touch}
-use Rattle.image_changes.specs.Rings.{KeepsUnits, master_shape}
-use Rattle.site.proofs.Working.{ok_as}
-use Rattle.site.specs.declared.geometry.Geometry.{Geometry}
-use Rattle.redo_laws.specs.Holding.{RepresentsIn, Represents}
-use Rattle.redo_laws.proofs.Touched.{forced_tail, leaves_table, touched_holds}
-use Rattle.page_store.specs.Representation.{current}
-use Rattle.redo_laws.proofs.LeftNumbers.{pages_skip, ready_next}
 use Rattle.redo_undo.proofs.logging.touch.Given.{Over}
 use Rattle.redo_undo.proofs.logging.touch.Goals.{After-touch}
-use Rattle.log_records.specs.Log.{Entry}
 use Rattle.std.proofs.lemmas.Grind.{common_steps}
-use Rattle.std_lemmas.proofs.Results.{ok_both}
 use Rattle.redo_undo.proofs.logging.touch.Goals as goal
 
 redoing_now : (g : Over) (c : After-touch g) (o : Opening) (front : List Entry) →
@@ -75,7 +51,7 @@ returns g c =
           record {
             ends = ends_by_pages (c.touch.ensures.keeps list ready) (λ quiet. leaves_table log pages site newest records table commits h c.requires.going.pages_going.own sealing tail new
                 ((c.touch.ensures.keeps list ready).any_moment quiet) ((c.touch.ensures.keeps list ready).ahead_moment quiet h.log_holds.ahead) ((c.touch.ensures.keeps list ready).rings_moment newest quiet h.log_holds.rings));
-            numbers = λ quiet. pages_skip c.touch.result pages.flash.geometry (current pages site.image) log c.touch.new.log list sealing site new (ready_next pages log list site ready) tail ((c.touch.ensures.keeps list ready).any_moment quiet) c.touch.ensures.works.forces.end (ok_as c.touch.result _ _ (λ stands. stands.device_calls) (c.touch.ensures.stands list ready));
+            numbers = λ quiet. pages_skip c.touch.result pages.flash.geometry (current pages site.image) log c.touch.new.log list sealing site new (ready_next pages log list site ready) tail ((c.touch.ensures.keeps list ready).any_moment quiet) c.touch.ensures.works.forces.end (ok_as c.touch.result _ _ (λ stands. stands.device_calls quiet) (c.touch.ensures.stands list ready));
             masters = λ none. ok_as c.touch.result _ (KeepsUnits master_shape site.image new.image) (λ stands. stands.leaves.masters) (c.touch.ensures.stands list ready);
           };
       redoing = redoing_now g c;
@@ -85,7 +61,7 @@ returns g c =
           record {
             ends = ends_by_pages (c.touch.ensures.keeps list h.ready) (λ quiet. touch_leaves o log pages site front h sealing never new ((c.touch.ensures.keeps list h.ready).any_moment quiet)
                 (rings_of o log pages site front h new ((c.touch.ensures.keeps list h.ready).rings_moment o.newest quiet (rings_given o log pages site front h))) c.requires.going.pages_going.own);
-            numbers = λ quiet. skips_touch o log pages site front h sealing never new c.touch.result c.touch.new.log c.touch.new.self ((c.touch.ensures.keeps list h.ready).any_moment quiet) (redoing_now g c o front h) (ok_as c.touch.result _ _ (λ stands. stands.device_calls) (c.touch.ensures.stands list h.ready));
+            numbers = λ quiet. skips_touch o log pages site front h sealing never new c.touch.result c.touch.new.log c.touch.new.self ((c.touch.ensures.keeps list h.ready).any_moment quiet) (redoing_now g c o front h) (ok_as c.touch.result _ _ (λ stands. stands.device_calls quiet) (c.touch.ensures.stands list h.ready));
             masters = λ none. ok_as c.touch.result _ (KeepsUnits master_shape site.image new.image) (λ stands. stands.leaves.masters) (c.touch.ensures.stands list h.ready);
           };
       at_rest = λ o front h.

@@ -1,7 +1,4 @@
-use Rattle.std.proofs.Common.{◌≡◌, true, sym, ◌∙◌, true≢false}
-use Rattle.checkpoint.specs.Newest.{seen}
-use Rattle.analysis.specs.Taken.{is_taken}
-use Rattle.redo_undo.specs.Redoing.{heard_of}
+use Rattle.redo_undo.proofs.Names.{◌≡◌, true, sym, ◌∙◌, true≢false, is_taken, seen, heard_of}
 use Rattle.redo_undo.proofs.redo_pass.analyse.Goals as goal
 
 pub returns-clause-readable : goal.returns-clause-readable

@@ -1,9 +1,4 @@
-use Rattle.std.proofs.Common.{◌≡◌, ◌+◌, ◌/◌, length, ap, sym, ◌∙◌, arith}
-use Rattle.site.specs.declared.geometry.Geometry.{Geometry}
-use Rattle.checkpoint.specs.Newest.{seen}
-use Rattle.image_meaning.specs.Meaning.{kept_by}
-use Rattle.log_judge.specs.Judging.{IsOfSizes}
-use Rattle.redo_undo.specs.Redoing.{Opening, opened}
+use Rattle.redo_undo.proofs.Names.{◌≡◌, ◌+◌, ◌/◌, length, ap, sym, ◌∙◌, arith, seen, kept_by, IsOfSizes, Opening, opened, Geometry}
 use Rattle.redo_undo.proofs.Judging.{of_sizes}
 use Rattle.redo_undo.proofs.redo_pass.judge_of.Goals.{After-start}
 use Rattle.redo_undo.proofs.redo_pass.judge_of.Goals as goal

@@ -1,5 +1,4 @@
-use Rattle.std.proofs.Common.{sym}
-use Rattle.redo_laws.proofs.Names.{named_at}
+use Rattle.redo_undo.proofs.Names.{sym, named_at}
 use Rattle.redo_undo.proofs.redo_pass.names.Goals as goal
 
 pub returns-then-begin-txn : goal.returns-then-begin-txn

@@ -1,6 +1,4 @@
-use Rattle.std.proofs.Common.{◌≡◌, take, false}
-use Rattle.analysis.specs.Taken.{is_named}
-use Rattle.redo_laws.proofs.Names.{actives}
+use Rattle.redo_undo.proofs.Names.{◌≡◌, take, false, is_named, actives}
 use Rattle.redo_undo.proofs.redo_pass.names.Given as goal
 
 abbrev pub invariant-loop-place : goal.invariant-loop-place

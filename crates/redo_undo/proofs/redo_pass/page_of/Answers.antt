@@ -1,6 +1,4 @@
-use Rattle.std.proofs.Common.{◌+◌, ◌*◌, ap, subst, arith}
-use Rattle.log_records.specs.Spelling.{HasForm}
-use Rattle.log_records.specs.Log.{number_of}
+use Rattle.redo_undo.proofs.Names.{◌+◌, ◌*◌, ap, subst, arith, number_of, HasForm}
 use Rattle.redo_undo.proofs.redo_pass.page_of.Goals as goal
 
 pub returns-in-Update-clause-on : goal.returns-in-Update-clause-on

@@ -1,32 +1,11 @@
-use Rattle.std.proofs.Common.{◌≡◌, ◌+◌, ◌<◌, ◌^◌, true≢false, ap, List, [], length, take, drop, suc, Err, refl, sym, subst, ◌∙◌, arith, ◌-◌, inl, ◌⊎◌, ℕ}
-use Rattle.std.specs.Prelude.{Ok, ⊤, Option}
-use Rattle.log_records.specs.Log.{log_from}
-use Rattle.checkpoint.specs.declared.master.Master.{Master}
-use Rattle.checkpoint.specs.Newest.{seen}
-use Rattle.image_meaning.specs.Meaning.{kept_by, saved_by, logical_image_under}
-use Rattle.analysis.specs.Read.{IsAnalysis}
-use Rattle.redo_undo.specs.Redoing.{AsksAtRest, Opening, IsOpened, IsReading, asked_of, opened, HasTaken}
+use Rattle.redo_undo.proofs.Names.{◌≡◌, ◌+◌, ◌<◌, ◌^◌, true≢false, ap, List, [], length, take, drop, suc, refl, sym, subst, ◌∙◌, arith, ◌-◌, inl, ◌⊎◌, ℕ, Ok, ⊤, IsTrue, IsAnalysis, seen, Master, kept_by, saved_by, logical_image_under, LeavesTableUnder, Sizes, block_of, log_split, log_from, LogRecord, LogList, PageStore, Content, stages_read, going_still, some_group, ready_next, Keeps, ReadsOne, AsksAtRest, Opening, IsOpened, IsReading, asked_of, opened, HasTaken, calls_then, no_error, of_error, State, Log, Worn, Device, Foreign}
+use Rattle.std.proofs.Common.{Err}
+use Rattle.std.specs.Prelude.{Option}
 use Rattle.redo_undo.proofs.Judging.{read_none, readable_still, finds_them}
-use Rattle.redo_laws.proofs.LeftNumbers.{ready_next}
-use Rattle.log_judge.specs.declared.judge.Sizes.{Sizes}
-use Rattle.log_store.specs.LogList.{LogList}
-use Rattle.std.specs.Prelude.{IsTrue}
-use Rattle.log_laws.proofs.LogBlocks.{block_of, log_split}
-use Rattle.redo_laws.proofs.CallsInSequence.{going_still, some_group}
 use Rattle.redo_undo.proofs.Redoings.{begins, holds_all}
 use Rattle.redo_undo.proofs.TakenRecords.{IsUpTo, IsNextBlock, asks_first, up_to_none, opened_count, finds, next_block, one_more_block, all_blocks, same_stop, unfinished_by}
-use Rattle.site.specs.declared.outside.Stop.TheVariants.{Worn, Device, Foreign}
-use Rattle.site.specs.declared.outside.Dev.TheVariants.{Log}
-use Rattle.redo_laws.proofs.Asking.{stages_read}
 use Rattle.redo_undo.proofs.RedoWorks.{stops_first, stops_reading, asks_with_read, asks_more, asks_all, stops_within}
-use Rattle.redo_laws.specs.Calls.{Keeps, ReadsOne}
-use Rattle.image_meaning.specs.Moments.{LeavesTableUnder}
-use Rattle.log_records.specs.declared.log_record.LogRecord.{LogRecord}
-use Rattle.record_model.specs.State.{Content}
-use Rattle.site.specs.State.{State}
-use Rattle.page_store.specs.declared.store.PageStore.{PageStore}
 use Rattle.redo_undo.proofs.Calling.{calls_read, keeps_answered, keeps_failed, keeps_opened, keeps_redoing, keeps_refused_by, keeps_then, works_answered, works_nothing, works_read, works_stopped, works_then, reads_worn, not_worn, works_foreign}
-use Rattle.site.proofs.Working.{calls_then, no_error, of_error}
 use Rattle.redo_undo.proofs.redo_pass.redo.Given.{Over}
 use Rattle.redo_undo.proofs.redo_pass.redo.Goals.{In-Ok-read_block, After-loop-block, After-is_sound}
 use Rattle.redo_undo.proofs.UndoCalls.{read_refuses}

@@ -1,19 +1,8 @@
-use Rattle.std.proofs.Common.{◌≡◌, ◌+◌, ◌-◌, ◌*◌, ◌^◌, ◌≤◌, ℕ, List, length, take}
-use Rattle.std.specs.Prelude.{⊤, Ok, Option}
-use Rattle.record_model.specs.State.{Content}
-use Rattle.log_records.specs.declared.log_record.LogRecord.{LogRecord}
-use Rattle.log_records.specs.Log.{log_from}
-use Rattle.analysis.specs.Open.{owed_for}
-use Rattle.analysis.specs.Table.{listed}
-use Rattle.analysis.specs.Read as read
-use Rattle.redo_laws.specs.Holding.{blocks_to}
-use Rattle.redo_undo.specs.Redoing.{AsksAtRest, IsOpened, IsReadable, Opening, asked_of}
+use Rattle.redo_undo.proofs.Names.{◌≡◌, ◌+◌, ◌-◌, ◌*◌, ◌^◌, ◌≤◌, ℕ, List, length, take, ⊤, Ok, owed_for, listed, Master, kept_by, saved_by, LeavesTableUnder, log_from, LogRecord, Content, Keeps, KeepsInvariant, blocks_to, AsksAtRest, IsOpened, IsReadable, Opening, asked_of}
+use Rattle.std.specs.Prelude.{Option}
 use Rattle.redo_undo.proofs.Judging.{IsReadTo}
 use Rattle.redo_undo.proofs.TakenRecords.{IsUpTo}
-use Rattle.image_meaning.specs.Meaning.{kept_by, saved_by}
-use Rattle.checkpoint.specs.declared.master.Master.{Master}
-use Rattle.redo_laws.specs.Calls.{Keeps, KeepsInvariant}
-use Rattle.image_meaning.specs.Moments.{LeavesTableUnder}
+use Rattle.analysis.specs.Read as read
 use Rattle.redo_undo.proofs.redo_pass.redo.Given as goal
 
 abbrev pub invariant-loop-block : goal.invariant-loop-block

@@ -1,22 +1,8 @@
-use Rattle.std.specs.Prelude.{Ok, IsTrue}
-use Rattle.std.proofs.Common.{◌≡◌, ◌∷◌, [], true≢false, refl, sym, ap, ◌∙◌, arith}
-use Rattle.site.specs.declared.outside.Stop.TheVariants.{Foreign}
-use Rattle.redo_undo.specs.Redoing.{touches_of}
-use Rattle.std.proofs.lemmas.Option.{none-some}
-use Rattle.site.specs.declared.geometry.Geometry.{Geometry}
-use Rattle.log_records.specs.Log.{Entry}
-use Rattle.slotted_page.specs.Layout.{lsn_of}
-use Rattle.buffer_pool.specs.Frames.{front_of}
-use Rattle.flash_cache.specs.declared.cache.FlashCache.{FlashCache}
-use Rattle.second_chance.specs.Machine.{rules_of}
-use Rattle.page_store.specs.Representation.{current}
-use Rattle.redo_laws.proofs.CallsInSequence.{some_group}
-use Rattle.redo_laws.proofs.Changed.{front_is_current}
+use Rattle.redo_undo.proofs.Names.{◌≡◌, ◌∷◌, [], true≢false, refl, sym, ap, ◌∙◌, arith, none-some, Ok, IsTrue, front_of, FlashCache, Entry, next_answered, next_with, current, some_group, front_is_current, touches_of, rules_of, Geometry, Foreign, lsn_of}
 use Rattle.redo_undo.proofs.NextRecords.{page_exists, lsn_sealed, no_change, changed, front_knows}
 use Rattle.redo_undo.proofs.RedoWorks.{stops_first, asks_no_page, stops_in_touch, asks_known, asks_redone}
 use Rattle.redo_undo.proofs.Calling.{keeps_redoing, logs_answered, logs_foreign, logs_nothing}
 use Rattle.page_store.specs.Calls.{KeepsNext}
-use Rattle.page_store.proofs.NextUnits.{next_answered, next_with}
 use Rattle.std.proofs.lemmas.Grind.{common_steps}
 use Rattle.redo_undo.proofs.redo_pass.redo_record.Goals as goal
 

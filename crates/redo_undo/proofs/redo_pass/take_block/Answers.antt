@@ -1,10 +1,5 @@
-use Rattle.log_records.proofs.Blocks.{some_octet, one_spelled}
-use Rattle.std.proofs.Common.{◌+◌, ◌*◌, ◌++◌, ◌∷◌, [], List, append-nil, refl, sym, subst, ◌∙◌, append_assoc, arith}
-use Rattle.log_records.specs.Log.{Entry, entries_from}
-use Rattle.redo_undo.specs.Redoing.{HasTaken, IsReading}
+use Rattle.redo_undo.proofs.Names.{◌+◌, ◌*◌, ◌++◌, ◌∷◌, [], List, append-nil, refl, sym, subst, ◌∙◌, append_assoc, arith, next_of_log, past_one, none_there, past_all, some_octet, one_spelled, Entry, entries_from, some_group, HasTaken, IsReading}
 use Rattle.redo_undo.proofs.Judging.{part_read}
-use Rattle.redo_laws.proofs.CallsInSequence.{some_group}
-use Rattle.log_laws.proofs.BlockRecords.{next_of_log, past_one, none_there, past_all}
 use Rattle.redo_undo.proofs.TakenRecords.{part_begins}
 use Rattle.redo_undo.proofs.RedoWorks.{asks_more, asks_all, stops_within}
 use Rattle.redo_undo.proofs.Calling.{keeps_answered, keeps_redoing, keeps_then, logs_answered, logs_nothing, logs_then}

@@ -1,16 +1,7 @@
-use Rattle.std.proofs.Common.{◌-◌, ◌≡◌, ◌+◌, ◌*◌, ◌≤◌, ◌<◌, ◌++◌, List}
-use Rattle.log_records.specs.declared.log_record.LogRecord.{LogRecord}
-use Rattle.log_records.specs.Spelling.{IsBlock, used_by}
-use Rattle.log_records.specs.Log.{Entry, log_from, entries_from}
-use Rattle.analysis.specs.Open.{owed_for}
-use Rattle.analysis.specs.Table.{listed}
-use Rattle.analysis.specs.Read as read
-use Rattle.redo_undo.specs.Redoing.{Opening, HasTaken, IsReading, LeavesOpened}
+use Rattle.redo_undo.proofs.Names.{◌-◌, ◌≡◌, ◌+◌, ◌*◌, ◌≤◌, ◌<◌, ◌++◌, List, Ok, owed_for, listed, kept_by, saved_by, Entry, log_from, entries_from, IsBlock, used_by, LogRecord, Keeps, LogsNothing, Opening, HasTaken, IsReading, LeavesOpened}
 use Rattle.redo_undo.proofs.Judging.{IsPartRead}
 use Rattle.redo_undo.proofs.TakenRecords.{IsPartWay}
-use Rattle.image_meaning.specs.Meaning.{kept_by, saved_by}
-use Rattle.redo_laws.specs.Calls.{Keeps, LogsNothing}
-use Rattle.std.specs.Prelude.{Ok}
+use Rattle.analysis.specs.Read as read
 use Rattle.redo_undo.proofs.redo_pass.take_block.Given as goal
 
 abbrev pub invariant-loop-at : goal.invariant-loop-at

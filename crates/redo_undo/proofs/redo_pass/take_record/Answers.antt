@@ -1,20 +1,8 @@
-use Rattle.std.proofs.Common.{◌≡◌, ℕ, List, length, ◌∷◌, [], ◌++◌, refl, sym, ap, subst, ◌∙◌, arith}
-use Rattle.std.proofs.lemmas.List.{length-append}
-use Rattle.log_records.specs.Log.{Entry, log_from}
-use Rattle.log_records.specs.Sound.{IsInOrder}
-use Rattle.log_records.proofs.Entries.{in_order_left}
-use Rattle.checkpoint.specs.Newest.{seen}
-use Rattle.image_meaning.specs.Meaning.{kept_by, saved_by}
-use Rattle.log_judge.specs.Judging.{HasHeard}
+use Rattle.redo_undo.proofs.Names.{◌≡◌, ℕ, List, length, ◌∷◌, [], ◌++◌, refl, sym, ap, subst, ◌∙◌, arith, length-append, Err, seen, Master, kept_by, saved_by, HasHeard, in_order_left, Entry, log_from, IsInOrder, some_group, Opening, HasTaken, IsReading, asked_of, opened, ok_as}
 use Rattle.redo_undo.proofs.Judging.{read_in_order}
-use Rattle.checkpoint.specs.declared.master.Master.{Master}
-use Rattle.redo_undo.specs.Redoing.{Opening, HasTaken, IsReading, asked_of, opened}
-use Rattle.site.proofs.Working.{ok_as}
-use Rattle.redo_laws.proofs.CallsInSequence.{some_group}
 use Rattle.redo_undo.proofs.NextRecords.{may_step, known_before, no_change}
 use Rattle.redo_undo.proofs.RedoWorks.{stops_first, asks_early, asks_late}
 use Rattle.redo_undo.proofs.TakenRecords.{analysis_to, analysis_back, step_to}
-use Rattle.std.specs.Prelude.{Err}
 use Rattle.redo_undo.proofs.Calling.{keeps_redoing, keeps_refused_by, not_worn}
 use Rattle.redo_undo.proofs.redo_pass.take_record.Given.{Over}
 use Rattle.redo_undo.proofs.redo_pass.take_record.Goals.{In_default}

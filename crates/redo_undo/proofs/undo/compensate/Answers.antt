@@ -1,22 +1,9 @@
-use Rattle.std.proofs.Common.{◌∙◌, ◌+◌, ◌*◌, ◌++◌, ◌∷◌, [], ℕ, true≢false, refl, arith, sym}
-use Rattle.site.specs.declared.outside.Dev.TheVariants.{Log}
-use Rattle.log_records.specs.declared.log_record.LogRecord.TheVariants.{Clr}
-use Rattle.log_records.specs.Log.{Entry}
-use Rattle.log_records.specs.Sound.{AreOrderly}
-use Rattle.redo_laws.specs.Holding.{Represents, MayGrow}
-use Rattle.redo_laws.proofs.CallsInSequence.{some_group}
+use Rattle.redo_undo.proofs.Names.{◌∙◌, ◌+◌, ◌*◌, ◌++◌, ◌∷◌, [], ℕ, true≢false, refl, arith, sym, front_of, Entry, AreOrderly, Clr, if_ok_one, change_made, change_stopped, some_group, Represents, MayGrow, performs_as, performs_by, performs_then, performs_stopped, changed, clr_octets, rules_of, Log}
 use Rattle.redo_undo.proofs.Compensations.{may_moved}
-use Rattle.redo_laws.proofs.Appended.{if_ok_one}
-use Rattle.second_chance.specs.Machine.{rules_of}
-use Rattle.redo_laws.proofs.AskingUndo.{change_made, change_stopped}
 use Rattle.redo_undo.proofs.Calling.{keeps_failed, keeps_few, keeps_then, works_foreign, works_then}
 use Rattle.std.proofs.lemmas.Grind.{common_steps}
-use Rattle.redo_undo.proofs.undo.compensate.Goals as goal
-use Rattle.buffer_pool.specs.Frames.{front_of}
-use Rattle.ring_machine.specs.Machine.{changed}
-use Rattle.ring_machine.specs.Octets.{clr_octets}
-use Rattle.ring_machine.proofs.Performing.{performs_as, performs_by, performs_then, performs_stopped}
 use Rattle.redo_undo.proofs.UndoneWork.{back_is}
+use Rattle.redo_undo.proofs.undo.compensate.Goals as goal
 
 pub fits_front-requires-clause-on_page : goal.fits_front-requires-clause-on_page
 fits_front-requires-clause-on_page g c = (32 * c.args.wanted.page + c.args.wanted.slot, refl, let front = c.in-Ok.ensures.front in let form = c.requires.form.0 in omega (arith, front, form))

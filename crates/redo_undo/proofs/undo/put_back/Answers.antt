@@ -1,15 +1,9 @@
-use Rattle.std.proofs.Common.{◌*◌, ◌+◌, true≢false, refl, sym, ap, subst, ℕ, ◌∙◌, arith}
 use Rattle.std.proofs.lemmas.Grind.{common_steps}
-use Rattle.site.specs.declared.geometry.Geometry.{Geometry}
-use Rattle.log_records.specs.declared.log_record.LogRecord.TheVariants.{Clr}
-use Rattle.page_store.specs.Caching.{rules}
-use Rattle.redo_laws.proofs.AskingUndo.{work_is}
+use Rattle.redo_undo.proofs.Names.{◌*◌, ◌+◌, true≢false, refl, sym, ap, subst, ℕ, ◌∙◌, arith, Clr, rules, work_is, IsStepOf, Compensate, Geometry}
 use Rattle.redo_undo.proofs.Calling.{works_answered, works_foreign, works_nothing}
 use Rattle.redo_undo.proofs.Compensations.{is_an_update, may_compensate, owes_less, room_for_clr, some_remain, undone, wanted_is}
 use Rattle.redo_undo.proofs.UndoCalls.{undoes_answered, undoes_as, undoes_failed}
 use Rattle.redo_undo.proofs.UndoneWork.{clr_is}
-use Rattle.redo_undo.specs.Undoing.{IsStepOf}
-use Rattle.redo_undo.specs.declared.undo.Step.TheVariants.{Compensate}
 use Rattle.redo_undo.proofs.undo.put_back.Goals as goal
 
 pub returns : goal.returns

@@ -1,10 +1,6 @@
-use Rattle.std.proofs.Common.{Err, ℕ, sym, ap, subst, ◌∙◌, arith}
-use Rattle.log_records.specs.declared.log_record.LogRecord.{LogRecord}
-use Rattle.redo_undo.specs.Undoing.{IsStepOf}
-use Rattle.site.specs.declared.geometry.Geometry.{Geometry}
-use Rattle.redo_laws.proofs.CallsInSequence.{found_now}
+use Rattle.redo_undo.proofs.Names.{ℕ, sym, ap, subst, ◌∙◌, arith, next_is_late, LogRecord, found_now, IsStepOf, Geometry}
+use Rattle.std.proofs.Common.{Err}
 use Rattle.redo_undo.proofs.Compensations.{is_there, read_is, steps}
-use Rattle.log_laws.proofs.UndoingSteps.{next_is_late}
 use Rattle.redo_undo.proofs.Lasts.{begin_kept}
 use Rattle.redo_undo.proofs.undo.read_step.Goals as goal
 

@@ -1,31 +1,13 @@
-use Rattle.page_store.specs.declared.store.PageStore.{PageStore}
-use Rattle.redo_undo.specs.UndoCalls.{UndoesWork}
+use Rattle.redo_undo.proofs.Names.{List, ◌≡◌, ◌+◌, ◌-◌, ◌^◌, ◌≤◌, ◌++◌, ◌∷◌, [], length, refl, sym, ap, subst, ◌∙◌, arith, ℕ, true≢false, append-nil, ⊤, Result, Master, Unfinished, IsUnfinished, Entry, left_open, owed, End, LogStore, rules, PageStore, Content, Represents, MayGrow, blocks_to, undo_one_works, undo_one_work, AreClrsOf, Compensates, UndoesWork, IsAt, ends, State, Geometry, Stop}
 use Rattle.redo_undo.proofs.UndoCalls.{undoes_answered, undoes_as, undoes_beside, undoes_failed, undoes_few, undoes_stopped, undoes_then}
-use Rattle.std.specs.Prelude.{⊤, Option, Result}
-use Rattle.std.proofs.Common.{List, Ok, Err, ◌≡◌, ◌+◌, ◌-◌, ◌^◌, ◌≤◌, ◌++◌, ◌∷◌, [], length, refl, sym, ap, subst, ◌∙◌, arith, ℕ, true≢false, append-nil}
-use Rattle.site.specs.declared.geometry.Geometry.{Geometry}
-use Rattle.log_records.specs.declared.log_record.LogRecord.TheVariants.{End}
-use Rattle.log_records.specs.Unfinished.{left_open, owed}
-use Rattle.redo_laws.specs.Holding.{Represents, MayGrow, blocks_to}
-use Rattle.checkpoint.specs.declared.master.Master.{Master}
-use Rattle.record_model.specs.State.{Content}
-use Rattle.log_records.specs.Log.{Entry}
-use Rattle.log_laws.specs.Analysis.{Unfinished, IsUnfinished}
-use Rattle.site.specs.State.{State}
-use Rattle.site.specs.declared.outside.Stop.{Stop}
-use Rattle.redo_undo.specs.Rollback.{AreClrsOf, Compensates}
-use Rattle.redo_undo.specs.Undoing.{IsAt}
+use Rattle.std.specs.Prelude.{Option}
+use Rattle.std.proofs.Common.{Ok, Err}
 use Rattle.redo_undo.proofs.Rollbacks.{few_left, room_for_end, may_end, owes_all, rolls_back}
 use Rattle.redo_undo.proofs.UpTo.{all_done, does_all}
-use Rattle.page_store.specs.Caching.{rules}
-use Rattle.redo_laws.specs.MachineSteps.{undo_one_works}
 use Rattle.redo_undo.proofs.Calling.{works_answered, works_appended, works_foreign, works_stopped, works_then}
 use Rattle.redo_undo.proofs.undo.undo_one.Given.{Over}
 use Rattle.redo_undo.proofs.undo.undo_one.Goals.{In-Ok}
 use Rattle.redo_undo.proofs.undo.undo_one.Goals as goal
-use Rattle.log_store.specs.declared.store.LogStore.{LogStore}
-use Rattle.redo_undo.specs.Mirroring.{undo_one_work}
-use Rattle.ring_machine.specs.Commands.{ends}
 
 -- All of them are undone.
 

@@ -1,13 +1,5 @@
-use Rattle.std.proofs.Common.{[], ◌∷◌, ◌≤◌, ◌<◌, refl, subst, arith}
-use Rattle.std.proofs.lemmas.Result.{IfOk-weaker}
-use Rattle.log_store.specs.Representation.{end_of}
-use Rattle.redo_laws.specs.Holding.{blocks_to}
+use Rattle.redo_undo.proofs.Names.{[], ◌∷◌, ◌≤◌, ◌<◌, refl, subst, arith, IfOk-weaker, clr_is_read, end_of, going_still, blocks_to, works_of, IsStepOf, clr_work}
 use Rattle.redo_undo.proofs.UndoSoFar.{logged_blocks}
-use Rattle.log_laws.proofs.UndoingSteps.{clr_is_read}
-use Rattle.redo_laws.specs.UndoWorks.{works_of}
-use Rattle.redo_laws.proofs.CallsInSequence.{going_still}
-use Rattle.ring_machine.specs.Restart.{clr_work}
-use Rattle.redo_undo.specs.Undoing.{IsStepOf}
 use Rattle.redo_undo.proofs.Calling.{held_read, works_answered, works_read, works_then}
 use Rattle.redo_undo.proofs.Compensations.{is_a_clr, is_an_update, no_update}
 use Rattle.redo_undo.proofs.UndoCalls.{undoes_answered, undoes_nothing, undoes_read, undoes_unread}

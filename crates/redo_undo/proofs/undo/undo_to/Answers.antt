@@ -1,16 +1,5 @@
-use Rattle.std.proofs.Common.{◌≡◌, ◌+◌, ◌-◌, min, take, List, length, sym, subst, arith, ℕ}
-use Rattle.std.specs.Prelude.{Option, Result}
-use Rattle.site.specs.declared.outside.Stop.{Stop}
-use Rattle.record_model.specs.State.{Content}
-use Rattle.log_records.specs.Log.{Entry}
-use Rattle.log_records.specs.Unfinished.{left_open}
-use Rattle.log_laws.specs.Analysis.{Unfinished}
-use Rattle.checkpoint.specs.declared.master.Master.{Master}
-use Rattle.redo_laws.specs.UndoWorks.{works_of}
-use Rattle.redo_undo.specs.Mirroring.{clrs_for}
-use Rattle.redo_undo.specs.Rollback.{UndoesLast}
-use Rattle.redo_undo.specs.UndoCalls.{UndoesWork}
-use Rattle.redo_undo.specs.Undoing.{IsAt}
+use Rattle.redo_undo.proofs.Names.{◌≡◌, ◌+◌, ◌-◌, min, take, List, length, sym, subst, arith, ℕ, Result, Master, Unfinished, Entry, left_open, Content, works_of, clrs_for, UndoesLast, UndoesWork, IsAt, Stop}
+use Rattle.std.specs.Prelude.{Option}
 use Rattle.redo_undo.proofs.Calling.{works_answered}
 use Rattle.redo_undo.proofs.UndoCalls.{undoes_answered, undoes_failed, undoes_few}
 use Rattle.redo_undo.proofs.UpTo.{undoes_last}

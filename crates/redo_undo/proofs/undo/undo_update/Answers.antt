@@ -1,10 +1,4 @@
-use Rattle.std.proofs.Common.{[], ◌∷◌, ◌≤◌, ◌<◌, subst, arith}
-use Rattle.std.proofs.lemmas.Result.{IfOk-weaker}
-use Rattle.log_store.specs.Representation.{end_of}
-use Rattle.redo_laws.specs.UndoWorks.{works_of}
-use Rattle.redo_laws.proofs.CallsInSequence.{going_still}
-use Rattle.ring_machine.specs.Restart.{clr_work}
-use Rattle.redo_undo.specs.Undoing.{IsStepOf}
+use Rattle.redo_undo.proofs.Names.{[], ◌∷◌, ◌≤◌, ◌<◌, subst, arith, IfOk-weaker, end_of, going_still, works_of, IsStepOf, clr_work}
 use Rattle.redo_undo.proofs.Calling.{held_read, works_read, works_then}
 use Rattle.redo_undo.proofs.Compensations.{is_a_clr, no_update}
 use Rattle.redo_undo.proofs.UndoCalls.{undoes_read, undoes_unread}

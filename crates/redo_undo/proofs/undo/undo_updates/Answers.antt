@@ -1,21 +1,5 @@
-use Rattle.std.proofs.Common.{◌≡◌, ◌⊎◌, ◌+◌, ◌-◌, ◌≤◌, min, take, suc, subst, inl, inr, ⊎_elim, ◌||◌, ℕ, true, true≢false, List, ◌∷◌, ◌++◌, length, Option, append-nil, refl, sym, ap, ◌∙◌, arith}
-use Rattle.std.proofs.lemmas.List.Elements.{filter_map-append}
 use Rattle.std.proofs.lemmas.Grind.{flat_map-append}
-use Rattle.log_records.specs.declared.log_record.LogRecord.{LogRecord}
-use Rattle.log_records.specs.declared.log_record.LogRecord.TheVariants.{Begin, Update, Clr, Commit, End}
-use Rattle.log_laws.proofs.UndoingSteps.{first_read}
-use Rattle.ring_machine.specs.Restart.{clr_work}
-use Rattle.log_records.specs.Restart.{undo_touch}
-use Rattle.record_model.specs.State.{Content}
-use Rattle.log_records.specs.Log.{Entry, is_update, updates_in}
-use Rattle.log_records.specs.Unfinished.{is_clr, left_open}
-use Rattle.log_laws.specs.Analysis.{Unfinished, IsUnfinished}
-use Rattle.checkpoint.specs.declared.master.Master.{Master}
-use Rattle.redo_laws.specs.Holding.{Represents, blocks_to}
-use Rattle.redo_laws.specs.UndoWorks.{works_of}
-use Rattle.redo_laws.proofs.AskingUndo.{works_are}
-use Rattle.redo_undo.specs.Mirroring.{clrs_for}
-use Rattle.redo_undo.specs.Undoing.{IsAt}
+use Rattle.redo_undo.proofs.Names.{◌≡◌, ◌⊎◌, ◌+◌, ◌-◌, ◌≤◌, min, take, suc, subst, inl, inr, ⊎_elim, ◌||◌, ℕ, true, true≢false, List, ◌∷◌, ◌++◌, length, Option, append-nil, refl, sym, ap, ◌∙◌, arith, filter_map-append, Master, first_read, Unfinished, IsUnfinished, Entry, is_update, updates_in, undo_touch, is_clr, left_open, LogRecord, Begin, Update, Clr, Commit, End, Content, works_are, Represents, blocks_to, works_of, clrs_for, IsAt, clr_work}
 use Rattle.redo_undo.proofs.Calling.{works_answered, works_nothing, works_then}
 use Rattle.redo_undo.proofs.Rollbacks.{remains, none_remains}
 use Rattle.redo_undo.proofs.UndoCalls.{undoes_as, undoes_few, undoes_stopped, undoes_then}

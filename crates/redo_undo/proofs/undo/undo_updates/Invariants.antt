@@ -1,13 +1,4 @@
-use Rattle.std.proofs.Common.{◌<◌, ◌≤◌, ◌+◌, ℕ, List, length, Option}
-use Rattle.record_model.specs.State.{Content}
-use Rattle.log_records.specs.Log.{Entry}
-use Rattle.log_laws.specs.Analysis.{Unfinished, IsUnfinished}
-use Rattle.log_store.specs.Representation.{end_of}
-use Rattle.checkpoint.specs.declared.master.Master.{Master}
-use Rattle.redo_laws.specs.Holding.{Represents, blocks_to}
-use Rattle.redo_laws.specs.Calls.{KeepsInvariant}
-use Rattle.std.specs.Prelude.{Ok}
-use Rattle.redo_undo.specs.Undoing.{IsAt}
+use Rattle.redo_undo.proofs.Names.{◌<◌, ◌≤◌, ◌+◌, ℕ, List, length, Option, Ok, Master, Unfinished, IsUnfinished, Entry, end_of, Content, KeepsInvariant, Represents, blocks_to, IsAt}
 use Rattle.redo_undo.proofs.UndoSoFar.{UndoesSoFar}
 use Rattle.redo_undo.proofs.undo.undo_updates.Given as goal
 

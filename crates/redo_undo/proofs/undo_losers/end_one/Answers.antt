@@ -1,13 +1,8 @@
+use Rattle.redo_undo.proofs.Names.{length, true≢false, refl, sym, ap, ◌∙◌, arith, [], listed, Unfinished, top_lsn, left_open, Geometry}
 use Rattle.redo_undo.proofs.UndoCalls.{undoes_beside}
-use Rattle.std.proofs.Common.{length, true≢false, refl, sym, ap, ◌∙◌, arith, []}
-use Rattle.site.specs.declared.geometry.Geometry.{Geometry}
-use Rattle.log_laws.specs.Analysis.{Unfinished}
-use Rattle.log_laws.specs.UndoLaws.{top_lsn}
 use Rattle.redo_undo.proofs.Found.{unfinished_of, room_to_end, end_may, owes_end}
-use Rattle.log_records.specs.Unfinished.{left_open}
 use Rattle.redo_undo.proofs.LeftUpdates.{none_of}
 use Rattle.redo_undo.proofs.Opens.{left_same}
-use Rattle.analysis.specs.Table.{listed}
 use Rattle.redo_undo.proofs.UndoneUpdates.{end_updates}
 use Rattle.redo_undo.proofs.undo_losers.end_one.Goals as goal
 

@@ -1,16 +1,11 @@
+use Rattle.redo_undo.proofs.Names.{drop, get_or, ◌∷◌, sym, subst, [], refl, ◌∙◌, arith, suc, ◌≡◌, ◌+◌, ℕ, List, ◌++◌, replicate, length, ◌-◌, ap, drop_more, drop_all, listed, none_remains, ends_for, ends, RingOp, logged, no_error}
 use Rattle.redo_undo.proofs.UndoCalls.{undoes_nothing, undoes_few, undoes_as, undoes_answered, undoes_then, undoes_stopped, undoes_lacks}
-use Rattle.std.proofs.Common.{drop, get_or, ◌∷◌, sym, subst, [], refl, ◌∙◌, arith, suc, ◌≡◌, ◌+◌, ℕ, List, ◌++◌, replicate, filter, length, ◌-◌, ap}
+use Rattle.std.proofs.Common.{filter}
 use Rattle.redo_undo.proofs.UndoneUpdates.{no_updates, more_updates}
 use Rattle.redo_undo.proofs.Opens.{some_owed, Waits, waits_all, first_waits, waits_on, none_waits}
-use Rattle.std.proofs.lemmas.List.{drop_more, drop_all}
-use Rattle.analysis.specs.Table.{listed}
 use Rattle.redo_undo.proofs.Calling.{beside_answered, beside_lacks, beside_nothing, beside_then, works_beside}
-use Rattle.redo_undo.proofs.undo_losers.end_undone.Goals as goal
-use Rattle.site.proofs.Working.{no_error}
-use Rattle.ring_machine.specs.Machine.{RingOp, logged}
-use Rattle.ring_machine.specs.Commands.{ends}
-use Rattle.redo_undo.specs.Mirroring.{none_remains, ends_for}
 use Rattle.redo_undo.proofs.UndoneWork.{one_end, more_ends, takes_one, some_none, no_ends}
+use Rattle.redo_undo.proofs.undo_losers.end_undone.Goals as goal
 
 pub loop-txn-init : goal.loop-txn-init
 loop-txn-init g c = record {

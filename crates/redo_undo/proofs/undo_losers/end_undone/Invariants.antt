@@ -1,19 +1,7 @@
-use Rattle.std.proofs.Common.{◌≡◌, ◌+◌, ◌-◌, ◌≤◌, ◌<◌, ℕ, List, [], Option, drop}
-use Rattle.record_model.specs.State.{Content}
-use Rattle.log_records.specs.Log.{Entry}
-use Rattle.log_store.specs.Representation.{end_of}
-use Rattle.page_store.specs.declared.store.PageStore.{PageStore}
-use Rattle.checkpoint.specs.declared.master.Master.{Master}
-use Rattle.analysis.specs.Open.{LeavesSame, owed_for}
+use Rattle.redo_undo.proofs.Names.{◌≡◌, ◌+◌, ◌-◌, ◌≤◌, ◌<◌, ℕ, List, [], Option, drop, Ok, LeavesSame, owed_for, listed, Master, Entry, end_of, PageStore, Content, KeepsInvariantBeside, Invariant, blocks_to, UndoesUpdates, IsUndoing}
 use Rattle.redo_undo.proofs.Opens.{Waits}
-use Rattle.analysis.specs.Table.{listed}
-use Rattle.analysis.specs.Read as analysis
-use Rattle.redo_laws.specs.Holding.{Invariant, blocks_to}
-use Rattle.redo_laws.specs.UndoingAll.{IsUndoing}
-use Rattle.redo_laws.specs.UndoWorks.{UndoesUpdates}
 use Rattle.redo_undo.proofs.UndoneWork.{EndsMade}
-use Rattle.redo_laws.specs.Calls.{KeepsInvariantBeside}
-use Rattle.std.specs.Prelude.{Ok}
+use Rattle.analysis.specs.Read as analysis
 use Rattle.redo_undo.proofs.undo_losers.end_undone.Given as goal
 
 abbrev pub invariant-loop-txn : goal.invariant-loop-txn

@@ -1,31 +1,15 @@
-use Rattle.analysis.specs.Open.{owed_for}
+use Rattle.redo_undo.proofs.Names.{inl, inr, true, false, ℕ, List, ◌≡◌, ◌++◌, ◌+◌, [], ◌∙◌, arith, ◌*◌, ◌-◌, refl, reverse, ap, AllByRecursion, option_map, owed_for, IsTable, listed, Master, kept_by, Entry, txn_of, last_where, pending, has_tail, Content, Represents, undo_works, IsUndoing, ends_for, undo_work, undoing_work, no_error, Log}
 use Rattle.redo_undo.proofs.UndoCalls.{undoes_few, undoes_as, undoes_stopped, undoes_answered, undoes_lacks}
-use Rattle.std.proofs.Common.{inl, inr, Err, true, false, ℕ, List, ◌≡◌, ◌++◌, ◌+◌, [], ◌∙◌, arith, ◌*◌, ◌-◌, refl, reverse, ap}
-use Rattle.std.specs.Prelude.{Option, option_map}
-use Rattle.site.proofs.Working.{no_error}
-use Rattle.std.specs.List.{AllByRecursion}
-use Rattle.analysis.specs.Table.{listed}
+use Rattle.std.proofs.Common.{Err}
+use Rattle.std.specs.Prelude.{Option}
 use Rattle.redo_undo.proofs.Opens.{none_listed, if_none, some_owed, order_same}
-use Rattle.image_meaning.specs.Meaning.{kept_by}
 use Rattle.redo_undo.proofs.Found.{order, all_undone, sealed_up_to, own_known}
-use Rattle.site.specs.declared.outside.Dev.TheVariants.{Log}
-use Rattle.redo_laws.specs.MachineSteps.{undo_works}
-use Rattle.checkpoint.specs.declared.master.Master.{Master}
-use Rattle.record_model.specs.State.{Content}
-use Rattle.log_records.specs.Log.{Entry, txn_of, last_where}
-use Rattle.log_records.specs.Unfinished.{pending}
-use Rattle.analysis.specs.Read.{IsTable}
-use Rattle.log_store.specs.Representation.{has_tail}
-use Rattle.redo_laws.specs.Holding.{Represents}
 use Rattle.redo_undo.proofs.UndoneUpdates.{UndoesSoFar, next_is_last, none_is_next, updates_undone, updates_undone_more, updates_undone_stopped}
-use Rattle.redo_laws.specs.UndoingAll.{IsUndoing}
 use Rattle.redo_undo.proofs.Calling.{works_answered, works_lacks, works_beside, works_stopped, works_then}
 use Rattle.redo_undo.proofs.undo_losers.undo_all.Given.{Over}
 use Rattle.redo_undo.proofs.undo_losers.undo_all.Goals.{After-end_undone, After-take_last}
-use Rattle.redo_undo.proofs.undo_losers.undo_all.Goals as goal
-use Rattle.ring_machine.specs.Restart.{undo_work, undoing_work}
-use Rattle.redo_undo.specs.Mirroring.{ends_for}
 use Rattle.redo_undo.proofs.UndoneWork.{ended_first}
+use Rattle.redo_undo.proofs.undo_losers.undo_all.Goals as goal
 
 module _ (g : Over) (c : After-end_undone g) (newest : Option Master) (records : List Entry) (table : List Content) (commits : ℕ)
     (none : has_tail c.args.log.now ≡ false)

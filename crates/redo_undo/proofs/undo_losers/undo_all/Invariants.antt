@@ -1,18 +1,6 @@
-use Rattle.std.proofs.Common.{◌≡◌, ◌+◌, ◌-◌, ◌≤◌, ◌<◌, ℕ, List, false, Option, []}
-use Rattle.record_model.specs.State.{Content}
-use Rattle.log_records.specs.Log.{Entry}
-use Rattle.log_store.specs.Representation.{end_of, has_tail}
-use Rattle.checkpoint.specs.declared.master.Master.{Master}
-use Rattle.analysis.specs.Open.{owed_for}
-use Rattle.analysis.specs.Order.{IsOrder}
-use Rattle.analysis.specs.Table.{listed}
-use Rattle.analysis.specs.Read as analysis
-use Rattle.redo_laws.specs.Holding.{Represents, blocks_to}
-use Rattle.redo_laws.specs.UndoingAll.{Remain}
+use Rattle.redo_undo.proofs.Names.{◌≡◌, ◌+◌, ◌-◌, ◌≤◌, ◌<◌, ℕ, List, false, Option, [], Ok, owed_for, IsOrder, IsTable, listed, Master, Entry, end_of, has_tail, Content, KeepsInvariant, Represents, blocks_to, Remain}
 use Rattle.redo_undo.proofs.UndoneUpdates.{UndoesSoFar}
-use Rattle.analysis.specs.Read.{IsTable}
-use Rattle.redo_laws.specs.Calls.{KeepsInvariant}
-use Rattle.std.specs.Prelude.{Ok}
+use Rattle.analysis.specs.Read as analysis
 use Rattle.redo_undo.proofs.undo_losers.undo_all.Given as goal
 
 abbrev pub invariant-loop-next : goal.invariant-loop-next

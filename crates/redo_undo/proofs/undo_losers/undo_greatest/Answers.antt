@@ -1,17 +1,8 @@
-use Rattle.redo_laws.specs.UndoingAll.{IsUndoing}
-use Rattle.record_model.specs.State.{Content}
-use Rattle.log_records.specs.Unfinished.{left_open}
-use Rattle.log_records.specs.Log.{Entry, is_update, updates_in}
-use Rattle.log_laws.proofs.UndoingSteps.{update_is_last}
-use Rattle.checkpoint.specs.declared.master.Master.{Master}
+use Rattle.redo_undo.proofs.Names.{◌*◌, refl, sym, ap, ◌∙◌, true, [], ◌∷◌, ℕ, List, Option, ◌≡◌, Master, kept_by, update_is_last, Unfinished, IsUnfinished, Entry, is_update, updates_in, left_open, Content, IsLastAt, IsUndoing}
 use Rattle.redo_undo.proofs.undo_losers.undo_greatest.Goals.{After-undo_update}
 use Rattle.redo_undo.proofs.undo_losers.undo_greatest.Given.{Over}
 use Rattle.redo_undo.proofs.UndoCalls.{undoes_answered, undoes_failed}
-use Rattle.std.proofs.Common.{◌*◌, refl, sym, ap, ◌∙◌, true, [], ◌∷◌, ℕ, List, Option, ◌≡◌}
-use Rattle.log_laws.specs.Analysis.{Unfinished, IsUnfinished}
-use Rattle.image_meaning.specs.Meaning.{kept_by}
 use Rattle.redo_undo.proofs.Found.{order, unfinished_loser, each_remains}
-use Rattle.redo_laws.specs.UndoWorks.{IsLastAt}
 use Rattle.redo_undo.proofs.UndoneUpdates.{last_is_left, clr_updates}
 use Rattle.redo_undo.proofs.undo_losers.undo_greatest.Goals as goal
 

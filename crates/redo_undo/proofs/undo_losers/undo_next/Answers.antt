@@ -1,33 +1,13 @@
-use Rattle.std.proofs.lemmas.Option.{none-some}
+use Rattle.redo_undo.proofs.Names.{◌≢◌, ◌++◌, [], ◌∷◌, refl, drop, sym, subst, arith, ℕ, append-nil, List, ◌≡◌, ◌∙◌, ap, not, reverse, length, nat_eq, Option, Some, none-some, list_any, option_map, IsErrOf, if◌then◌else◌, Open, Replaces, TakesOut, LeavesSame, DropsOne, Remains, owed_for, found_in, loser_of, listed, Master, Entry, txn_of, is_of, pending, Content, if_ok_one, not_worn_either, works_of, IsLastAt, UndoesUpdates, Remain, HasNone, IsUndoing, none_remains, ends, err_as, of_error, ok_as, Flash, Log, Worn}
 use Rattle.redo_undo.proofs.UndoCalls.{undoes_few, undoes_as, undoes_then, undoes_stopped, few_taken}
-use Rattle.std.proofs.Common.{◌≢◌, ◌++◌, [], ◌∷◌, refl, drop, sym, subst, arith, ℕ, append-nil, List, ◌≡◌, ◌∙◌, ap, not, reverse, length, nat_eq, Option, Some}
-use Rattle.analysis.specs.Open.{Open, Replaces, TakesOut, LeavesSame, DropsOne, Remains, owed_for, found_in}
-use Rattle.analysis.specs.Table.{listed}
-use Rattle.redo_laws.specs.UndoingAll.{Remain, HasNone, IsUndoing}
-use Rattle.redo_laws.proofs.Appended.{if_ok_one}
 use Rattle.redo_undo.proofs.Opens.{still_remain, none_remains_of, others_remain, some_owed, left_then, of_found, drops_one, drops_as}
-use Rattle.std.specs.Prelude.{option_map}
-use Rattle.analysis.specs.Read.{loser_of}
 use Rattle.redo_undo.proofs.Found.{last_known}
-use Rattle.site.specs.declared.outside.Dev.TheVariants.{Flash, Log}
-use Rattle.site.specs.declared.outside.Stop.TheVariants.{Worn}
-use Rattle.redo_laws.specs.UndoWorks.{works_of, IsLastAt, UndoesUpdates}
-use Rattle.redo_laws.proofs.AskingUndo.{not_worn_either}
 use Rattle.redo_undo.proofs.UndoneUpdates.{more_updates}
 use Rattle.redo_undo.proofs.Calling.{ends_stop, works_beside, works_then}
-use Rattle.std.specs.Prelude.{IsErrOf, if◌then◌else◌}
-use Rattle.site.proofs.Working.{err_as, of_error, ok_as}
-use Rattle.redo_undo.proofs.undo_losers.undo_next.Goals as goal
-use Rattle.std.specs.List.{list_any}
-use Rattle.redo_undo.specs.Mirroring.{none_remains}
-use Rattle.record_model.specs.State.{Content}
-use Rattle.log_records.specs.Log.{Entry, txn_of, is_of}
-use Rattle.log_records.specs.Unfinished.{pending}
-use Rattle.checkpoint.specs.declared.master.Master.{Master}
-use Rattle.ring_machine.specs.Commands.{ends}
 use Rattle.redo_undo.proofs.UndoneWork.{without_end, with_end, waits_where}
 use Rattle.redo_undo.proofs.undo_losers.undo_next.Given.{Over}
 use Rattle.redo_undo.proofs.undo_losers.undo_next.Goals.{In-Ok}
+use Rattle.redo_undo.proofs.undo_losers.undo_next.Goals as goal
 
 pub undo_greatest-requires-clause-there : goal.undo_greatest-requires-clause-there
 undo_greatest-requires-clause-there g c = (of_found (listed c.args.found.now.table) c.args.next.0 c.in-Some.loser c.in-Some.ensures.loser).0

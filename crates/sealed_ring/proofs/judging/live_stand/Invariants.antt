@@ -1,8 +1,4 @@
-use Rattle.std.proofs.Common.{ℕ, ◌-◌, ◌<◌, length, IsTrue}
-use Rattle.std.specs.Prelude.{Ok}
-use Rattle.sealed_ring.specs.Ring.{FitsIn, IsLive}
-use Rattle.sealed_ring.specs.Ready.{region}
-use Rattle.sealed_ring.specs.Reading.{ReadsFrom}
+use Rattle.sealed_ring.proofs.Names.{ℕ, ◌-◌, ◌<◌, length, IsTrue, Ok, ReadsFrom, region, FitsIn, IsLive}
 use Rattle.sealed_ring.specs.Judged.{StandsIn}
 use Rattle.sealed_ring.proofs.judging.live_stand.Given as goal
 

@@ -1,8 +1,5 @@
-use Rattle.std.proofs.Common.{◌≢◌, ◌+◌, ◌-◌, ◌%◌, ℕ, ◌≤◌, ◌<◌, length, IsTrue}
-use Rattle.std.specs.Prelude.{Ok}
-use Rattle.sealed_ring.specs.Ring.{FitsIn, number}
-use Rattle.sealed_ring.specs.Ready.{region}
-use Rattle.sealed_ring.specs.Reading.{ReadsFrom}
+use Rattle.sealed_ring.proofs.Names.{◌≢◌, ◌+◌, ◌-◌, ◌%◌, ℕ, ◌≤◌, ◌<◌, length, IsTrue, Ok, ReadsFrom, region, FitsIn}
+use Rattle.sealed_ring.specs.Ring.{number}
 use Rattle.sealed_ring.proofs.judging.unused_are_bare.Given as goal
 
 abbrev pub invariant-loop-slot : goal.invariant-loop-slot

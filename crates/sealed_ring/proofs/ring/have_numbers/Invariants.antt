@@ -1,4 +1,4 @@
-use Rattle.sealed_ring.specs.Row.{HaveNumbers}
+use Rattle.sealed_ring.proofs.Names.{HaveNumbers}
 use Rattle.sealed_ring.proofs.ring.have_numbers.Given as goal
 
 abbrev pub invariant-loop-place : goal.invariant-loop-place

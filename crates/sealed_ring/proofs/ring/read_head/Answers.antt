@@ -1,6 +1,4 @@
-use Rattle.std.proofs.Common.{◌≡◌, ◌∙◌, ℕ, length, take, drop, ap, arith}
-use Rattle.sealed_ring.specs.Ring.{place}
-use Rattle.sealed_ring.specs.Ready.{region}
+use Rattle.sealed_ring.proofs.Names.{◌≡◌, ◌∙◌, ℕ, length, take, drop, ap, arith, region, place}
 use Rattle.sealed_ring.proofs.Heads.{number_read}
 use Rattle.sealed_ring.proofs.ring.read_head.Goals as goal
 

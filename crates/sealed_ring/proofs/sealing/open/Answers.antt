@@ -1,9 +1,4 @@
-use Rattle.std.proofs.Common.{arith}
-use Rattle.std_lemmas.proofs.Results.{on_ok}
-use Rattle.site.proofs.Working.{ok_as}
-use Rattle.site.proofs.Laws.{then_sync, stays_honest, one_call_more}
-use Rattle.sealed_ring.specs.Ring.{Opens}
-use Rattle.sealed_ring.specs.Ready.{region, LeavesEither}
+use Rattle.sealed_ring.proofs.Names.{arith, region, LeavesEither, Opens, then_sync, stays_honest, one_call_more, ok_as, on_ok}
 use Rattle.sealed_ring.proofs.Runs.{opening, opened, wrote_changes, synced_changes, changes_in_sequence}
 use Rattle.sealed_ring.proofs.sealing.open.Goals as goal
 

@@ -1,7 +1,4 @@
-use Rattle.std.proofs.Common.{arith, rules}
-use Rattle.site.proofs.Working.{ok_as}
-use Rattle.site.proofs.Laws.{stays_honest}
-use Rattle.sealed_ring.specs.Ready.{region}
+use Rattle.sealed_ring.proofs.Names.{arith, rules, region, stays_honest, ok_as}
 use Rattle.sealed_ring.proofs.Runs.{changes_in_sequence}
 use Rattle.sealed_ring.proofs.Sealed.{is_staged, stages_keeps}
 use Rattle.sealed_ring.proofs.Whole.{half, all_of_it}

@@ -1,11 +1,4 @@
-use Rattle.std.proofs.Common.{◌≡◌, ◌+◌, length, ◌∙◌, ap, arith, rules}
-use Rattle.std.proofs.lemmas.List.{length-append}
-use Rattle.std.specs.Int.{to_be_bytes, w64}
-use Rattle.std_lemmas.proofs.Results.{on_ok}
-use Rattle.site.proofs.Working.{ok_as}
-use Rattle.site.proofs.Laws.{then_sync, stays_honest, one_call_more}
-use Rattle.sealed_ring.specs.Ring.{Stages}
-use Rattle.sealed_ring.specs.Ready.{region, LeavesKept}
+use Rattle.sealed_ring.proofs.Names.{◌≡◌, ◌+◌, length, ◌∙◌, ap, arith, rules, length-append, to_be_bytes, w64, region, LeavesKept, Stages, then_sync, stays_honest, one_call_more, ok_as, on_ok}
 use Rattle.sealed_ring.proofs.Runs.{first, second, staged, wrote_changes, synced_changes, changes_in_sequence, synced_settles}
 use Rattle.sealed_ring.proofs.sealing.stage_by.Goals as goal
 

@@ -1,4 +1,4 @@
-use Rattle.second_chance.specs.Machine.{leaving}
+use Rattle.second_chance.proofs.Names.{leaving}
 use Rattle.second_chance.proofs.Pushes.{eviction_is_planned, flush_is_planned, staged_again}
 use Rattle.second_chance.proofs.laws.plans_are_pushes.Goals as goal
 

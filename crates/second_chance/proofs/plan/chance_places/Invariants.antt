@@ -1,4 +1,4 @@
-use Rattle.std.proofs.Common.{◌≡◌, ◌≤◌, length}
+use Rattle.second_chance.proofs.Names.{◌≡◌, ◌≤◌, length}
 use Rattle.second_chance.proofs.Chosen.{placed, is_chance}
 use Rattle.second_chance.proofs.plan.chance_places.Given as goal
 

@@ -1,4 +1,4 @@
-use Rattle.std.proofs.Common.{◌∙◌, sym, ap, length}
+use Rattle.second_chance.proofs.Names.{◌∙◌, sym, ap, length}
 use Rattle.second_chance.proofs.Chosen.{chosen_enough}
 use Rattle.second_chance.proofs.plan.changed_pages.Goals as goal
 

@@ -1,4 +1,4 @@
-use Rattle.std.proofs.Common.{◌≡◌, ◌≤◌, length}
+use Rattle.second_chance.proofs.Names.{◌≡◌, ◌≤◌, length}
 use Rattle.second_chance.proofs.Chosen.{chosen}
 use Rattle.second_chance.proofs.plan.changed_pages.Given as goal
 

@@ -1,4 +1,4 @@
-use Rattle.std.proofs.Common.{◌≡◌, ◌≤◌, length, ◌||◌, not}
+use Rattle.second_chance.proofs.Names.{◌≡◌, ◌≤◌, length, ◌||◌, not}
 use Rattle.second_chance.proofs.Chosen.{chosen}
 use Rattle.second_chance.proofs.plan.movable_pages.Given as goal
 

@@ -1,4 +1,4 @@
-use Rattle.std.proofs.Common.{refl, ap, ◌∙◌}
+use Rattle.second_chance.proofs.Names.{refl, ap, ◌∙◌}
 use Rattle.second_chance.proofs.Planned.{eviction_is, unwrapped}
 use Rattle.second_chance.proofs.plan.plan_evict_taking.Goals as goal
 

@@ -1,4 +1,4 @@
-use Rattle.std.proofs.Common.{refl, ap, ◌∙◌}
+use Rattle.second_chance.proofs.Names.{refl, ap, ◌∙◌}
 use Rattle.second_chance.proofs.Planned.{flush_is, unwrapped}
 use Rattle.second_chance.proofs.plan.plan_flush_taking.Goals as goal
 

@@ -1,4 +1,4 @@
-use Rattle.std.proofs.Common.{◌≡◌, ◌≤◌, length}
+use Rattle.second_chance.proofs.Names.{◌≡◌, ◌≤◌, length}
 use Rattle.second_chance.proofs.Chosen.{placed, is_staged}
 use Rattle.second_chance.proofs.plan.staged_places.Given as goal
 

@@ -1,4 +1,4 @@
-use Rattle.std.proofs.Common.{refl}
+use Rattle.second_chance.proofs.Names.{refl}
 use Rattle.second_chance.proofs.rows.rows_of_second_chances.Goals as goal
 
 pub returns-clause-evicted_page_is_pushed : goal.returns-clause-evicted_page_is_pushed

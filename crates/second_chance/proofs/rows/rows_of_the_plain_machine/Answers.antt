@@ -1,4 +1,4 @@
-use Rattle.std.proofs.Common.{refl}
+use Rattle.second_chance.proofs.Names.{refl}
 use Rattle.second_chance.proofs.rows.rows_of_the_plain_machine.Goals as goal
 
 pub returns-clause-read_page_leaves : goal.returns-clause-read_page_leaves

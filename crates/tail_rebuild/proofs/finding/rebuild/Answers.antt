@@ -1,14 +1,4 @@
-use Rattle.std.proofs.Common.{◌≡◌, map, sym, ◌∙◌, ap, subst, arith}
-use Rattle.std.proofs.lemmas.List.{length-map}
-use Rattle.site.proofs.Laws.{stays_honest}
-use Rattle.site.proofs.Working.{err_again}
-use Rattle.sealed_ring.specs.declared.slots.Shape.{Shape}
-use Rattle.sealed_ring.specs.Ring.{hi_of}
-use Rattle.sealed_ring.specs.Near.{IsNear}
-use Rattle.sealed_ring.specs.Ready.{region, Matches as RingFits}
-use Rattle.image_changes.specs.Rings.{group_shape}
-use Rattle.frame_group.specs.Groups.{heads_of}
-use Rattle.tail_rebuild.specs.Standing.{HasGroups, HasSaved}
+use Rattle.tail_rebuild.proofs.Names.{◌≡◌, map, sym, ◌∙◌, ap, subst, arith, length-map, heads_of, group_shape, IsNear, region, RingFits, hi_of, Shape, stays_honest, err_again, HasGroups, HasSaved}
 use Rattle.tail_rebuild.proofs.Lists.{front_whole}
 use Rattle.tail_rebuild.proofs.Saved.{near_segments}
 use Rattle.tail_rebuild.proofs.Standing.{fits_again, first_is}

@@ -1,9 +1,4 @@
-use Rattle.std.proofs.Common.{◌≡◌, ℕ, ◌+◌, ◌-◌, ◌*◌, max, List, length, take, drop, sym, subst, arith}
-use Rattle.byte_fields.specs.declared.frame_head.FrameHead.{FrameHead}
-use Rattle.meta_segments.specs.Segments.{heads_of_group, IsSegment}
-use Rattle.meta_segments.proofs.Whole.{one_segment}
-use Rattle.tail_rebuild.specs.Standing.{PagesExist}
-use Rattle.tail_rebuild.specs.Listing.{GoesOnWith}
+use Rattle.tail_rebuild.proofs.Names.{◌≡◌, ℕ, ◌+◌, ◌-◌, ◌*◌, max, List, length, take, drop, sym, subst, arith, FrameHead, one_segment, heads_of_group, IsSegment, GoesOnWith, PagesExist}
 use Rattle.tail_rebuild.proofs.listing.list_row.Goals as goal
 
 -- a segment in the part that a range of 512 takes

@@ -1,7 +1,4 @@
-use Rattle.std.proofs.Common.{◌≡◌, ℕ, ◌+◌, ◌*◌, max, List, length}
-use Rattle.std.specs.List.{All}
-use Rattle.byte_fields.specs.declared.frame_head.FrameHead.{FrameHead}
-use Rattle.tail_rebuild.specs.Listing.{AreHeadsIn, IsFront, HoldSegments, RowGoesOn}
+use Rattle.tail_rebuild.proofs.Names.{◌≡◌, ℕ, ◌+◌, ◌*◌, max, List, length, All, FrameHead, AreHeadsIn, IsFront, HoldSegments, RowGoesOn}
 use Rattle.tail_rebuild.proofs.listing.list_row.Given as goal
 
 abbrev pub invariant-loop-place : goal.invariant-loop-place

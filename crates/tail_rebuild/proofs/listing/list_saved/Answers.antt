@@ -1,11 +1,4 @@
-use Rattle.std.proofs.Common.{◌≡◌, ℕ, ◌+◌, ◌-◌, ◌<◌, List, [], ◌∷◌, ◌++◌, length, get_or, true≢false, sym, ◌∙◌, ap, subst, arith}
-use Rattle.std.specs.List.{All}
-use Rattle.std.proofs.lemmas.List.{length-append}
-use Rattle.std.proofs.lemmas.List.Elements.{All-push}
-use Rattle.byte_fields.specs.declared.frame_head.FrameHead.{FrameHead}
-use Rattle.meta_segments.specs.Segments.{heads_of_group}
-use Rattle.tail_rebuild.specs.Standing.{PagesExist}
-use Rattle.tail_rebuild.specs.Listing.{AreHeadsIn, IsFront}
+use Rattle.tail_rebuild.proofs.Names.{◌≡◌, ℕ, ◌+◌, ◌-◌, ◌<◌, List, [], ◌∷◌, ◌++◌, length, get_or, true≢false, sym, ◌∙◌, ap, subst, arith, length-append, All-push, All, FrameHead, heads_of_group, AreHeadsIn, IsFront, PagesExist}
 use Rattle.tail_rebuild.proofs.Lists.{front_more}
 use Rattle.tail_rebuild.proofs.listing.list_saved.Goals as goal
 

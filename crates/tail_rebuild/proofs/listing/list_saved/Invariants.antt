@@ -1,7 +1,4 @@
-use Rattle.std.proofs.Common.{◌≡◌, ◌+◌, ◌≤◌, List, length}
-use Rattle.std.specs.List.{All}
-use Rattle.byte_fields.specs.declared.frame_head.FrameHead.{FrameHead}
-use Rattle.tail_rebuild.specs.Listing.{AreHeadsIn, IsFront, GoesOnWith}
+use Rattle.tail_rebuild.proofs.Names.{◌≡◌, ◌+◌, ◌≤◌, List, length, All, FrameHead, AreHeadsIn, IsFront, GoesOnWith}
 use Rattle.tail_rebuild.proofs.listing.list_saved.Given as goal
 
 abbrev pub invariant-loop-group : goal.invariant-loop-group

@@ -1,9 +1,5 @@
-use Rattle.std.proofs.Common.{◌+◌, ◌-◌, ◌/◌, ◌≤◌, map, sym, subst, arith}
-use Rattle.site.proofs.Laws.{stays_honest}
-use Rattle.sealed_ring.specs.Ready.{Matches as RingFits}
-use Rattle.frame_group.specs.Groups.{heads_of}
+use Rattle.tail_rebuild.proofs.Names.{◌+◌, ◌-◌, ◌/◌, ◌≤◌, map, sym, subst, arith, heads_of, RingFits, stays_honest, HasSegments}
 use Rattle.meta_segments.specs.Following.{heads_with}
-use Rattle.tail_rebuild.specs.Standing.{HasSegments}
 use Rattle.tail_rebuild.proofs.Calling.{reads_then, reads_answered}
 use Rattle.tail_rebuild.proofs.Standing.{fits_again}
 use Rattle.tail_rebuild.proofs.Saved.{row_goes_on, row_exists}

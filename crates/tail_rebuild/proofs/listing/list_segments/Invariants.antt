@@ -1,11 +1,4 @@
-use Rattle.std.proofs.Common.{◌≡◌, ℕ, ◌+◌, ◌-◌, ◌*◌, ◌/◌, ◌≤◌, max, List, length, map, IsTrue}
-use Rattle.std.specs.List.{All}
-use Rattle.std.specs.Prelude.{Ok}
-use Rattle.sealed_ring.specs.Ready.{Matches as RingFits}
-use Rattle.byte_fields.specs.declared.frame_head.FrameHead.{FrameHead}
-use Rattle.frame_group.specs.Groups.{Frame, heads_of}
-use Rattle.tail_rebuild.specs.Standing.{HasGroups, HasSaved}
-use Rattle.tail_rebuild.specs.Listing.{AreHeadsIn, IsFront, ReadsFlash}
+use Rattle.tail_rebuild.proofs.Names.{◌≡◌, ℕ, ◌+◌, ◌-◌, ◌*◌, ◌/◌, ◌≤◌, max, List, length, map, IsTrue, All, Ok, FrameHead, Frame, heads_of, RingFits, AreHeadsIn, IsFront, ReadsFlash, HasGroups, HasSaved}
 use Rattle.tail_rebuild.proofs.listing.list_segments.Given as goal
 
 abbrev pub invariant-loop-segment : goal.invariant-loop-segment

@@ -1,17 +1,4 @@
-use Rattle.std.proofs.Common.{◌≡◌, ℕ, ◌+◌, ◌-◌, ◌<◌, List, [], ◌∷◌, ◌++◌, length, get_or, map, sym, ◌∙◌, ap, subst, arith}
-use Rattle.std.specs.List.{All}
-use Rattle.std.proofs.lemmas.List.{length-append, length-map}
-use Rattle.std.proofs.lemmas.List.Elements.{All-push}
-use Rattle.site.proofs.Laws.{stays_honest}
-use Rattle.site.proofs.Working.{err_again}
-use Rattle.sealed_ring.specs.declared.slots.Shape.{Shape}
-use Rattle.sealed_ring.specs.Ring.{hi_of}
-use Rattle.sealed_ring.specs.Ready.{region, Matches as RingFits}
-use Rattle.byte_fields.specs.declared.frame_head.FrameHead.{FrameHead}
-use Rattle.image_changes.specs.Rings.{group_shape}
-use Rattle.frame_group.specs.Groups.{heads_of}
-use Rattle.tail_rebuild.specs.Standing.{HasGroups}
-use Rattle.tail_rebuild.specs.Listing.{AreHeadsIn, IsFront}
+use Rattle.tail_rebuild.proofs.Names.{◌≡◌, ℕ, ◌+◌, ◌-◌, ◌<◌, List, [], ◌∷◌, ◌++◌, length, get_or, map, sym, ◌∙◌, ap, subst, arith, length-append, length-map, All-push, All, FrameHead, heads_of, group_shape, region, RingFits, hi_of, Shape, stays_honest, err_again, AreHeadsIn, IsFront, HasGroups}
 use Rattle.tail_rebuild.proofs.Calling.{reads_then, reads_answered}
 use Rattle.tail_rebuild.proofs.Lists.{front_more}
 use Rattle.tail_rebuild.proofs.Standing.{fits_again, first_is}

@@ -1,10 +1,4 @@
-use Rattle.std.proofs.Common.{◌≡◌, ℕ, ◌+◌, ◌-◌, ◌≤◌, List, length, map, IsTrue}
-use Rattle.std.specs.List.{All}
-use Rattle.std.specs.Prelude.{Ok}
-use Rattle.sealed_ring.specs.Ready.{Matches as RingFits}
-use Rattle.frame_group.specs.Groups.{Frame, heads_of}
-use Rattle.tail_rebuild.specs.Standing.{HasGroups}
-use Rattle.tail_rebuild.specs.Listing.{AreHeadsIn, IsFront, ReadsFlash}
+use Rattle.tail_rebuild.proofs.Names.{◌≡◌, ℕ, ◌+◌, ◌-◌, ◌≤◌, List, length, map, IsTrue, All, Ok, Frame, heads_of, RingFits, AreHeadsIn, IsFront, ReadsFlash, HasGroups}
 use Rattle.tail_rebuild.proofs.listing.list_tail.Given as goal
 
 abbrev pub invariant-loop-group : goal.invariant-loop-group

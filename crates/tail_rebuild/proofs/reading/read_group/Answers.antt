@@ -1,6 +1,4 @@
-use Rattle.std.proofs.Common.{◌-◌, List, sym, ◌∙◌, true≢false, subst}
-use Rattle.byte_fields.specs.declared.frame_head.FrameHead.{FrameHead}
-use Rattle.tail_rebuild.specs.Standing.{PagesExist}
+use Rattle.tail_rebuild.proofs.Names.{◌-◌, List, sym, ◌∙◌, true≢false, subst, FrameHead, PagesExist}
 use Rattle.tail_rebuild.proofs.Standing.{group_read, heads_are, place_of, heads_at_exist}
 use Rattle.tail_rebuild.proofs.reading.read_group.Goals as goal
 

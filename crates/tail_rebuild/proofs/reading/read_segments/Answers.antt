@@ -1,4 +1,4 @@
-use Rattle.std.proofs.Common.{arith}
+use Rattle.tail_rebuild.proofs.Names.{arith}
 use Rattle.tail_rebuild.proofs.Calling.{ok_both}
 use Rattle.tail_rebuild.proofs.Saved.{hold_segments}
 use Rattle.tail_rebuild.proofs.reading.read_segments.Goals as goal

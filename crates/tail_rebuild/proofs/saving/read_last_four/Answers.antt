@@ -1,18 +1,4 @@
-use Rattle.std.proofs.Common.{◌≡◌, inl, inr, ℕ, ◌+◌, ◌-◌, ◌*◌, ◌<◌, ◌≤◌, List, [], ◌++◌, length, get_or, map, take, drop, add-one, sym, ◌∙◌, ap, subst, arith}
-use Rattle.std.specs.List.{flat_map}
-use Rattle.std.proofs.lemmas.Bool.{cases_eq}
-use Rattle.std.proofs.lemmas.List.{take_all, length-drop, get_or-drop, get_or-map}
-use Rattle.site.proofs.Laws.{stays_honest}
-use Rattle.site.proofs.Working.{err_again}
-use Rattle.sealed_ring.specs.declared.slots.Shape.{Shape}
-use Rattle.sealed_ring.specs.Ring.{hi_of}
-use Rattle.sealed_ring.specs.Ready.{region}
-use Rattle.byte_fields.specs.declared.frame_head.FrameHead.{FrameHead}
-use Rattle.byte_fields.specs.FrameHeads.{AreGroupHeads}
-use Rattle.image_changes.specs.Rings.{group_shape}
-use Rattle.frame_group.specs.Groups.{heads_of}
-use Rattle.meta_segments.specs.Segments.{heads_of_group}
-use Rattle.tail_rebuild.specs.Standing.{HasGroups}
+use Rattle.tail_rebuild.proofs.Names.{◌≡◌, inl, inr, ℕ, ◌+◌, ◌-◌, ◌*◌, ◌<◌, ◌≤◌, List, [], ◌++◌, length, get_or, map, take, drop, add-one, sym, ◌∙◌, ap, subst, arith, cases_eq, take_all, length-drop, get_or-drop, get_or-map, flat_map, AreGroupHeads, FrameHead, heads_of, group_shape, heads_of_group, region, hi_of, Shape, stays_honest, err_again, HasGroups}
 use Rattle.tail_rebuild.proofs.Calling.{reads_then, reads_answered}
 use Rattle.tail_rebuild.proofs.Fours.{put_own, put_before, put_front, flat_more}
 use Rattle.tail_rebuild.proofs.Standing.{fits_again, first_is, count}

@@ -1,12 +1,4 @@
-use Rattle.std.proofs.Common.{◌≡◌, ℕ, ◌-◌, ◌*◌, ◌<◌, ◌≤◌, List, length, take, drop, IsTrue}
-use Rattle.std.specs.Prelude.{Ok}
-use Rattle.std.specs.List.{flat_map}
-use Rattle.sealed_ring.specs.Ready.{Matches as RingFits}
-use Rattle.byte_fields.specs.FrameHeads.{AreGroupHeads}
-use Rattle.frame_group.specs.Groups.{Frame, heads_of}
-use Rattle.meta_segments.specs.Segments.{heads_of_group}
-use Rattle.tail_rebuild.specs.Standing.{HasGroups}
-use Rattle.tail_rebuild.specs.Listing.{ReadsFlash}
+use Rattle.tail_rebuild.proofs.Names.{◌≡◌, ℕ, ◌-◌, ◌*◌, ◌<◌, ◌≤◌, List, length, take, drop, IsTrue, flat_map, Ok, AreGroupHeads, Frame, heads_of, heads_of_group, RingFits, ReadsFlash, HasGroups}
 use Rattle.tail_rebuild.proofs.saving.read_last_four.Given as goal
 
 abbrev pub invariant-loop-place : goal.invariant-loop-place

@@ -1,14 +1,5 @@
-use Rattle.std.proofs.Common.{◌≡◌, ◌≢◌, Bool, false, if◌then◌else◌, inl, inr, ⊎_elim, ℕ, ◌+◌, ◌*◌, true, sym, ◌∙◌, ap, subst, arith, Err, length}
-use Rattle.std.proofs.lemmas.Bool.{eq-eqb, ne_eqb}
-use Rattle.site.specs.declared.outside.Dev.TheVariants.{Flash}
-use Rattle.site.specs.Geometry.{HasLengths}
-use Rattle.site.specs.Moments.{ChangesOnly}
-use Rattle.sealed_ring.specs.declared.slots.Shape.{Shape}
-use Rattle.byte_fields.specs.FrameHeads.{spelling_of_all}
-use Rattle.site.proofs.Laws.{stays_honest, changes_in_sequence}
-use Rattle.site.proofs.Working.{err_again}
-use Rattle.meta_segments.proofs.Whole.{segment_form}
-use Rattle.tail_rebuild.specs.Saving.{is_due}
+use Rattle.tail_rebuild.proofs.Names.{◌≡◌, ◌≢◌, Bool, false, if◌then◌else◌, inl, inr, ⊎_elim, ℕ, ◌+◌, ◌*◌, true, sym, ◌∙◌, ap, subst, arith, length, eq-eqb, ne_eqb, spelling_of_all, segment_form, Shape, stays_honest, changes_in_sequence, err_again, HasLengths, ChangesOnly, Flash, is_due}
+use Rattle.std.proofs.Common.{Err}
 use Rattle.tail_rebuild.proofs.Standing.{fits_again}
 use Rattle.tail_rebuild.proofs.Save.{none_saved, read_failed, finds_mid, ready_mid, moments, save_gaps, reached, stands_behind, unchanged_changes, finds_later, both_found}
 use Rattle.tail_rebuild.proofs.saving.save_due.Goals as goal

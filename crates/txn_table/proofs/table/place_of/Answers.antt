@@ -1,6 +1,4 @@
-use Rattle.std.proofs.Common.{rules, ◌==◌, ◌∙◌, sym, ap, slice_get}
-use Rattle.std.proofs.lemmas.Iterator.{YieldsList-from_slice}
-use Rattle.std.proofs.lemmas.Iterator.Search.{position_from_yields_List}
+use Rattle.txn_table.proofs.Names.{rules, ◌==◌, ◌∙◌, sym, ap, slice_get, YieldsList-from_slice, position_from_yields_List}
 use Rattle.std.proofs.lemmas.List.Folds.{find_at}
 use Rattle.txn_table.proofs.Places.{place-position}
 use Rattle.txn_table.proofs.table.place_of.Goals as goal

@@ -1,9 +1,4 @@
-use Rattle.std.proofs.Common.{◌<◌, length, drop, refl, sym, subst, ◌∙◌, arith}
-use Rattle.std.proofs.lemmas.Option.{same_Some}
-use Rattle.log_records.specs.declared.log_record.LogRecord.TheVariants.{Clr}
-use Rattle.log_records.specs.Log.{Entry}
-use Rattle.analysis.specs.Open.{Open}
-use Rattle.analysis.specs.Table.{listed}
+use Rattle.analysis.proofs.Names.{◌<◌, length, drop, refl, sym, subst, ◌∙◌, arith, same_Some, Open, listed, Entry, Clr}
 use Rattle.analysis.proofs.Tables.{owed_replaced, length-drop_one}
 use Rattle.analysis.proofs.Steps.{next_table, goes_on}
 use Rattle.analysis.proofs.Reading.{no_commit, goes_read}

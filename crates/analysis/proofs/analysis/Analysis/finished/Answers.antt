@@ -1,7 +1,4 @@
-use Rattle.std.proofs.Common.{refl, arith, None}
-use Rattle.log_records.specs.declared.log_record.LogRecord.TheVariants.{End}
-use Rattle.log_records.specs.Log.{Entry}
-use Rattle.analysis.specs.Table.{listed}
+use Rattle.analysis.proofs.Names.{refl, arith, None, listed, Entry, End}
 use Rattle.analysis.proofs.Tables.{owed_taken}
 use Rattle.analysis.proofs.Steps.{next_table, is_gone}
 use Rattle.analysis.proofs.Reading.{no_commit, closes_read}

@@ -1,7 +1,5 @@
-use Rattle.std.proofs.Common.{Some, IsSome, refl, sym, subst, ap, ◌∙◌}
-use Rattle.std.specs.Prelude.{option_copied, option_map}
-use Rattle.analysis.specs.Table.{open_of, listed}
-use Rattle.analysis.specs.Read.{loser_of, IsLoser}
+use Rattle.analysis.proofs.Names.{Some, IsSome, refl, sym, subst, ap, ◌∙◌, option_copied, loser_of, IsLoser, open_of, listed}
+use Rattle.std.specs.Prelude.{option_map}
 use Rattle.analysis.proofs.Maps.{found_at, opened, loser_is}
 use Rattle.analysis.proofs.Steps.{is_loser}
 use Rattle.analysis.proofs.analysis.Analysis.loser.Goals as goal

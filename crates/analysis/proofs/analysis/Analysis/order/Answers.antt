@@ -1,6 +1,4 @@
-use Rattle.std.proofs.Common.{◌≡◌, ◌||◌, ◌&&◌, ◌==◌, ℕ, List, reverse, sym, ap, subst, ◌∙◌, true}
-use Rattle.std.specs.List.{list_any}
-use Rattle.analysis.specs.Order.{Descend, has_at}
+use Rattle.analysis.proofs.Names.{◌≡◌, ◌||◌, ◌&&◌, ◌==◌, ℕ, List, reverse, sym, ap, subst, ◌∙◌, true, list_any, Descend, has_at}
 use Rattle.analysis.proofs.Maps.{OrderSoFar, order_none, order_one, order_all, readable_one, err_again}
 use Rattle.analysis.proofs.analysis.Analysis.order.Goals as goal
 

@@ -1,4 +1,4 @@
-use Rattle.std.proofs.Common.{ap, ◌∙◌, arith}
+use Rattle.analysis.proofs.Names.{ap, ◌∙◌, arith}
 use Rattle.analysis.proofs.Maps.{owed_is, owed_values, count_is}
 use Rattle.analysis.proofs.analysis.Analysis.owed.Goals as goal
 

@@ -1,6 +1,4 @@
-use Rattle.std.proofs.Common.{◌≡◌, ◌+◌}
-use Rattle.analysis.specs.Open.{owed_for}
-use Rattle.analysis.specs.Table.{listed}
+use Rattle.analysis.proofs.Names.{◌≡◌, ◌+◌, owed_for, listed}
 use Rattle.analysis.proofs.Maps.{owed_values}
 use Rattle.analysis.proofs.analysis.Analysis.owed.Given as goal
 

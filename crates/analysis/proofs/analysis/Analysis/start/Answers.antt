@@ -1,7 +1,5 @@
-use Rattle.std.proofs.Common.{List, [], sym, subst, refl, arith, ap, ◌∙◌}
+use Rattle.analysis.proofs.Names.{List, [], sym, subst, refl, arith, ap, ◌∙◌, Open, AscendFrom, owed_for, IsTable}
 use Rattle.checkpoint.specs.Newest.{seen}
-use Rattle.analysis.specs.Open.{Open, AscendFrom, owed_for}
-use Rattle.analysis.specs.Read.{IsTable}
 use Rattle.analysis.proofs.Starting.{named_table, owed_fresh}
 use Rattle.analysis.proofs.analysis.Analysis.start.Goals as goal
 

@@ -1,11 +1,4 @@
-use Rattle.std.proofs.Common.{◌∷◌, [], ◌++◌, drop, refl, sym, ap, subst, arith}
-use Rattle.std.proofs.lemmas.Result.{on_ok_weaker}
-use Rattle.log_records.specs.declared.log_record.LogRecord.{LogRecord}
-use Rattle.log_records.specs.declared.log_record.LogRecord.TheVariants.{Begin, Update, Clr, Commit, End}
-use Rattle.log_records.specs.Log.{Entry}
-use Rattle.analysis.specs.Open.{Open, AscendFrom, owed_for}
-use Rattle.analysis.specs.Table.{listed}
-use Rattle.analysis.specs.Read.{IsAnalysis, MayCome}
+use Rattle.analysis.proofs.Names.{◌∷◌, [], ◌++◌, drop, refl, sym, ap, subst, arith, on_ok_weaker, Open, AscendFrom, owed_for, IsAnalysis, MayCome, listed, Entry, LogRecord, Begin, Update, Clr, Commit, End}
 use Rattle.analysis.proofs.Maps.{either_way}
 use Rattle.analysis.proofs.Tables.{owed_replaced, owed_taken, length-drop_one}
 use Rattle.analysis.proofs.Reading.{no_commit, begin_read, goes_read, closes_read}

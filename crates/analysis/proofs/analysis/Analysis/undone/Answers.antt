@@ -1,5 +1,4 @@
-use Rattle.std.proofs.Common.{◌≡◌, ◌++◌, map, sym, ap, subst, ◌∙◌, append-nil}
-use Rattle.analysis.specs.Table.{open_of, listed}
+use Rattle.analysis.proofs.Names.{◌≡◌, ◌++◌, map, sym, ap, subst, ◌∙◌, append-nil, open_of, listed}
 use Rattle.analysis.proofs.Maps.{note_more, undone_of}
 use Rattle.analysis.proofs.analysis.Analysis.undone.Goals as goal
 

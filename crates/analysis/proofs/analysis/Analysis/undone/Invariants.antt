@@ -1,6 +1,5 @@
-use Rattle.std.proofs.Common.{◌≡◌, ◌++◌, map, filter}
-use Rattle.analysis.specs.Open.{none_remains}
-use Rattle.analysis.specs.Table.{open_of, listed}
+use Rattle.analysis.proofs.Names.{◌≡◌, ◌++◌, map, none_remains, open_of, listed}
+use Rattle.std.proofs.Common.{filter}
 use Rattle.analysis.proofs.analysis.Analysis.undone.Given as goal
 
 abbrev pub invariant-loop-txn : goal.invariant-loop-txn

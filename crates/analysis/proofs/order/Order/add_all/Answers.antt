@@ -1,4 +1,4 @@
-use Rattle.std.proofs.Common.{get_or, sym, ◌∙◌, true≢false}
+use Rattle.analysis.proofs.Names.{get_or, sym, ◌∙◌, true≢false}
 use Rattle.analysis.proofs.Orders.{last_more, more_descend, refused_above, added_more, taken_before, any_at}
 use Rattle.analysis.proofs.order.Order.add_all.Goals as goal
 

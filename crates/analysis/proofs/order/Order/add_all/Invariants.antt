@@ -1,6 +1,4 @@
-use Rattle.std.proofs.Common.{◌≡◌, ◌||◌, ◌&&◌, ◌==◌, ℕ, reverse, take, slice_get}
-use Rattle.std.specs.List.{list_any}
-use Rattle.analysis.specs.Order.{Descend, has_at}
+use Rattle.analysis.proofs.Names.{◌≡◌, ◌||◌, ◌&&◌, ◌==◌, ℕ, reverse, take, slice_get, list_any, Descend, has_at}
 use Rattle.analysis.proofs.order.Order.add_all.Given as goal
 
 abbrev pub invariant-loop-lsn : goal.invariant-loop-lsn

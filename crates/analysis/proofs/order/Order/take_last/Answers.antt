@@ -1,4 +1,4 @@
-use Rattle.std.proofs.Common.{None, Some}
+use Rattle.analysis.proofs.Names.{None, Some}
 use Rattle.analysis.proofs.Orders.{remains, has_left, next, taken, none_in}
 use Rattle.analysis.proofs.Pending.{next_is}
 use Rattle.analysis.proofs.order.Order.take_last.Goals as goal

@@ -1,8 +1,4 @@
-use Rattle.std.proofs.Common.{Some, refl, sym, ap, ◌∙◌, subst, arith, map, []}
-use Rattle.std.specs.Option.{option_copied_mut}
-use Rattle.analysis.specs.declared.table.Transaction.{Transaction}
-use Rattle.analysis.specs.Open.{Open, Changes, begun}
-use Rattle.analysis.specs.Table.{open_of, listed}
+use Rattle.analysis.proofs.Names.{Some, refl, sym, ap, ◌∙◌, subst, arith, map, [], option_copied_mut, Open, Changes, begun, open_of, listed, Transaction}
 use Rattle.analysis.proofs.Maps.{found_at, opened, written, becomes_written, put_in, begins_new, ascends}
 use Rattle.analysis.proofs.Tables.{owed_replaced, owed_begun}
 use Rattle.analysis.proofs.table.Table.begin.Goals as goal

@@ -1,6 +1,4 @@
-use Rattle.std.proofs.Common.{None, refl, sym, ap, ◌∙◌}
-use Rattle.std.proofs.lemmas.Option.{none-some}
-use Rattle.analysis.specs.Table.{open_of, listed}
+use Rattle.analysis.proofs.Names.{None, refl, sym, ap, ◌∙◌, none-some, open_of, listed}
 use Rattle.analysis.proofs.Maps.{found_at, opened, changes, not_foreign}
 use Rattle.analysis.proofs.Tables.{closes}
 use Rattle.analysis.proofs.table.Table.close.Goals as goal

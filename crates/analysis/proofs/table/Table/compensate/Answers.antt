@@ -1,7 +1,4 @@
-use Rattle.std.proofs.Common.{refl, sym, ap, ◌∙◌, drop}
-use Rattle.std.specs.Option.{option_copied_mut}
-use Rattle.std.proofs.lemmas.Option.{none-some}
-use Rattle.analysis.specs.Open.{Open}
+use Rattle.analysis.proofs.Names.{refl, sym, ap, ◌∙◌, drop, none-some, option_copied_mut, Open}
 use Rattle.analysis.proofs.Maps.{found_at, opened, becomes_written, not_foreign}
 use Rattle.analysis.proofs.table.Table.compensate.Goals as goal
 

@@ -1,4 +1,4 @@
-use Rattle.std.proofs.Common.{refl, arith}
+use Rattle.analysis.proofs.Names.{refl, arith}
 use Rattle.analysis.proofs.Starting.{named_more}
 use Rattle.analysis.proofs.table.Table.start.Goals as goal
 

@@ -1,5 +1,4 @@
-use Rattle.std.proofs.Common.{◌≡◌, map, take, []}
-use Rattle.analysis.specs.Table.{open_of}
+use Rattle.analysis.proofs.Names.{◌≡◌, map, take, [], open_of}
 use Rattle.analysis.proofs.table.Table.start.Given as goal
 
 abbrev pub invariant-loop-place : goal.invariant-loop-place

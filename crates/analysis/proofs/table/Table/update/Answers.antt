@@ -1,8 +1,4 @@
-use Rattle.std.proofs.Common.{◌∷◌, refl, sym, ap, ◌∙◌}
-use Rattle.std.specs.Option.{option_copied_mut}
-use Rattle.std.proofs.lemmas.Option.{none-some}
-use Rattle.std.proofs.lemmas.Result.{on_ok_weaker}
-use Rattle.analysis.specs.Open.{Open}
+use Rattle.analysis.proofs.Names.{◌∷◌, refl, sym, ap, ◌∙◌, none-some, on_ok_weaker, option_copied_mut, Open}
 use Rattle.analysis.proofs.Maps.{found_at, opened, becomes_written, same_written, err_maps, memory_alone}
 use Rattle.analysis.proofs.table.Table.update.Goals as goal
 

@@ -1,4 +1,4 @@
-use Rattle.std.proofs.Common.{length}
+use Rattle.buffer_pool.proofs.Names.{length}
 use Rattle.buffer_pool.proofs.Listed.{IsTold}
 use Rattle.buffer_pool.proofs.index.Index.coldest.Given as goal
 

@@ -1,14 +1,7 @@
-use Rattle.std.proofs.Common.{◌≡◌, List, ℕ, nat_eq, true, slice_set, option_copied, refl, ap, sym, subst, ◌∙◌}
-use Rattle.std.specs.Map.{set_value}
+use Rattle.buffer_pool.proofs.Names.{◌≡◌, List, ℕ, nat_eq, true, slice_set, option_copied, refl, ap, sym, subst, ◌∙◌, none-some, set_value, frames_in, state_in, front_of, struck, PoolEntry, IsSound, FitsPage, slots_of}
 use Rattle.std.specs.Box.{with_value}
-use Rattle.std.proofs.lemmas.Option.{none-some}
-use Rattle.slotted_page.specs.Layout.{IsSound, FitsPage, slots_of}
-use Rattle.buffer_pool.specs.declared.pool_entry.PoolEntry.{PoolEntry}
-use Rattle.buffer_pool.specs.Entries.{frames_in, state_in}
-use Rattle.buffer_pool.specs.Listing.{struck}
 use Rattle.buffer_pool.proofs.Known.{framed-same, knows_same}
 use Rattle.buffer_pool.proofs.Listed.{index_same, index_stays}
-use Rattle.buffer_pool.specs.Frames.{front_of}
 use Rattle.buffer_pool.proofs.Cached.{Entry, lookup-first, pool-kept, changes_front, front_content}
 use Rattle.buffer_pool.proofs.pool.Pool.change_front.Goals as goal
 

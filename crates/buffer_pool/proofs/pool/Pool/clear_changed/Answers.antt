@@ -1,10 +1,4 @@
-use Rattle.std.proofs.Common.{◌≡◌, nat_eq, List, None, false, is_some, refl, ap, sym, ◌∙◌}
-use Rattle.std.specs.Map.{set_value}
-use Rattle.std.proofs.lemmas.Bool.{true≢false}
-use Rattle.buffer_pool.specs.declared.pool_entry.PoolEntry.{PoolEntry}
-use Rattle.buffer_pool.specs.Entries.{framed_pages}
-use Rattle.buffer_pool.specs.Frames.{State, frame_of}
-use Rattle.buffer_pool.specs.Listing.{struck, enlisted}
+use Rattle.buffer_pool.proofs.Names.{◌≡◌, nat_eq, List, None, false, is_some, refl, ap, sym, ◌∙◌, true≢false, set_value, framed_pages, State, frame_of, struck, enlisted, PoolEntry}
 use Rattle.buffer_pool.proofs.Cached.{Entry, state, missing, frames-cleared, pool-kept}
 use Rattle.buffer_pool.proofs.Known.{framed-same, knows_same}
 use Rattle.buffer_pool.proofs.Listed.{index_stays}

@@ -1,5 +1,4 @@
-use Rattle.std.proofs.Common.{◌≡◌, length, arith, ◌∷◌, [], ap, length-append}
-use Rattle.buffer_pool.specs.Frames.{State}
+use Rattle.buffer_pool.proofs.Names.{◌≡◌, length, arith, ◌∷◌, [], ap, length-append, State}
 use Rattle.buffer_pool.proofs.Walks.{walk_begins, walk_goes_on, walk_has_enough, walk_ends}
 use Rattle.buffer_pool.proofs.pool.Pool.coldest_changed.Goals as goal
 

@@ -1,4 +1,4 @@
-use Rattle.std.proofs.Common.{length}
+use Rattle.buffer_pool.proofs.Names.{length}
 use Rattle.buffer_pool.proofs.Walks.{IsWalked}
 use Rattle.buffer_pool.proofs.pool.Pool.coldest_changed.Given as goal
 

@@ -1,5 +1,4 @@
-use Rattle.std.proofs.Common.{◌≡◌, ℕ, Bool, List, IfOk, ap, take, map, subst, sym, ◌∙◌}
-use Rattle.buffer_pool.specs.Frames.{State, mark_of, coldest_movable}
+use Rattle.buffer_pool.proofs.Names.{◌≡◌, ℕ, Bool, List, IfOk, ap, take, map, subst, sym, ◌∙◌, State, mark_of, coldest_movable}
 use Rattle.buffer_pool.proofs.Listed.{Listed, marks_listed, coldest_are}
 use Rattle.buffer_pool.proofs.pool.Pool.coldest_movable.Goals as goal
 

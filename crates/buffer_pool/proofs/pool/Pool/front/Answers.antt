@@ -1,6 +1,4 @@
-use Rattle.std.proofs.Common.{ap, sym, ◌∙◌}
-use Rattle.buffer_pool.specs.declared.frame.Frame.{Frame}
-use Rattle.buffer_pool.specs.Entries.{frames_in}
+use Rattle.buffer_pool.proofs.Names.{ap, sym, ◌∙◌, frames_in, Frame}
 use Rattle.buffer_pool.proofs.Cached.{no_front, front-first}
 use Rattle.buffer_pool.proofs.pool.Pool.front.Goals as goal
 

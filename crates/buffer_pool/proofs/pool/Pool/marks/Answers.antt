@@ -1,5 +1,4 @@
-use Rattle.std.proofs.Common.{map, length, arith, ap, sym, ◌∙◌}
-use Rattle.buffer_pool.specs.Frames.{State, mark_of}
+use Rattle.buffer_pool.proofs.Names.{map, length, arith, ap, sym, ◌∙◌, State, mark_of}
 use Rattle.buffer_pool.proofs.Walks.{marks_told, one_more_told, all_told}
 use Rattle.buffer_pool.proofs.pool.Pool.marks.Goals as goal
 

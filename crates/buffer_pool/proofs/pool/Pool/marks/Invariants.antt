@@ -1,5 +1,4 @@
-use Rattle.std.proofs.Common.{◌≡◌, ◌++◌, map, length}
-use Rattle.buffer_pool.specs.Frames.{mark_of}
+use Rattle.buffer_pool.proofs.Names.{◌≡◌, ◌++◌, map, length, mark_of}
 use Rattle.buffer_pool.proofs.Walks.{told}
 use Rattle.buffer_pool.proofs.pool.Pool.marks.Given as goal
 

@@ -1,5 +1,4 @@
-use Rattle.std.proofs.Common.{Some, option_map, refl, ap, sym, ◌∙◌}
-use Rattle.buffer_pool.specs.declared.pool_entry.PoolEntry.{PoolEntry}
+use Rattle.buffer_pool.proofs.Names.{Some, option_map, refl, ap, sym, ◌∙◌, PoolEntry}
 use Rattle.buffer_pool.proofs.Cached.{found, missing, content-lookup}
 use Rattle.buffer_pool.proofs.pool.Pool.page.Goals as goal
 

@@ -1,9 +1,4 @@
-use Rattle.std.proofs.Common.{◌≡◌, ◌<◌, ◌∷◌, nat_eq, List, None, false, length, arith, refl, ap, sym, ◌∙◌}
-use Rattle.lru.specs.LruCache.{put_entries}
-use Rattle.buffer_pool.specs.declared.pool_entry.PoolEntry.{PoolEntry}
-use Rattle.buffer_pool.specs.Entries.{frames_in, framed_pages, state_in}
-use Rattle.buffer_pool.specs.Frames.{State, IsPool, Knows, frame_of}
-use Rattle.buffer_pool.specs.Listing.{IsIndex}
+use Rattle.buffer_pool.proofs.Names.{◌≡◌, ◌<◌, ◌∷◌, nat_eq, List, None, false, length, arith, refl, ap, sym, ◌∙◌, frames_in, framed_pages, state_in, State, IsPool, Knows, frame_of, IsIndex, PoolEntry, put_entries}
 use Rattle.buffer_pool.proofs.Cached.{Entry, state, length_frames, frames-put, pool-put}
 use Rattle.buffer_pool.proofs.Known.{framed-put, knows}
 use Rattle.buffer_pool.proofs.Listed.{index_enters}

@@ -1,7 +1,5 @@
-use Rattle.std.proofs.Common.{◌≡◌, ◌-◌, List, [], length, take, false, ap, sym, subst, ◌∙◌}
-use Rattle.std.specs.List.{AllByRecursion}
+use Rattle.buffer_pool.proofs.Names.{◌≡◌, ◌-◌, List, [], length, take, false, ap, sym, subst, ◌∙◌, AllByRecursion, struck}
 use Rattle.std_lemmas.proofs.AllOf.{all_between}
-use Rattle.buffer_pool.specs.Listing.{struck}
 use Rattle.buffer_pool.proofs.Known.{framed_in, framed-last, each_known, known, knows}
 use Rattle.buffer_pool.proofs.Listed.{index_last}
 use Rattle.buffer_pool.proofs.Cached.{Entry, frames-last, pool-last, split_last}

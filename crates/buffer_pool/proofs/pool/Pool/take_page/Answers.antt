@@ -1,8 +1,4 @@
-use Rattle.std.proofs.Common.{List, nat_eq, false, ap, sym, subst, ◌∙◌}
-use Rattle.std.specs.Map.{remove_entry}
-use Rattle.buffer_pool.specs.declared.pool_entry.PoolEntry.{PoolEntry}
-use Rattle.buffer_pool.specs.Entries.{framed_pages, state_in}
-use Rattle.buffer_pool.specs.Listing.{IsIndex, struck}
+use Rattle.buffer_pool.proofs.Names.{List, nat_eq, false, ap, sym, subst, ◌∙◌, remove_entry, framed_pages, state_in, IsIndex, struck, PoolEntry}
 use Rattle.buffer_pool.proofs.Known.{framed-removed, knows}
 use Rattle.buffer_pool.proofs.Listed.{index_leaves}
 use Rattle.buffer_pool.proofs.Cached.{Entry, state, found, missing, frames-remove_entry, none_removed, pool-remove_entry}

@@ -1,11 +1,4 @@
-use Rattle.std.proofs.Common.{◌≡◌, ◌<◌, ◌∷◌, nat_eq, List, length, Some, ap, refl, sym, subst, ◌∙◌}
-use Rattle.std.specs.Map.{lookup, remove_entry, set_value}
-use Rattle.lru.specs.LruCache.{promoted}
-use Rattle.buffer_pool.specs.declared.frame.Frame.{Frame}
-use Rattle.buffer_pool.specs.declared.pool_entry.PoolEntry.{PoolEntry}
-use Rattle.buffer_pool.specs.Entries.{frames_in, framed_pages, state_in}
-use Rattle.buffer_pool.specs.Frames.{IsPool, KnowsSame, frame_of, touched, front_of}
-use Rattle.buffer_pool.specs.Listing.{IsIndex, struck, enlisted}
+use Rattle.buffer_pool.proofs.Names.{◌≡◌, ◌<◌, ◌∷◌, nat_eq, List, length, Some, ap, refl, sym, subst, ◌∙◌, lookup, remove_entry, set_value, frames_in, framed_pages, state_in, IsPool, KnowsSame, frame_of, touched, front_of, IsIndex, struck, enlisted, Frame, PoolEntry, promoted}
 use Rattle.buffer_pool.proofs.Order.{touched-absent}
 use Rattle.buffer_pool.proofs.Cached.{Entry, state, found, missing, front-promoted, some-promoted}
 use Rattle.buffer_pool.proofs.Known.{framed-promoted, frames-renewed, knows_same, pool-renewed, set_promoted}

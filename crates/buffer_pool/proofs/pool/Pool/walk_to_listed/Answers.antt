@@ -1,6 +1,4 @@
-use Rattle.std.proofs.Common.{◌≡◌, ◌∷◌, ◌++◌, Bool, cond, [], length, arith, ap, sym, subst, ◌∙◌, length-append}
-use Rattle.buffer_pool.specs.Frames.{State, AreDistinct}
-use Rattle.buffer_pool.specs.Entries.{state_in}
+use Rattle.buffer_pool.proofs.Names.{◌≡◌, ◌∷◌, ◌++◌, Bool, cond, [], length, arith, ap, sym, subst, ◌∙◌, length-append, state_in, State, AreDistinct}
 use Rattle.buffer_pool.proofs.Listed.{sought_begins, sought_more, sought_enough, sought_all}
 use Rattle.buffer_pool.proofs.pool.Pool.walk_to_listed.Goals as goal
 

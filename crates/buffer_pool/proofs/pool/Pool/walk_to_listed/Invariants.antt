@@ -1,4 +1,4 @@
-use Rattle.std.proofs.Common.{length}
+use Rattle.buffer_pool.proofs.Names.{length}
 use Rattle.buffer_pool.proofs.Listed.{IsSought}
 use Rattle.buffer_pool.proofs.pool.Pool.walk_to_listed.Given as goal
 

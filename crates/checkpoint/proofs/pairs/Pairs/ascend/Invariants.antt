@@ -1,5 +1,4 @@
-use Rattle.std.proofs.Common.{ℕ, ◌+◌, ◌<◌, get_or}
-use Rattle.checkpoint.specs.Actives.{no_pair}
+use Rattle.checkpoint.proofs.Names.{ℕ, ◌+◌, ◌<◌, get_or, no_pair}
 use Rattle.checkpoint.proofs.pairs.Pairs.ascend.Given as goal
 
 abbrev pub invariant-loop-place : goal.invariant-loop-place

@@ -1,5 +1,4 @@
-use Rattle.std.proofs.Common.{refl}
-use Rattle.record_model.specs.declared.words.Command.TheVariants.{Abort}
+use Rattle.database.proofs.Names.{refl, Abort}
 use Rattle.database.proofs.Served.{as_answered, served, leaves_table}
 use Rattle.database.proofs.database.Database.abort.Goals as goal
 

@@ -1,5 +1,4 @@
-use Rattle.std.proofs.Common.{refl}
-use Rattle.record_model.specs.declared.words.Command.TheVariants.{Back}
+use Rattle.database.proofs.Names.{refl, Back}
 use Rattle.database.proofs.Served.{as_answered, served, leaves_table}
 use Rattle.database.proofs.database.Database.back.Goals as goal
 

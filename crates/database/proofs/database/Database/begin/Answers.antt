@@ -1,5 +1,4 @@
-use Rattle.std.proofs.Common.{refl}
-use Rattle.record_model.specs.declared.words.Command.TheVariants.{Begin}
+use Rattle.database.proofs.Names.{refl, Begin}
 use Rattle.database.proofs.Served.{as_answered, served, leaves_table, unread}
 use Rattle.database.proofs.database.Database.begin.Goals as goal
 

@@ -1,7 +1,4 @@
-use Rattle.std.proofs.Common.{refl, le-add_right}
-use Rattle.record_model.specs.declared.words.Command.TheVariants.{Cache}
-use Rattle.record_model.specs.declared.words.Reply.TheVariants.{Listing}
-use Rattle.engine.specs.Listings.{listing_of}
+use Rattle.database.proofs.Names.{refl, le-add_right, listing_of, Cache, Listing}
 use Rattle.database.proofs.Served.{as_answered, idle_contract, idle_keeps, idle_performs, served}
 use Rattle.database.proofs.database.Database.cache.Goals as goal
 

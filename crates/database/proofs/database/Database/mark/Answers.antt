@@ -1,6 +1,4 @@
-use Rattle.std.proofs.Common.{Bool, le-add_right, refl, sym, ap, ◌∙◌}
-use Rattle.std.specs.Prelude.{◌||◌, Ok, false}
-use Rattle.record_model.specs.declared.words.Command.TheVariants.{Mark}
+use Rattle.database.proofs.Names.{Bool, le-add_right, refl, sym, ap, ◌∙◌, false, ◌||◌, Ok, Mark}
 use Rattle.database.proofs.Served.{as_answered, mark_contract, mark_keeps, mark_performs, served}
 use Rattle.database.proofs.database.Database.mark.Goals as goal
 

@@ -1,6 +1,4 @@
-use Rattle.std.proofs.Common.{refl, ap}
-use Rattle.site.proofs.Working.{calls_answered, calls_failed}
-use Rattle.redo_laws.proofs.Endings.{ends_answered, ends_failed}
+use Rattle.database.proofs.Names.{refl, ap, ends_answered, ends_failed, calls_answered, calls_failed}
 use Rattle.database.proofs.database.Database.open.Goals as goal
 
 pub returns-in-Ok-clause-opened : goal.returns-in-Ok-clause-opened

@@ -1,5 +1,4 @@
-use Rattle.std.proofs.Common.{refl}
-use Rattle.record_model.specs.declared.words.Command.TheVariants.{Set}
+use Rattle.database.proofs.Names.{refl, Set}
 use Rattle.database.proofs.Served.{as_answered, served, unread}
 use Rattle.database.proofs.database.Database.set.Goals as goal
 

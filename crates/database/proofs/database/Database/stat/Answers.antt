@@ -1,8 +1,4 @@
-use Rattle.std.proofs.Common.{Bool, le-add_right, refl, sym, ap, subst, ◌∙◌}
-use Rattle.std.specs.Prelude.{◌||◌, Ok, false}
-use Rattle.record_model.specs.declared.words.Command.TheVariants.{Stat}
-use Rattle.database.specs.Held.{Held}
-use Rattle.database.specs.Serving.{Serves}
+use Rattle.database.proofs.Names.{Bool, le-add_right, refl, sym, ap, subst, ◌∙◌, false, ◌||◌, Ok, Held, Serves, Stat}
 use Rattle.database.proofs.Served.{idle_contract, idle_keeps, idle_performs, served}
 use Rattle.database.proofs.database.Database.stat.Goals as goal
 

@@ -1,24 +1,7 @@
-use Rattle.engine.specs.LogReads.{undo_reads}
-use Rattle.std.proofs.Common.{◌≡◌, ℕ, Some, refl, sym, ap, subst, ◌∙◌, arith, ◌≤◌, ◌+◌}
-use Rattle.std.specs.Prelude.{Result}
-use Rattle.site.specs.declared.outside.Stop.{Stop}
-use Rattle.site.specs.State.{State as Site, Snapshot}
-use Rattle.record_model.specs.State.{State, session_at, writes_of}
-use Rattle.record_model.specs.Step.{effect}
-use Rattle.record_model.specs.Touches.{record_touches}
-use Rattle.record_model.specs.declared.words.Reply.{Reply}
-use Rattle.record_model.specs.declared.words.Command.TheVariants.{Abort}
-use Rattle.txn_table.specs.declared.active.Active.{Active}
-use Rattle.txn_table.specs.Entries.{IsTable, entry_of}
-use Rattle.engine.specs.declared.engine.Engine.{Engine}
-use Rattle.engine.specs.Representation.{Matches, IsCarriedOut}
-use Rattle.engine.specs.Calls.{CommandEffect}
+use Rattle.engine.proofs.Names.{◌≡◌, ℕ, Some, refl, sym, ap, subst, ◌∙◌, arith, ◌≤◌, ◌+◌, Result, CommandEffect, undo_reads, Matches, IsCarriedOut, Engine, State, session_at, writes_of, effect, record_touches, Abort, Reply, performs_as, command_work, record_work, undoes, Site, Snapshot, Stop, entry_is, IsTable, entry_of, Active}
 use Rattle.engine.proofs.Actives.{some_active}
-use Rattle.txn_table.proofs.Owing.{entry_is}
 use Rattle.engine.proofs.Replies.{carried_out, wants_active_is, refused_session}
 use Rattle.engine.proofs.Calling.{answered, does_nothing, does_failed, asks_rest, still}
-use Rattle.ring_machine.specs.Commands.{command_work, record_work, undoes}
-use Rattle.ring_machine.proofs.Performing.{performs_as}
 use Rattle.engine.proofs.Performing.{performs_rest}
 use Rattle.engine.proofs.engine.Engine.abort.Goals as goal
 

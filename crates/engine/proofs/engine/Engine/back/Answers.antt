@@ -1,23 +1,9 @@
-use Rattle.engine.specs.LogReads.{back_reads}
-use Rattle.std.proofs.Common.{◌≡◌, ◌-◌, ℕ, Option, Some, length, refl, sym, ap, ◌∙◌, arith}
-use Rattle.std.specs.Prelude.{unwrap_or}
-use Rattle.record_model.specs.State.{State, session_at}
-use Rattle.record_model.specs.Step.{Outcome, effect}
-use Rattle.record_model.specs.Touches.{command_touches, record_touches}
-use Rattle.record_model.specs.declared.words.Reply.TheVariants as reply
-use Rattle.record_model.specs.declared.words.Command.TheVariants.{Back}
-use Rattle.ring_machine.specs.Commands.{command_work, record_work}
-use Rattle.ring_machine.proofs.Performing.{performs_as}
-use Rattle.site.specs.State.{State as Site}
-use Rattle.txn_table.specs.declared.active.Active.{Active}
-use Rattle.txn_table.specs.Entries.{IsTable, entry_of}
-use Rattle.txn_table.proofs.Owing.{entry_is}
-use Rattle.engine.specs.declared.engine.Engine.{Engine}
-use Rattle.engine.specs.Representation.{IsCarriedOut, Matches, run}
+use Rattle.engine.proofs.Names.{◌≡◌, ◌-◌, ℕ, Option, Some, length, refl, sym, ap, ◌∙◌, arith, unwrap_or, back_reads, IsCarriedOut, Matches, run, Engine, State, session_at, Outcome, effect, command_touches, record_touches, Back, performs_as, command_work, record_work, Site, entry_is, IsTable, entry_of, Active}
 use Rattle.engine.proofs.Actives.{Finds, some_active}
 use Rattle.engine.proofs.Backs.{count_as, effect_as, reads_as, touches_as, work_as}
 use Rattle.engine.proofs.Calling.{answered, asks_rest, does_failed, does_nothing, still}
 use Rattle.engine.proofs.Performing.{performs_rest}
+use Rattle.record_model.specs.declared.words.Reply.TheVariants as reply
 use Rattle.engine.proofs.engine.Engine.back.Goals as goal
 
 -- What is carried out, by the number of writes that stay.

@@ -1,16 +1,8 @@
-use Rattle.std.proofs.Common.{◌≡◌, ◌<◌, ◌≤◌, ℕ, true, false, [], ◌∷◌, Option, Some, None, ◌∙◌, sym, ap, subst, refl, arith}
-use Rattle.std.specs.Prelude.{length, nat_lt, unwrap_or}
-use Rattle.std.proofs.lemmas.Bool.{le-ltb, lt-ltb}
-use Rattle.std.proofs.lemmas.Option.{same_Some}
-use Rattle.record_model.specs.State.{Session, State, session_at, writes_of}
-use Rattle.record_model.specs.Step.{first_refusal, refuse_if, wants_standing}
-use Rattle.record_model.specs.declared.words.Command.TheVariants.{Back}
-use Rattle.record_model.specs.declared.words.Why.TheVariants.{BadMark}
-use Rattle.record_model.specs.declared.words.Reply.TheVariants as reply
-use Rattle.txn_table.specs.declared.active.Active.{Active}
-use Rattle.txn_table.proofs.Owing.{entry_is}
+use Rattle.engine.proofs.Names.{◌≡◌, ◌<◌, ◌≤◌, ℕ, true, false, [], ◌∷◌, Option, Some, None, ◌∙◌, sym, ap, subst, refl, arith, le-ltb, lt-ltb, same_Some, nat_lt, unwrap_or, Session, State, session_at, writes_of, first_refusal, refuse_if, wants_standing, Back, BadMark, entry_is, Active}
+use Rattle.std.specs.Prelude.{length}
 use Rattle.engine.proofs.Actives.{some_active}
 use Rattle.engine.proofs.Replies.{carried_out, idle_session, refused, wants_active_is}
+use Rattle.record_model.specs.declared.words.Reply.TheVariants as reply
 use Rattle.engine.proofs.engine.Engine.back_refusal.Goals as goal
 
 -- so many of a session's writes stand

@@ -1,7 +1,5 @@
-use Rattle.std.proofs.Common.{None, true, false, refl, rules, arith}
+use Rattle.engine.proofs.Names.{None, true, false, refl, rules, arith, sizes_of, LeavesTable}
 use Rattle.record_model.specs.declared.words.Command.TheVariants.{Begin}
-use Rattle.engine.specs.Invariant.{sizes_of}
-use Rattle.engine.specs.Leaves.{LeavesTable}
 use Rattle.engine.proofs.Replies.{full_is, has_room}
 use Rattle.engine.proofs.Calling.{serves_then, serves_failed, serves_ended, serves_nothing, refused_as, first_then, first_failed, does_nothing, does_failed, asks_rest, late_table, still}
 use Rattle.engine.proofs.Performing.{performs_rest, performs_first, performs_unmade}

@@ -1,14 +1,8 @@
-use Rattle.std.proofs.Common.{◌||◌, ap, rules}
-use Rattle.std.specs.Prelude.{is_some, nat_le}
-use Rattle.std.proofs.lemmas.Bool.{lt-leb, or_right}
-use Rattle.record_model.specs.Step.{refuse_if}
-use Rattle.record_model.specs.declared.words.Why.TheVariants.{BadSession}
-use Rattle.record_model.specs.declared.words.Reply.TheVariants as reply
-use Rattle.record_model.specs.State.{session_at}
+use Rattle.engine.proofs.Names.{◌||◌, ap, rules, lt-leb, or_right, is_some, nat_le, session_at, refuse_if, BadSession, entry_of}
 use Rattle.record_model.specs.declared.words.Command.TheVariants.{Begin}
-use Rattle.txn_table.specs.Entries.{entry_of}
 use Rattle.engine.proofs.Actives.{none_active, some_active}
 use Rattle.engine.proofs.Replies.{has, refused}
+use Rattle.record_model.specs.declared.words.Reply.TheVariants as reply
 use Rattle.engine.proofs.engine.Engine.begin_refusal.Goals as goal
 
 pub returns-clause-passes : goal.returns-clause-passes

@@ -1,20 +1,10 @@
-use Rattle.engine.specs.LogReads.{undo_reads}
-use Rattle.record_model.specs.State.{Session, writes_of}
-use Rattle.record_model.specs.Touches.{write_touch, CacheOp}
-use Rattle.redo_laws.proofs.Asking.{asks_same, asks_ok, asks_err}
-use Rattle.std.proofs.Common.{rules, refl, sym, arith, ap, Option, Some, List, map, reverse, length}
-use Rattle.site.proofs.Laws.{stays_honest}
-use Rattle.engine.specs.declared.engine.Engine.{Engine}
-use Rattle.txn_table.proofs.Owing.{owes, entry_is}
+use Rattle.engine.proofs.Names.{rules, refl, sym, arith, ap, Option, Some, List, map, reverse, length, undo_reads, Engine, entries_of, Session, writes_of, write_touch, CacheOp, asks_same, asks_ok, asks_err, keeps_answered, keeps_failed, works_answered, performs_answered, performs_as, performs_failed, stays_honest, owes, entry_is}
 use Rattle.engine.proofs.Actives.{ended_was, some_active}
 use Rattle.engine.proofs.Aborts.{aborted_fits}
 use Rattle.engine.proofs.Undoing.{abort_is}
 use Rattle.engine.proofs.Updated.{updated_count}
-use Rattle.log_records.specs.Log.{entries_of}
-use Rattle.ring_machine.proofs.Performing.{performs_answered, performs_as, performs_failed}
 use Rattle.engine.proofs.Calling.{does_of, serves_of}
 use Rattle.engine.proofs.FootprintChanges.{locked_ended}
-use Rattle.redo_undo.proofs.StoreCalling.{keeps_answered, keeps_failed, works_answered}
 use Rattle.engine.proofs.engine.Engine.carry_out_abort.Goals as goal
 
 pub roll_back-requires-clause-few : goal.roll_back-requires-clause-few

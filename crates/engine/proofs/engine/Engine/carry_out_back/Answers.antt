@@ -1,24 +1,10 @@
-use Rattle.engine.specs.LogReads.{back_reads}
-use Rattle.record_model.specs.State.{Session, State, session_at, writes_of}
-use Rattle.record_model.specs.Step.{dropped, going_back}
-use Rattle.record_model.specs.Touches.{takes_back_touches}
-use Rattle.redo_laws.proofs.Asking.{asks_same, asks_ok, asks_err}
-use Rattle.std.proofs.Common.{◌≡◌, ◌+◌, ◌-◌, ◌≤◌, ℕ, refl, sym, arith, ap, Option, Some, drop, length, ◌∙◌}
-use Rattle.std.specs.Prelude.{option_map}
-use Rattle.std.proofs.lemmas.List.{length-drop}
-use Rattle.site.proofs.Laws.{stays_honest}
-use Rattle.log_records.specs.Log.{entries_of}
-use Rattle.txn_table.specs.Entries.{after_undone}
-use Rattle.txn_table.proofs.Owing.{owes, entry_is}
+use Rattle.engine.proofs.Names.{◌≡◌, ◌+◌, ◌-◌, ◌≤◌, ℕ, refl, sym, arith, ap, Option, Some, drop, length, ◌∙◌, length-drop, option_map, back_reads, entries_of, Session, State, session_at, writes_of, dropped, going_back, takes_back_touches, asks_same, asks_ok, asks_err, keeps_answered, keeps_failed, works_answered, performs_answered, performs_as, performs_failed, goes_back, stays_honest, owes, entry_is, after_undone}
 use Rattle.engine.proofs.Actives.{some_active}
 use Rattle.engine.proofs.Backs.{back_fits, still_going}
 use Rattle.engine.proofs.FootprintChanges.{locked_back}
 use Rattle.engine.proofs.Undoing.{back_is}
 use Rattle.engine.proofs.Updated.{updated_count}
-use Rattle.ring_machine.specs.Commands.{goes_back}
-use Rattle.ring_machine.proofs.Performing.{performs_answered, performs_as, performs_failed}
 use Rattle.engine.proofs.Calling.{does_of, serves_of}
-use Rattle.redo_undo.proofs.StoreCalling.{keeps_answered, keeps_failed, works_answered}
 use Rattle.engine.proofs.engine.Engine.carry_out_back.Goals as goal
 
 pub back-requires-clause-few : goal.back-requires-clause-few

@@ -1,19 +1,13 @@
-use Rattle.site.specs.declared.outside.Dev.TheVariants.{Log}
-use Rattle.std.proofs.Common.{◌++◌, ◌∷◌, [], None, refl, arith}
 use Rattle.std.proofs.lemmas.Grind.{common_steps}
-use Rattle.site.proofs.Laws.{stays_honest}
-use Rattle.record_model.specs.State.{writes_of, wrote_of, reads_of}
+use Rattle.engine.proofs.Names.{◌++◌, ◌∷◌, [], None, refl, arith, writes_of, wrote_of, reads_of, effect, keeps_failed, keeps_answered, works_answered, performs_answered, performs_failed, stays_honest, Log}
 use Rattle.engine.proofs.Meanings.{begins_late, fresh_behind}
 use Rattle.engine.proofs.Settings.{begin_at, may_begin}
 use Rattle.engine.proofs.Actives.{begun, none_active}
-use Rattle.record_model.specs.Step.{effect}
 use Rattle.record_model.specs.declared.words.Command.TheVariants.{Begin}
 use Rattle.engine.proofs.FootprintChanges.{footprints_stay}
 use Rattle.engine.proofs.Locks.{locks_stay, at_set}
 use Rattle.engine.proofs.Calling.{does_of, serves_of, serves_stopped}
-use Rattle.redo_undo.proofs.StoreCalling.{keeps_failed, keeps_answered, works_answered}
 use Rattle.engine.proofs.engine.Engine.carry_out_begin.Goals as goal
-use Rattle.ring_machine.proofs.Performing.{performs_answered, performs_failed}
 
 pub returns-in-Err-clause-does : goal.returns-in-Err-clause-does
 returns-in-Err-clause-does g c s fits = does_of (omega arith) tt (keeps_failed (c.in-Err.ensures.keeps fits.newest fits.records s.table s.commits fits.holds))

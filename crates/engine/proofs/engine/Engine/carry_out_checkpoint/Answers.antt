@@ -1,26 +1,10 @@
-use Rattle.std.specs.Prelude.{Ok, option_map}
-use Rattle.txn_table.specs.Entries.{counted_from}
-use Rattle.std.proofs.Common.{Err, ◌≤◌, ◌+◌, ◌∙◌, List, refl, sym, ap, subst, arith, ℕ}
-use Rattle.site.proofs.Laws.{stays_honest}
-use Rattle.checkpoint.specs.declared.pairs.Pair.{Pair}
-use Rattle.image_meaning.specs.Flushed.{first_block}
-use Rattle.redo_laws.specs.Holding as both
-use Rattle.redo_laws.specs.Holding.{blocks_to}
-use Rattle.redo_laws.specs.Checkpointing.{MayBeMade, begins_of}
-use Rattle.engine.specs.Invariant.{sizes_of}
-use Rattle.redo_undo.specs.Stores.{HasCheckpoint}
-use Rattle.engine.specs.Leaves.{LeavesTable}
+use Rattle.engine.proofs.Names.{◌≤◌, ◌+◌, ◌∙◌, List, refl, sym, ap, subst, arith, ℕ, Ok, option_map, Pair, sizes_of, LeavesTable, first_block, asks_ok, MayBeMade, begins_of, blocks_to, checkpoint_works, next_answered, keeps_answered, keeps_failed, Keeps, HasCheckpoint, performs_answered, stays_honest, calls_answered, counted_from}
+use Rattle.std.proofs.Common.{Err}
 use Rattle.engine.proofs.Keeping.{LetsGo, lets_go}
 use Rattle.engine.proofs.Checkpoints.{may_be_made, goes_on, fits_after}
-use Rattle.redo_undo.specs.StoreCalls.{Keeps}
 use Rattle.engine.proofs.Calling.{does_of}
-use Rattle.redo_undo.proofs.NextUnits.{next_answered}
-use Rattle.site.proofs.Working.{calls_answered}
-use Rattle.redo_undo.proofs.StoreCalling.{keeps_answered, keeps_failed}
-use Rattle.redo_laws.specs.MachineSteps.{checkpoint_works}
-use Rattle.redo_laws.proofs.Asking.{asks_ok}
+use Rattle.redo_laws.specs.Holding as both
 use Rattle.engine.proofs.engine.Engine.carry_out_checkpoint.Goals as goal
-use Rattle.ring_machine.proofs.Performing.{performs_answered}
 
 pub checkpoint-requires-clause-first : goal.checkpoint-requires-clause-first
 checkpoint-requires-clause-first g c =

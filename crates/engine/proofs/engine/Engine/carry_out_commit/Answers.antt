@@ -1,15 +1,8 @@
-use Rattle.std.proofs.Common.{◌≡◌, ◌∙◌, ℕ, Some, ap, rules, refl, arith, subst, sym}
-use Rattle.txn_table.specs.declared.active.Active.{Active}
-use Rattle.txn_table.specs.Entries.{entry_of}
+use Rattle.engine.proofs.Names.{◌≡◌, ◌∙◌, ℕ, Some, ap, rules, refl, arith, subst, sym, AreLocked, Engine, keeps_failed, keeps_weaker, works_answered, stays_honest, entry_is, owes, entry_of, Active}
 use Rattle.engine.proofs.Actives.{ended_was}
-use Rattle.site.proofs.Laws.{stays_honest}
-use Rattle.txn_table.proofs.Owing.{entry_is, owes}
 use Rattle.engine.proofs.Commits.{may_commit, commits_either, committed_fits}
-use Rattle.engine.specs.declared.engine.Engine.{Engine}
-use Rattle.engine.specs.PageTests.{AreLocked}
 use Rattle.engine.proofs.Calling.{does_of, serves_of}
 use Rattle.engine.proofs.FootprintChanges.{locked_ended}
-use Rattle.redo_undo.proofs.StoreCalling.{keeps_failed, keeps_weaker, works_answered}
 use Rattle.engine.proofs.engine.Engine.carry_out_commit.Goals as goal
 
 pub seal_commit-requires-clause-may : goal.seal_commit-requires-clause-may

@@ -1,19 +1,9 @@
-use Rattle.redo_laws.specs.MachineSteps.{one_touch}
-use Rattle.redo_laws.proofs.Asking.{asks_ok}
-use Rattle.std.proofs.Common.{◌≡◌, ◌*◌, ◌<◌, None, refl, sym, ap, ◌∙◌, arith, ◌/◌}
-use Rattle.site.specs.declared.geometry.Geometry.{Geometry}
-use Rattle.site.proofs.Laws.{stays_honest}
-use Rattle.record_model.specs.State as model
-use Rattle.record_model.specs.Step.{found}
-use Rattle.engine.specs.declared.engine.Engine.{Engine}
-use Rattle.engine.specs.Invariant.{sizes_of}
-use Rattle.engine.specs.Representation.{Matches}
+use Rattle.engine.proofs.Names.{◌≡◌, ◌*◌, ◌<◌, None, refl, sym, ap, ◌∙◌, arith, ◌/◌, sizes_of, Matches, Engine, found, asks_ok, one_touch, keeps_failed, keeps_answered, works_answered, performs_failed, performs_answered, stays_honest, Geometry}
 use Rattle.engine.proofs.Meanings.{busy_read_is, got_is}
 use Rattle.engine.proofs.Writes.{touched_fits}
 use Rattle.engine.proofs.Calling.{does_of, serves_still}
-use Rattle.redo_undo.proofs.StoreCalling.{keeps_failed, keeps_answered, works_answered}
+use Rattle.record_model.specs.State as model
 use Rattle.engine.proofs.engine.Engine.carry_out_get.Goals as goal
-use Rattle.ring_machine.proofs.Performing.{performs_failed, performs_answered}
 
 pub returns-in-Ok : goal.returns-in-Ok
 returns-in-Ok g c =

@@ -1,20 +1,11 @@
-use Rattle.redo_laws.specs.MachineSteps.{one_touch}
-use Rattle.redo_laws.proofs.Asking.{asks_ok}
-use Rattle.std.proofs.Common.{◌≡◌, ◌*◌, ◌<◌, None, Some, refl, sym, ap, ◌∙◌, arith, ◌/◌, rules}
-use Rattle.site.specs.declared.geometry.Geometry.{Geometry}
-use Rattle.site.proofs.Laws.{stays_honest}
-use Rattle.record_model.specs.State as model
-use Rattle.engine.specs.declared.engine.Engine.{Engine}
-use Rattle.engine.specs.Invariant.{sizes_of}
-use Rattle.engine.specs.Representation.{Matches}
+use Rattle.engine.proofs.Names.{◌≡◌, ◌*◌, ◌<◌, None, Some, refl, sym, ap, ◌∙◌, arith, ◌/◌, rules, sizes_of, Matches, Engine, asks_ok, one_touch, keeps_failed, keeps_answered, keeps_no_memory, works_answered, performs_answered, performs_failed, performs_refused, stays_honest, Geometry}
 use Rattle.engine.proofs.FootprintChanges.{locked_read}
 use Rattle.engine.proofs.Meanings.{busy_read_is, seen_is}
 use Rattle.engine.proofs.Replies.{has}
 use Rattle.engine.proofs.Writes.{read_fits, touched_fits}
 use Rattle.engine.proofs.Calling.{does_of, serves_still}
-use Rattle.redo_undo.proofs.StoreCalling.{keeps_failed, keeps_answered, keeps_no_memory, works_answered}
+use Rattle.record_model.specs.State as model
 use Rattle.engine.proofs.engine.Engine.carry_out_read.Goals as goal
-use Rattle.ring_machine.proofs.Performing.{performs_answered, performs_failed, performs_refused}
 
 pub returns-in-Ok-add : goal.returns-in-Ok-add
 returns-in-Ok-add g c =

@@ -1,24 +1,10 @@
-use Rattle.std.proofs.Common.{map, List, ◌*◌, ◌≡◌, ℕ, ◌+◌, refl, sym, ap, subst, ◌∙◌, arith, rules, flat_map}
-use Rattle.std.specs.Prelude.{Ok, IsSome, ◌<◌}
-use Rattle.site.specs.declared.geometry.Geometry.{Geometry}
-use Rattle.txn_table.specs.declared.active.Active.{Active}
-use Rattle.txn_table.specs.Entries.{entry_of}
-use Rattle.std.specs.List.{range_with_len}
-use Rattle.record_model.specs.State.{State}
-use Rattle.record_model.specs.Touches.{read_touch}
-use Rattle.engine.specs.Invariant.{sizes_of}
-use Rattle.engine.specs.Representation.{with_reads}
-use Rattle.engine.specs.Leaves.{LeavesTable}
-use Rattle.engine.specs.Scans.{items_seen}
-use Rattle.engine.specs.Calls.{CommandEffect}
+use Rattle.engine.proofs.Names.{map, List, ◌*◌, ◌≡◌, ℕ, ◌+◌, refl, sym, ap, subst, ◌∙◌, arith, rules, flat_map, range_with_len, Ok, IsSome, CommandEffect, sizes_of, LeavesTable, with_reads, items_seen, State, read_touch, asks_same, asks_ok, asks_fails, no_asks, performs_as, performs_answered, performs_refused, performs_stopped, reads, Geometry, entry_of, Active}
+use Rattle.std.specs.Prelude.{◌<◌}
 use Rattle.engine.proofs.Asking.{scan_more, scan_stops, has_group}
 use Rattle.engine.proofs.Scans.{free_at, still_busy, reads_none, reads_more, range_more, items_next}
 use Rattle.engine.proofs.Calling.{does_nothing, does_answered, does_failed, does_then, does_no_memory, late_table, serves_nothing, serves_answered, serves_then, serves_failed, serves_no_memory, still}
-use Rattle.redo_laws.proofs.Asking.{asks_same, asks_ok, asks_fails, no_asks}
-use Rattle.engine.proofs.engine.Engine.carry_out_scan.Goals as goal
-use Rattle.ring_machine.specs.Commands.{reads}
-use Rattle.ring_machine.proofs.Performing.{performs_as, performs_answered, performs_refused, performs_stopped}
 use Rattle.engine.proofs.Performing.{performs_rest, store_then, memory_refuses, reads_one_more, reads_split}
+use Rattle.engine.proofs.engine.Engine.carry_out_scan.Goals as goal
 
 pub loop-offset-init : goal.loop-offset-init
 loop-offset-init g c =

@@ -1,18 +1,6 @@
-use Rattle.std.specs.Prelude.{Ok, flat_map}
-use Rattle.std.proofs.Common.{map, ◌≡◌, ℕ, Some}
-use Rattle.std.specs.List.{range_with_len}
-use Rattle.record_model.specs.State.{State}
-use Rattle.lock_table.specs.Locks.{busy_read}
-use Rattle.engine.specs.Invariant.{sizes_of}
-use Rattle.engine.specs.Representation.{Matches, with_reads}
-use Rattle.engine.specs.Leaves.{LeavesTable}
-use Rattle.engine.specs.Scans.{items_seen}
-use Rattle.record_model.specs.Touches.{read_touch}
-use Rattle.redo_laws.specs.MachineSteps.{StepsMachine}
-use Rattle.engine.specs.Calls.{KeepsUnread, CommandEffect}
+use Rattle.engine.proofs.Names.{map, ◌≡◌, ℕ, Some, range_with_len, Ok, KeepsUnread, CommandEffect, sizes_of, LeavesTable, Matches, with_reads, items_seen, busy_read, State, read_touch, StepsMachine, PerformsStore, reads}
+use Rattle.std.specs.Prelude.{flat_map}
 use Rattle.engine.proofs.engine.Engine.carry_out_scan.Given as goal
-use Rattle.ring_machine.specs.Commands.{reads}
-use Rattle.redo_undo.specs.Mirroring.{PerformsStore}
 
 abbrev pub invariant-loop-offset : goal.invariant-loop-offset
 invariant-loop-offset g l =

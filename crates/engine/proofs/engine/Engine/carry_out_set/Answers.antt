@@ -1,53 +1,18 @@
-use Rattle.site.specs.declared.outside.Dev.TheVariants.{Log}
-use Rattle.redo_laws.specs.MachineSteps.{one_change, one_touch}
+use Rattle.engine.proofs.Names.{List, length, ◌%◌, ◌≡◌, ◌<◌, ◌≤◌, ◌+◌, ◌*◌, ◌++◌, ◌∷◌, [], ◌∙◌, sym, arith, ◌/◌, ℕ, ap, refl, subst, Some, None, same_Some, IfNone, Ok, Err, Result, result_ok, front_of, Invariant, LeavesTable, HasOneWrite, AreLocked, full_for, work_by, Matches, Engine, versions_on, writes_in, Entry, end_of, stages_err, stages_ok, IsStore, PageStore, content_at, Content, State, wants_page_room, Set, Reply, asks_err, asks_ok, asks_then, change_made, change_stopped, one_change, one_touch, works_then, works_answered, keeps_both, keeps_answered, keeps_failed, keeps_then, keeps_weaker, FitsFront, PerformsStore, updates, Keeps, MayGrow, Represents, shown_in, performs_as, performs_answered, performs_stopped, begins, changes, commits as commits_work, reads, RingOp, stays_honest, Site, Geometry, Log, Stop}
 use Rattle.engine.proofs.Asking.{has_group, change_ok}
-use Rattle.std.proofs.Common.{List, length, ◌%◌, ◌≡◌, ◌<◌, ◌≤◌, ◌+◌, ◌*◌, ◌++◌, ◌∷◌, [], ◌∙◌, sym, arith, ◌/◌, ℕ, ap, refl, subst, Some, None}
-use Rattle.std.specs.Prelude.{IfNone, Ok, Err, Option, Result}
-use Rattle.std.specs.Result.{result_ok}
-use Rattle.std.proofs.lemmas.Option.{same_Some}
-use Rattle.site.specs.declared.geometry.Geometry.{Geometry}
-use Rattle.site.specs.State.{State as Site}
-use Rattle.site.proofs.Laws.{stays_honest}
-use Rattle.record_model.specs.State.{content_at, Content, State}
-use Rattle.record_model.specs.Step.{wants_page_room}
-use Rattle.record_model.specs.declared.words.Reply.{Reply}
-use Rattle.log_records.specs.Log.{Entry}
-use Rattle.log_laws.specs.Follow.{writes_in}
-use Rattle.log_store.specs.Representation.{end_of}
-use Rattle.buffer_pool.specs.Frames.{front_of}
-use Rattle.page_store.specs.declared.store.PageStore.{PageStore}
-use Rattle.redo_undo.specs.Fitting.{FitsFront}
-use Rattle.redo_undo.specs.Stores.{MayGrow, Represents, shown_in, sizes_of}
-use Rattle.redo_undo.specs.StoreCalls.{Keeps}
-use Rattle.redo_undo.proofs.StoreCalling.{works_then, works_answered, keeps_both, keeps_answered, keeps_failed, keeps_then, keeps_weaker}
-use Rattle.engine.specs.declared.engine.Engine.{Engine}
-use Rattle.engine.specs.Invariant.{Invariant}
-use Rattle.engine.specs.Leaves.{LeavesTable}
-use Rattle.engine.specs.OneWrite.{HasOneWrite}
-use Rattle.engine.specs.PageTests.{AreLocked, full_for, work_by}
-use Rattle.record_model.specs.declared.words.Command.TheVariants.{Set}
-use Rattle.site.specs.declared.outside.Stop.{Stop}
-use Rattle.engine.specs.Representation.{Matches}
+use Rattle.std.specs.Prelude.{Option}
+use Rattle.redo_undo.specs.Stores.{sizes_of}
 use Rattle.engine.proofs.Settings.{begin_at, update_at, may_begin, may_update, may_commit_one, one_write, set_fits, sets_one}
 use Rattle.engine.proofs.Calling.{early, late_commit, serves_still, serves_stopped, does_of}
 use Rattle.engine.proofs.Meanings.{undoable}
 use Rattle.engine.proofs.PageRooms.{room_begun, shows_same}
 use Rattle.engine.proofs.Tested.{none_fewer, set_reads_first, set_refused, set_written, sets_either}
 use Rattle.engine.proofs.Writes.{touched_fits}
-use Rattle.redo_laws.proofs.Asking.{asks_err, asks_ok, asks_then}
-use Rattle.redo_laws.proofs.AskingUndo.{change_made, change_stopped}
-use Rattle.page_store.proofs.StagingLaws.{stages_err, stages_ok}
 use Rattle.engine.proofs.engine.Engine.carry_out_set.Given.{Over}
 use Rattle.engine.proofs.engine.Engine.carry_out_set.Goals.{In-Ok, In-Ok-begin}
-use Rattle.engine.proofs.engine.Engine.carry_out_set.Goals as goal
-use Rattle.ring_machine.specs.Machine.{RingOp}
-use Rattle.page_store.specs.Representation.{IsStore}
-use Rattle.image_meaning.specs.Meaning.{versions_on}
-use Rattle.record_model.specs.declared.words.Reply.TheVariants as reply
-use Rattle.ring_machine.specs.Commands.{begins, changes, commits as commits_work, reads}
-use Rattle.ring_machine.proofs.Performing.{performs_as, performs_answered, performs_stopped}
-use Rattle.redo_undo.specs.Mirroring.{PerformsStore, updates}
 use Rattle.engine.proofs.Performing.{store_then, set_there}
+use Rattle.engine.proofs.engine.Engine.carry_out_set.Goals as goal
+use Rattle.record_model.specs.declared.words.Reply.TheVariants as reply
 
 -- The page is in front.
 module _ (g : Over) (c : In-Ok g) where

@@ -1,43 +1,15 @@
-use Rattle.site.specs.declared.outside.Dev.TheVariants.{Log}
-use Rattle.site.specs.declared.outside.Stop.TheVariants.{Memory}
+use Rattle.engine.proofs.Names.{◌≡◌, ◌+◌, ◌*◌, ◌<◌, ◌≤◌, ⊎_elim, refl, sym, ap, subst, ◌∙◌, arith, ◌/◌, cases_eq, same_Some, Result, Ok, Err, result_ok, Invariant, sizes_of, Matches, Engine, end_of, stages_err, stages_ok, Content, State, seen, Reply, asks_err, asks_fails, asks_ok, change_made, change_stopped, blocks_to, one_touch, works_then, works_answered, keeps_failed, keeps_answered, keeps_both, keeps_no_memory, updates, Represents, shown_in, performs_as, performs_answered, performs_failed, performs_refused, performs_stopped, stays_honest, goes_in_sequence, Site, Geometry, Log, Stop, Memory, below_wrote, apart_wrote, entry_is, owes, entry_of, Active}
 use Rattle.engine.proofs.Asking.{has_group, change_ok}
-use Rattle.std.proofs.Common.{◌≡◌, ◌+◌, ◌*◌, ◌<◌, ◌≤◌, ⊎_elim, refl, sym, ap, subst, ◌∙◌, arith, ◌/◌}
-use Rattle.std.proofs.lemmas.Option.{same_Some}
-use Rattle.std.proofs.lemmas.Bool.{cases_eq}
-use Rattle.std.specs.Prelude.{Option, Result, Ok, Err}
-use Rattle.site.specs.declared.outside.Stop.{Stop}
-use Rattle.std.specs.Result.{result_ok}
-use Rattle.log_store.specs.Representation.{end_of}
-use Rattle.txn_table.specs.declared.active.Active.{Active}
-use Rattle.txn_table.specs.Entries.{entry_of}
-use Rattle.site.specs.declared.geometry.Geometry.{Geometry}
-use Rattle.site.specs.State.{State as Site}
-use Rattle.site.proofs.Laws.{stays_honest, goes_in_sequence}
-use Rattle.engine.specs.declared.engine.Engine.{Engine}
-use Rattle.engine.specs.Invariant.{Invariant, sizes_of}
-use Rattle.redo_undo.specs.Stores.{Represents, shown_in}
-use Rattle.engine.specs.Representation.{Matches}
-use Rattle.redo_laws.specs.Holding.{blocks_to}
-use Rattle.txn_table.proofs.Owing.{entry_is, owes}
+use Rattle.std.specs.Prelude.{Option}
 use Rattle.engine.proofs.Writes.{touched_fits, may_write, write_fits}
 use Rattle.engine.proofs.FootprintChanges.{locked_wrote, only_own}
 use Rattle.engine.proofs.PageRooms.{written_there}
 use Rattle.engine.proofs.Tested.{asks_either, contract_refused, contract_written, no_fewer, reads_first, work_refused, work_written}
-use Rattle.txn_table.proofs.DistinctBegins.{below_wrote, apart_wrote}
 use Rattle.engine.proofs.Calling.{does_of, serves_of, serves_still, serves_stopped}
-use Rattle.redo_undo.proofs.StoreCalling.{works_then, works_answered, keeps_failed, keeps_answered, keeps_both, keeps_no_memory}
-use Rattle.redo_laws.proofs.Asking.{asks_err, asks_fails, asks_ok}
-use Rattle.redo_laws.proofs.AskingUndo.{change_made, change_stopped}
-use Rattle.redo_laws.specs.MachineSteps.{one_touch}
-use Rattle.page_store.proofs.StagingLaws.{stages_err, stages_ok}
 use Rattle.engine.proofs.engine.Engine.carry_out_write.Given.{Over}
 use Rattle.engine.proofs.engine.Engine.carry_out_write.Goals.{In-Ok}
-use Rattle.engine.proofs.engine.Engine.carry_out_write.Goals as goal
-use Rattle.record_model.specs.State.{Content, State, seen}
-use Rattle.record_model.specs.declared.words.Reply.{Reply}
-use Rattle.ring_machine.proofs.Performing.{performs_as, performs_answered, performs_failed, performs_refused, performs_stopped}
-use Rattle.redo_undo.specs.Mirroring.{updates}
 use Rattle.engine.proofs.Performing.{store_then, seen_there}
+use Rattle.engine.proofs.engine.Engine.carry_out_write.Goals as goal
 
 -- The page is in front.
 module _ (g : Over) (c : In-Ok g) where

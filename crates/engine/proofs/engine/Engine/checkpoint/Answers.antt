@@ -1,8 +1,6 @@
-use Rattle.std.proofs.Common.{refl, arith}
-use Rattle.redo_laws.proofs.Asking.{asks_ok, asks_err}
+use Rattle.engine.proofs.Names.{refl, arith, asks_ok, asks_err, performs_answered, performs_failed}
 use Rattle.engine.proofs.Calling.{does_answered, does_failed}
 use Rattle.engine.proofs.engine.Engine.checkpoint.Goals as goal
-use Rattle.ring_machine.proofs.Performing.{performs_answered, performs_failed}
 
 pub returns-in-Ok-clause-answers : goal.returns-in-Ok-clause-answers
 returns-in-Ok-clause-answers g c s fits = record { reply = refl; asks = asks_ok c.in-Ok.field-0 _ _ _ _ _ _ c.in-Ok.ensures.asks; does = does_answered (c.in-Ok.ensures.does s fits) }

@@ -1,15 +1,8 @@
-use Rattle.std.proofs.Common.{◌≡◌, Bool, true, false, refl, sym, subst, rules, arith, ap}
-use Rattle.std.specs.Prelude.{Ok, Err, [], if◌then◌else◌}
-use Rattle.engine.specs.Invariant.{sizes_of}
-use Rattle.engine.specs.Representation.{checkpointed_if}
-use Rattle.engine.specs.Leaves.{LeavesTable}
-use Rattle.engine.specs.Calls.{CommandEffect}
-use Rattle.redo_laws.specs.MachineSteps.{StepsMachine, checkpoint_works}
+use Rattle.engine.proofs.Names.{◌≡◌, Bool, true, false, refl, sym, subst, rules, arith, ap, Ok, Err, if◌then◌else◌, CommandEffect, sizes_of, LeavesTable, checkpointed_if, StepsMachine, checkpoint_works, performs_as, performs_answered, performs_failed, saves}
+use Rattle.std.specs.Prelude.{[]}
 use Rattle.engine.proofs.Calling.{does_nothing, does_answered, does_failed, serves_nothing, still, asks_rest}
-use Rattle.engine.proofs.engine.Engine.checkpoint_if.Goals as goal
-use Rattle.ring_machine.specs.Commands.{saves}
-use Rattle.ring_machine.proofs.Performing.{performs_as, performs_answered, performs_failed}
 use Rattle.engine.proofs.Performing.{performs_rest}
+use Rattle.engine.proofs.engine.Engine.checkpoint_if.Goals as goal
 
 pub returns-then-not-wanted : goal.returns-then-not-wanted
 returns-then-not-wanted g c =
@@ -51,3 +44,9 @@ pub returns-in-Err-clause-performs : goal.returns-in-Err-clause-performs
 returns-in-Err-clause-performs g c s fits =
     let is : c.args.wanted ≡ true = search rules in
     performs_as (ap (λ (b : Bool). if b then saves else []) is) (performs_failed (c.in-Err.ensures.performs s fits))
+
+pub returns-in-Ok-clause-asks : goal.returns-in-Ok-clause-asks
+returns-in-Ok-clause-asks g c =
+    let is : c.args.wanted ≡ true = search rules in
+    subst (λ (b : Bool). StepsMachine {T = Unit {0}} (Ok tt) (if b then checkpoint_works else []) c.args.self.now.store.pages c.carry_out_checkpoint.new.self.store.pages (g.S.Site.state c.args.site.now) (g.S.Site.state c.carry_out_checkpoint.new.site)) (sym is)
+    c.in-Ok.ensures.asks

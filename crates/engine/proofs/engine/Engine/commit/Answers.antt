@@ -1,25 +1,10 @@
-use Rattle.std.proofs.Common.{◌≡◌, ℕ, Some, refl, sym, ap, subst, ◌∙◌, arith}
-use Rattle.std.specs.Prelude.{Result}
-use Rattle.site.specs.declared.outside.Stop.{Stop}
-use Rattle.site.specs.State.{State as Site}
-use Rattle.record_model.specs.State.{State}
-use Rattle.record_model.specs.Step.{effect}
-use Rattle.record_model.specs.declared.words.Reply.{Reply}
+use Rattle.engine.proofs.Names.{◌≡◌, ℕ, Some, refl, sym, ap, subst, ◌∙◌, arith, Result, CommandEffect, sizes_of, LeavesEither, Matches, IsCarriedOut, Engine, State, effect, Reply, performs_as, Site, Stop, entry_is, entry_of, Active}
 use Rattle.record_model.specs.declared.words.Command.TheVariants.{Commit}
-use Rattle.txn_table.specs.declared.active.Active.{Active}
-use Rattle.txn_table.specs.Entries.{entry_of}
-use Rattle.engine.specs.declared.engine.Engine.{Engine}
-use Rattle.engine.specs.Invariant.{sizes_of}
-use Rattle.engine.specs.Representation.{Matches, IsCarriedOut}
-use Rattle.engine.specs.Leaves.{LeavesEither}
-use Rattle.engine.specs.Calls.{CommandEffect}
 use Rattle.engine.proofs.Actives.{some_active}
-use Rattle.txn_table.proofs.Owing.{entry_is}
 use Rattle.engine.proofs.Replies.{carried_out, wants_active_is, refused_session}
 use Rattle.engine.proofs.Calling.{answered_as, does_nothing, does_weaker, does_failed, asks_rest, early, still}
-use Rattle.engine.proofs.engine.Engine.commit.Goals as goal
-use Rattle.ring_machine.proofs.Performing.{performs_as}
 use Rattle.engine.proofs.Performing.{performs_rest}
+use Rattle.engine.proofs.engine.Engine.commit.Goals as goal
 
 runs : (engine : Engine) (site : Site) (s : State) (n : ℕ) (entry : Active) → Matches engine site s → entry_of engine.active n ≡ Some entry → IsCarriedOut s (Commit n)
 runs engine site s n entry fits at =

@@ -1,6 +1,4 @@
-use Rattle.std.proofs.Common.{[], ◌∷◌, Some, rules, refl}
-use Rattle.record_model.specs.declared.words.Command.TheVariants.{Erase}
-use Rattle.record_model.specs.Step.{first_refusal, may_write, wants_record}
+use Rattle.engine.proofs.Names.{[], ◌∷◌, Some, rules, refl, first_refusal, may_write, wants_record, Erase}
 use Rattle.engine.proofs.Replies.{refused, full_refused, carried_out, has_room, has_record, lacks_record, idle_session, is_active, may_write_is}
 use Rattle.engine.proofs.engine.Engine.erase_refusal.Goals as goal
 

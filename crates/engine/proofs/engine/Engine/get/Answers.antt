@@ -1,8 +1,7 @@
-use Rattle.std.proofs.Common.{refl, arith}
+use Rattle.engine.proofs.Names.{refl, arith, performs_as}
 use Rattle.engine.proofs.Calling.{answered, does_nothing, does_failed, asks_rest, still}
-use Rattle.engine.proofs.engine.Engine.get.Goals as goal
-use Rattle.ring_machine.proofs.Performing.{performs_as}
 use Rattle.engine.proofs.Performing.{performs_rest}
+use Rattle.engine.proofs.engine.Engine.get.Goals as goal
 
 pub returns-in-Some-clause-answers : goal.returns-in-Some-clause-answers
 returns-in-Some-clause-answers g c s fits =

@@ -1,6 +1,4 @@
-use Rattle.std.proofs.Common.{[], ◌∷◌, None, refl, rules}
-use Rattle.record_model.specs.declared.words.Command.TheVariants.{Get}
-use Rattle.record_model.specs.Step.{first_refusal, may_read}
+use Rattle.engine.proofs.Names.{[], ◌∷◌, None, refl, rules, first_refusal, may_read, Get}
 use Rattle.engine.proofs.Replies.{refused, carried_out, has_record, lacks_record, may_read_is}
 use Rattle.engine.proofs.engine.Engine.get_refusal.Goals as goal
 

@@ -1,5 +1,4 @@
-use Rattle.std.proofs.Common.{◌≡◌, ◌/◌, ◌∙◌, rules}
-use Rattle.std.specs.Prelude.{nat_le}
+use Rattle.engine.proofs.Names.{◌≡◌, ◌/◌, ◌∙◌, rules, nat_le}
 use Rattle.engine.proofs.Replies.{due_is}
 use Rattle.engine.proofs.engine.Engine.is_due.Goals as goal
 

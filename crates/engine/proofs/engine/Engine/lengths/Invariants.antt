@@ -1,7 +1,4 @@
-use Rattle.std.proofs.Common.{◌≡◌, ◌<◌, ℕ, length, None}
-use Rattle.std.specs.Prelude.{slice_index_or}
-use Rattle.slotted_page.specs.Layout.{content_length, slots_of}
-use Rattle.buffer_pool.specs.Frames.{front_of}
+use Rattle.engine.proofs.Names.{◌≡◌, ◌<◌, ℕ, length, None, slice_index_or, front_of, content_length, slots_of}
 use Rattle.engine.proofs.engine.Engine.lengths.Given as goal
 
 abbrev pub invariant-loop-slot : goal.invariant-loop-slot

@@ -1,9 +1,4 @@
-use Rattle.std.proofs.Common.{Some, ◌∙◌, sym, ap, subst, refl, arith}
-use Rattle.record_model.specs.Step.{Outcome}
-use Rattle.record_model.specs.declared.words.Command.TheVariants.{Mark}
-use Rattle.txn_table.specs.Entries.{ChangesOnly, after_mark, entry_of}
-use Rattle.txn_table.proofs.Owing.{entry_is}
-use Rattle.engine.specs.Representation.{Matches}
+use Rattle.engine.proofs.Names.{Some, ◌∙◌, sym, ap, subst, refl, arith, Matches, Outcome, Mark, entry_is, ChangesOnly, after_mark, entry_of}
 use Rattle.engine.proofs.Actives.{some_active}
 use Rattle.engine.proofs.Backs.{marked_fits, still_going}
 use Rattle.engine.proofs.Replies.{carried_out, refused_session, wants_active_is}

@@ -1,4 +1,4 @@
-use Rattle.std.proofs.Common.{◌∙◌, ◌/◌, ◌%◌, sym, ap, arith, rules}
+use Rattle.engine.proofs.Names.{◌∙◌, ◌/◌, ◌%◌, sym, ap, arith, rules}
 use Rattle.footprints.specs.Longest.{need}
 use Rattle.engine.proofs.PageRooms.{passes, passes_empty, refuses}
 use Rattle.engine.proofs.engine.Engine.page_refusal.Goals as goal

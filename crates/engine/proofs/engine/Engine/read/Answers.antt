@@ -1,10 +1,7 @@
-use Rattle.std.proofs.Common.{refl, ap, ◌∙◌, arith}
-use Rattle.record_model.specs.Step.{found}
-use Rattle.redo_laws.proofs.Asking.{asks_ok, asks_err}
+use Rattle.engine.proofs.Names.{refl, ap, ◌∙◌, arith, found, asks_ok, asks_err, performs_as, performs_answered, performs_failed}
 use Rattle.engine.proofs.Calling.{answered, does_nothing, does_answered, does_failed, asks_rest, still}
-use Rattle.engine.proofs.engine.Engine.read.Goals as goal
-use Rattle.ring_machine.proofs.Performing.{performs_as, performs_answered, performs_failed}
 use Rattle.engine.proofs.Performing.{performs_rest}
+use Rattle.engine.proofs.engine.Engine.read.Goals as goal
 
 pub returns-in-Some-clause-answers : goal.returns-in-Some-clause-answers
 returns-in-Some-clause-answers g c s fits =

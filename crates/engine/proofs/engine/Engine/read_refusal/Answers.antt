@@ -1,8 +1,5 @@
+use Rattle.engine.proofs.Names.{◌∙◌, [], ◌∷◌, Some, refl, sym, rules, first_refusal, may_read, wants_record, Read, entry_is}
 use Rattle.record_model.proofs.SerialLocks.{no_holder}
-use Rattle.std.proofs.Common.{◌∙◌, [], ◌∷◌, Some, refl, sym, rules}
-use Rattle.record_model.specs.declared.words.Command.TheVariants.{Read}
-use Rattle.txn_table.proofs.Owing.{entry_is}
-use Rattle.record_model.specs.Step.{first_refusal, may_read, wants_record}
 use Rattle.engine.proofs.Replies.{refused, carried_out, has_record, lacks_record, idle_session, is_active, has, may_read_is}
 use Rattle.engine.proofs.engine.Engine.read_refusal.Goals as goal
 

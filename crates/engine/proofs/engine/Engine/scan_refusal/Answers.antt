@@ -1,11 +1,6 @@
-use Rattle.std.proofs.Common.{◌≡◌, ◌∙◌, ◌+◌, ◌-◌, ◌*◌, ◌≤◌, ◌<◌, ◌^◌, ◌∷◌, map, None, Some, refl, sym, rules, arith}
-use Rattle.std.specs.List.{range_with_len}
-use Rattle.record_model.specs.Step.{first_refusal, may_read, wants_record}
-use Rattle.record_model.specs.declared.words.Command.TheVariants.{Scan}
-use Rattle.engine.specs.Invariant.{sizes_of}
+use Rattle.engine.proofs.Names.{◌≡◌, ◌∙◌, ◌+◌, ◌-◌, ◌*◌, ◌≤◌, ◌<◌, ◌^◌, ◌∷◌, map, None, Some, refl, sym, rules, arith, range_with_len, sizes_of, first_refusal, may_read, wants_record, Scan, entry_is}
 use Rattle.engine.proofs.Replies.{refused, carried_out, has_record, lacks_record, idle_session, is_active, has}
 use Rattle.engine.proofs.Scans.{busy_is, past_all}
-use Rattle.txn_table.proofs.Owing.{entry_is}
 use Rattle.engine.proofs.engine.Engine.scan_refusal.Goals as goal
 
 pub returns-clause-may : goal.returns-clause-may

@@ -1,7 +1,5 @@
-use Rattle.site.specs.declared.outside.Dev.TheVariants.{Log}
-use Rattle.redo_undo.proofs.StoreCalling.{keeps_answered, keeps_failed}
+use Rattle.engine.proofs.Names.{keeps_answered, keeps_failed, performs_answered, performs_failed, Log}
 use Rattle.engine.proofs.engine.Engine.seal_commit.Goals as goal
-use Rattle.ring_machine.proofs.Performing.{performs_answered, performs_failed}
 
 pub returns-in-Ok-clause-holds : goal.returns-in-Ok-clause-holds
 returns-in-Ok-clause-holds g c newest records table commits h may = (c.in-Ok.field-0, c.in-Ok.ensures.holds newest records table commits h may)

@@ -1,15 +1,4 @@
-use Rattle.std.proofs.Common.{◌≡◌, ◌<◌, ◌*◌, None, true, false, refl, sym, subst, rules, List}
-use Rattle.site.specs.declared.geometry.Geometry.{Geometry}
-use Rattle.record_model.specs.declared.words.Command.TheVariants.{Set}
-use Rattle.lock_table.specs.declared.lock.Lock.{Lock}
-use Rattle.lock_table.specs.Locks.{busy_write}
-use Rattle.ring_machine.proofs.Performing.{performs_as}
-use Rattle.engine.specs.Invariant.{sizes_of}
-use Rattle.engine.specs.Representation.{checkpointed_if}
-use Rattle.engine.specs.Leaves.{LeavesEither}
-use Rattle.redo_laws.proofs.Asking.{asks_same}
-use Rattle.record_model.specs.Step.{fills_page}
-use Rattle.engine.specs.PageTests.{touches_by}
+use Rattle.engine.proofs.Names.{◌≡◌, ◌<◌, ◌*◌, None, true, false, refl, sym, subst, rules, List, sizes_of, LeavesEither, touches_by, checkpointed_if, busy_write, Lock, fills_page, Set, asks_same, performs_as, Geometry}
 use Rattle.engine.proofs.Replies.{full_is, has_room, touched_as, worked_as}
 use Rattle.engine.proofs.Calling.{serves_then, serves_failed, serves_ended, serves_nothing, refused_as, first_then, first_failed, contract_ended, does_nothing, does_weaker, asks_rest, early, late_either, still}
 use Rattle.engine.proofs.Performing.{performs_rest, performs_first, performs_unmade}

@@ -1,6 +1,4 @@
-use Rattle.std.proofs.Common.{[], ◌∷◌, None, rules}
-use Rattle.record_model.specs.declared.words.Command.TheVariants.{Set}
-use Rattle.record_model.specs.Step.{first_refusal, may_write, wants_short}
+use Rattle.engine.proofs.Names.{[], ◌∷◌, None, rules, first_refusal, may_write, wants_short, Set}
 use Rattle.engine.proofs.Replies.{refused, has_record, lacks_record, is_short, is_long, may_write_is}
 use Rattle.engine.proofs.engine.Engine.set_refusal.Goals as goal
 

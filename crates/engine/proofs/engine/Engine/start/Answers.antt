@@ -1,12 +1,8 @@
+use Rattle.engine.proofs.Names.{◌∙◌, refl, ap, rules, ends_failed, ends_answered, ends_no_memory, performs_answered, performs_failed, performs_refused, stays_honest, Geometry}
 use Rattle.engine.proofs.Asking.{from_other, from_other_fails}
-use Rattle.std.proofs.Common.{◌∙◌, refl, ap, rules}
-use Rattle.site.proofs.Laws.{stays_honest}
-use Rattle.site.specs.declared.geometry.Geometry.{Geometry}
-use Rattle.redo_laws.proofs.Endings.{ends_failed, ends_answered, ends_no_memory}
 use Rattle.engine.proofs.Starts.{started, unheld}
 use Rattle.engine.proofs.RestartedUnits.{next_as, next_at_end, next_no_memory}
 use Rattle.engine.proofs.RingCounts.{restart_again, restart_stopped, restart_answered}
-use Rattle.ring_machine.proofs.Performing.{performs_answered, performs_failed, performs_refused}
 use Rattle.engine.proofs.Performing.{memory_refuses}
 use Rattle.engine.proofs.engine.Engine.start.Goals as goal
 

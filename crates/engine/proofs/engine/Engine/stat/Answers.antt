@@ -1,8 +1,7 @@
-use Rattle.std.proofs.Common.{◌≡◌, ◌∙◌, arith}
-use Rattle.record_model.specs.declared.words.Reply.TheVariants as reply
-use Rattle.record_model.specs.State.{used}
+use Rattle.engine.proofs.Names.{◌≡◌, ◌∙◌, arith, used}
 use Rattle.engine.proofs.Replies.{owed_same}
 use Rattle.engine.proofs.Stats.{active_same}
+use Rattle.record_model.specs.declared.words.Reply.TheVariants as reply
 use Rattle.engine.proofs.engine.Engine.stat.Goals as goal
 
 pub returns : goal.returns

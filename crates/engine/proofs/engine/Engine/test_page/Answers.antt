@@ -1,4 +1,4 @@
-use Rattle.std.proofs.Common.{◌∙◌, sym, true≢false}
+use Rattle.engine.proofs.Names.{◌∙◌, sym, true≢false}
 use Rattle.engine.proofs.PageRooms.{fits_front}
 use Rattle.engine.proofs.engine.Engine.test_page.Goals as goal
 

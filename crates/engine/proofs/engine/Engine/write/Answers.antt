@@ -1,12 +1,7 @@
-use Rattle.std.proofs.Common.{subst, sym, Some, ap, ◌∙◌, refl, ℕ}
-use Rattle.engine.specs.Permits.{MayWrite}
-use Rattle.txn_table.specs.Entries.{entry_of}
-use Rattle.txn_table.proofs.Owing.{entry_is}
+use Rattle.engine.proofs.Names.{subst, sym, Some, ap, ◌∙◌, refl, ℕ, full_for, work_by, write_by, MayWrite, performs_as, entry_is, entry_of}
 use Rattle.engine.proofs.Calling.{answered, answered_tested, as_written, contract_ended, does_nothing, asks_rest, still}
-use Rattle.engine.proofs.engine.Engine.write.Goals as goal
-use Rattle.engine.specs.PageTests.{full_for, work_by, write_by}
-use Rattle.ring_machine.proofs.Performing.{performs_as}
 use Rattle.engine.proofs.Performing.{performs_rest}
+use Rattle.engine.proofs.engine.Engine.write.Goals as goal
 
 pub carry_out_write-requires-clause-active : goal.carry_out_write-requires-clause-active
 carry_out_write-requires-clause-active g c =

@@ -1,6 +1,5 @@
-use Rattle.std.proofs.Common.{[], ◌∷◌, Some, rules, refl}
+use Rattle.engine.proofs.Names.{[], ◌∷◌, Some, rules, refl, first_refusal, may_write, wants_record, wants_short}
 use Rattle.record_model.specs.declared.words.Command.TheVariants.{Write}
-use Rattle.record_model.specs.Step.{first_refusal, may_write, wants_record, wants_short}
 use Rattle.engine.proofs.Replies.{refused, full_refused, tested_last, has_room, has_record, lacks_record, idle_session, is_short, is_long, is_active, may_write_is}
 use Rattle.engine.proofs.engine.Engine.write_refusal.Goals as goal
 

@@ -1,13 +1,4 @@
-use Rattle.std.proofs.Common.{◌≡◌, Bool, refl, ◌∙◌, ap, sym, subst, rules}
-use Rattle.std.specs.Prelude.{◌^◌}
-use Rattle.site.proofs.Laws.{stays_honest}
-use Rattle.site.proofs.Working.{no_error}
-use Rattle.sealed_ring.specs.declared.slots.Shape.{Shape}
-use Rattle.sealed_ring.specs.declared.ring.Ring.{Ring}
-use Rattle.sealed_ring.specs.Ring.{SameOutside}
-use Rattle.sealed_ring.specs.Ready.{region}
-use Rattle.second_chance.specs.Queue.{pushed}
-use Rattle.flash_directory.specs.Heads.{frames_in}
+use Rattle.flash_cache.proofs.Names.{◌≡◌, Bool, refl, ◌∙◌, ap, sym, subst, rules, ◌^◌, frames_in, region, SameOutside, Ring, Shape, pushed, stays_honest, no_error}
 use Rattle.flash_cache.proofs.NextSegments.{segments_beside, spent_at_end}
 use Rattle.flash_cache.proofs.Pushing.{goes_on_same, goes_on_pushed, full_is, ring_found, fits_again, append_is}
 use Rattle.flash_cache.proofs.cache.FlashCache.append.Goals as goal

@@ -1,8 +1,4 @@
-use Rattle.std.proofs.Common.{◌+◌, ◌*◌, ℕ, take, drop, sym, ◌∙◌, ap}
-use Rattle.std.proofs.lemmas.List.{length-replicate}
-use Rattle.sealed_ring.specs.declared.slots.Shape.{Shape}
-use Rattle.sealed_ring.specs.Ring.{hi_of, units_of, unit_at}
-use Rattle.sealed_ring.specs.Ready.{region, Matches as RingFits}
+use Rattle.flash_cache.proofs.Names.{◌+◌, ◌*◌, ℕ, take, drop, sym, ◌∙◌, ap, length-replicate, region, RingFits, hi_of, units_of, unit_at, Shape}
 use Rattle.flash_cache.proofs.Fetching.{page_fetched, goes_on_marked, goes_on_ended, holds_marked}
 use Rattle.flash_cache.proofs.cache.FlashCache.fetch.Goals as goal
 

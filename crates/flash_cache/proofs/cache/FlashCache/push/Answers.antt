@@ -1,32 +1,9 @@
-use Rattle.std.specs.Prelude.{Ok, IsTrue}
-use Rattle.site.proofs.Working.{no_error}
-use Rattle.std.proofs.Common.{rules, refl, [], length, ◌≡◌, ◌≢◌, ◌≤◌, ◌<◌, ◌++◌, ℕ, List, map, ◌∙◌, sym, ap, subst, arith}
-use Rattle.std.proofs.lemmas.Result.{on_ok_weaker}
-use Rattle.std.specs.List.{All, AllPairs, AllByRecursion}
-use Rattle.site.specs.declared.outside.Dev.TheVariants.{Flash, Disk}
-use Rattle.site.specs.State.{State, Image, Loose}
-use Rattle.sealed_ring.specs.Ring.{unit_at}
-use Rattle.sealed_ring.specs.Ready.{units_in, Matches as RingFits}
-use Rattle.byte_fields.specs.FrameHeads.{AreGroupHeads}
-use Rattle.site.proofs.Laws.{stays_honest, untouched_in_sequence}
-use Rattle.site.specs.Moments.{LeavesOnly, SameAt}
-use Rattle.image_changes.specs.Changes.{Reaches}
-use Rattle.stage_out.specs.Staged.{HasStaged, calls_of}
-use Rattle.frame_group.specs.Groups.{Frame, IsFrame, heads_of}
-use Rattle.frame_group.specs.Groups.{group as spelled}
-use Rattle.frame_group.proofs.Front.{heads_are_group}
-use Rattle.flash_cache.specs.Representation.{PagesExist, Matches, Represents, HasFrames}
-use Rattle.flash_cache.specs.Leaving.{again, page_at, frames_with, IsMadeOf}
-use Rattle.flash_cache.specs.declared.leaving.DepartingFrames.{DepartingFrames}
+use Rattle.flash_cache.proofs.Names.{rules, refl, [], length, ◌≡◌, ◌≢◌, ◌≤◌, ◌<◌, ◌++◌, ℕ, List, map, ◌∙◌, sym, ap, subst, arith, on_ok_weaker, All, AllPairs, AllByRecursion, Ok, IsTrue, AreGroupHeads, again, page_at, frames_with, IsMadeOf, staged_marks, staged_pages, staged_contents, frames_given, frames_pushed, pushed_queue, changes_of_push, LeavesPush, PagesExist, Matches, Represents, HasFrames, FlashCache, DepartingFrames, heads_are_group, Frame, IsFrame, heads_of, group as spelled, Reaches, units_in, RingFits, unit_at, stays_honest, untouched_in_sequence, no_error, LeavesOnly, SameAt, State, Image, Loose, Flash, Disk, HasStaged, calls_of, unsynced_in, gaps_unchanged, gaps_then, group_exists}
 use Rattle.flash_cache.specs.declared.making.NewGroup.{NewGroup}
 use Rattle.flash_cache.specs.declared.making.PagesToPush.{PagesToPush}
-use Rattle.flash_cache.specs.declared.cache.FlashCache.{FlashCache}
-use Rattle.flash_cache.specs.Pushed.{staged_marks, staged_pages, staged_contents, frames_given, frames_pushed, pushed_queue, changes_of_push, LeavesPush}
 use Rattle.flash_cache.proofs.Heads.{heads_make}
-use Rattle.tail_rebuild.proofs.Standing.{group_exists}
 use Rattle.flash_cache.proofs.NextSegments.{next_elsewhere, next_then}
 use Rattle.flash_cache.proofs.Staging.{goes_on_later, fits_read, pages_read, read_untouched, pages_in_sequence, none_pushed, pushed_since}
-use Rattle.tail_rebuild.proofs.Save.{gaps_unchanged, gaps_then}
 use Rattle.flash_cache.proofs.StagedMarks.{places_inside, reads_few, leaving_few, front_live, leaving_some, staged_numbered, staged_among, chances_among, pages_apart, marks_exist}
 use Rattle.flash_cache.proofs.StagedContents.{pages_are, contents_are, dirty_long, contents_long, all_long, again_is, group_has, group_known, pushed_has, with_parts}
 use Rattle.flash_cache.proofs.Pushing.{ring_found}
@@ -290,6 +267,15 @@ returns-clause-device_calls g c honest =
     let items : c.as_slice-pages.result.now ≡ c.in-Ok.both.0.pages.items = search rules in
     let calls = ap calls_of (items ∙ numbers g s) in
     on_ok_weaker c.write.result (λ wrote. omega (arith, same, calls, wrote)) (c.write.ensures.device_calls (still_honest g s honest))
+
+pub returns-clause-unsynced : goal.returns-clause-unsynced
+returns-clause-unsynced g c honest settled =
+    let s = (goal.at.returns-clause-unsynced g c).In-Ok in
+    let same = c.frames_leaving.ensures.reads.same honest in
+    let items : c.as_slice-pages.result.now ≡ c.in-Ok.both.0.pages.items = search rules in
+    let calls = ap calls_of (items ∙ numbers g s) in
+    let before = ap unsynced_in same.past in
+    on_ok_weaker c.write.result (λ wrote. omega (arith, before, calls, wrote)) (c.write.ensures.unsynced (still_honest g s honest) (ap (λ (l : Loose). l.disk) same.loose ∙ settled))
 
 pub returns-clause-keeps : goal.returns-clause-keeps
 returns-clause-keeps g c =

@@ -1,23 +1,12 @@
-use Rattle.std.proofs.Common.{List, true, arith, refl, rules}
-use Rattle.site.specs.declared.outside.Dev.TheVariants.{Flash, Disk}
-use Rattle.site.specs.State.{State, IsQuiet}
-use Rattle.site.proofs.Laws.{others_untouched, untouched_in_sequence, stays_honest}
-use Rattle.site.proofs.Working.{err_again}
-use Rattle.frame_group.specs.Groups.{Frame, group}
-use Rattle.flash_cache.specs.declared.cache.FlashCache.{FlashCache}
-use Rattle.flash_cache.specs.Pushed.{frames_pushed}
-use Rattle.flash_cache.specs.Representation.{HasGroups, HasFrames, Matches, Represents}
+use Rattle.flash_cache.proofs.Names.{List, true, arith, refl, rules, ◌∙◌, frames_pushed, HasGroups, HasFrames, Matches, Represents, FlashCache, Frame, group, others_untouched, untouched_in_sequence, stays_honest, err_again, Leaves, SameAt, State, IsQuiet, Flash, Disk, unsynced_untouched, gaps_then, LeavesGaps}
 use Rattle.flash_cache.proofs.StagedContents.{pushed_has, given_few}
 use Rattle.flash_cache.proofs.Staging.{pages_changed, pages_in_sequence}
-use Rattle.tail_rebuild.specs.Saving.{LeavesGaps}
-use Rattle.tail_rebuild.proofs.Save.{gaps_then}
 use Rattle.flash_cache.proofs.Pushing.{ring_found}
 use Rattle.flash_cache.proofs.NextSegments.{next_answered, next_then, next_saved}
 use Rattle.flash_cache.proofs.SavedFirst.{IsBehind, stands_there, goes_on_saved, segments_found, fits_behind, is_behind, moment_behind, reaches_behind, staged_behind, failed_moment}
 use Rattle.flash_cache.proofs.PushedOutcome.{pushes_group}
 use Rattle.flash_cache.proofs.LastStaged.{leaves_groups, staged_last}
 use Rattle.flash_cache.proofs.SomeMoments.{some_behind, some_weaker}
-use Rattle.site.specs.Moments.{Leaves, SameAt}
 use Rattle.flash_cache.proofs.cache.FlashCache.push_group.Given.{Over}
 use Rattle.flash_cache.proofs.cache.FlashCache.push_group.Goals.{After-heads_given-heads, In_default}
 use Rattle.flash_cache.proofs.cache.FlashCache.push_group.Goals as goal
@@ -159,6 +148,15 @@ returns-clause-device_calls g c honest =
     let saved = c.in_default.ensures.device_calls honest in
     let pushed = c.in_default-push.ensures.device_calls (stays_honest (g.S.Site.state c.args.site.now) (g.S.Site.state c.save_due.new.site) c.save_due.ensures.preserves honest) in
     omega (arith, saved, pushed)
+
+pub returns-clause-unsynced : goal.returns-clause-unsynced
+returns-clause-unsynced g c honest settled =
+    let old = g.S.Site.state c.args.site.now in
+    let mid = g.S.Site.state c.save_due.new.site in
+    let same = others_untouched Flash Disk old mid (λ h. cc) (c.save_due.ensures.changes honest).only in
+    let still = unsynced_untouched old mid settled same in
+    let pushed = c.in_default-push.ensures.unsynced (stays_honest old mid c.save_due.ensures.preserves honest) (same.now.loose ∙ settled) in
+    omega (arith, still, pushed)
 
 pub returns-in-Err-clause-keeps : goal.returns-in-Err-clause-keeps
 returns-in-Err-clause-keeps g c = record {

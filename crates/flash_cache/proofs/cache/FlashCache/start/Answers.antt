@@ -1,21 +1,6 @@
-use Rattle.std.proofs.Common.{◌≡◌, List, map, false, sym, ◌∙◌, ap, subst, arith, rules}
-use Rattle.std.specs.List.{All}
-use Rattle.site.specs.State.{Image}
-use Rattle.site.proofs.Laws.{stays_honest}
-use Rattle.sealed_ring.specs.declared.slots.Shape.{Shape}
-use Rattle.sealed_ring.specs.Ring.{IsRing, hi_of}
-use Rattle.sealed_ring.specs.Ready.{region}
-use Rattle.byte_fields.specs.declared.frame_head.FrameHead.{FrameHead}
-use Rattle.byte_fields.specs.FrameHeads.{AreGroupHeads}
-use Rattle.image_changes.specs.Rings.{group_shape, segment_shape}
-use Rattle.second_chance.specs.Queue.{Queue}
-use Rattle.flash_directory.specs.Heads.{frames_in}
-use Rattle.tail_rebuild.proofs.Standing.{first_is}
-use Rattle.flash_cache.specs.declared.cache.FlashCache.{FlashCache}
-use Rattle.flash_cache.specs.Representation.{HasGroups, AreSaved, Invariant, Represents}
+use Rattle.flash_cache.proofs.Names.{◌≡◌, List, map, false, sym, ◌∙◌, ap, subst, arith, rules, All, AreGroupHeads, FrameHead, HasGroups, AreSaved, Invariant, Represents, FlashCache, frames_in, group_shape, segment_shape, region, IsRing, hi_of, Shape, Queue, stays_honest, lengths_later, Image, first_is}
 use Rattle.flash_cache.proofs.Queues.{err_again}
 use Rattle.flash_cache.proofs.Standing.{known_groups, all_shown, sizes_known, exist_known, length-mapped}
-use Rattle.site.proofs.Working.{lengths_later}
 use Rattle.flash_cache.proofs.cache.FlashCache.start.Goals as goal
 
 pub of_groups-requires-clause-groups : goal.of_groups-requires-clause-groups

@@ -1,20 +1,7 @@
-use Rattle.std.specs.Prelude.{Ok, slice_index}
-use Rattle.std.proofs.Common.{inl, rules, refl, ◌≡◌, ◌≤◌, ◌∷◌, List, [], ℕ, length, arith, sym, ap, subst}
-use Rattle.std.proofs.lemmas.Result.{on_ok_weaker}
-use Rattle.std_lemmas.proofs.Results.{on_ok}
-use Rattle.site.specs.declared.outside.Dev.TheVariants.{Flash, Disk}
-use Rattle.site.specs.declared.geometry.Geometry.{Geometry}
-use Rattle.site.specs.State.{State, IsQuiet, MayStand}
-use Rattle.site.proofs.Working.{no_error}
-use Rattle.site.proofs.Laws.{each_weaker, leaves_weaker, untouched_leaves, settled_is, stays_honest, others_untouched, quiet_settled}
-use Rattle.site.specs.Moments.{OnlyDevice, SameAt, SameBut, Untouched}
-use Rattle.stage_out.specs.Staged.{HasStaged, calls_of}
-use Rattle.tail_rebuild.specs.Saving.{LeavesGaps}
-use Rattle.tail_rebuild.proofs.Save.{gaps_then, gaps_appended}
+use Rattle.flash_cache.proofs.Names.{inl, rules, refl, ◌≡◌, ◌∙◌, ◌≤◌, ◌∷◌, List, [], ℕ, length, arith, sym, ap, subst, on_ok_weaker, Ok, slice_index, each_weaker, leaves_weaker, untouched_leaves, settled_is, stays_honest, others_untouched, quiet_settled, no_error, lengths_later, ok_as, OnlyDevice, SameAt, SameBut, Untouched, State, IsQuiet, MayStand, Geometry, Flash, Disk, unsynced_untouched, HasStaged, calls_of, on_ok, gaps_then, gaps_appended, LeavesGaps}
 use Rattle.flash_cache.proofs.PushLaws.{push_leaves, stage_only}
 use Rattle.flash_cache.proofs.NextSegments.{next_elsewhere, next_then}
 use Rattle.flash_cache.proofs.Staging.{goes_on_later, fits_on, pages_changed, pages_in_sequence, all_made}
-use Rattle.site.proofs.Working.{lengths_later, ok_as}
 use Rattle.flash_cache.proofs.SomeMoments.{some_first, some_of}
 use Rattle.flash_cache.proofs.cache.FlashCache.write.Goals as goal
 
@@ -120,6 +107,14 @@ pub returns-clause-device_calls : goal.returns-clause-device_calls
 returns-clause-device_calls g c honest =
     let first = c.in_default.ensures.calls honest in
     ok_as c.append.result _ _ (λ more. omega (arith, first, more)) (c.append.ensures.device_calls (stays_honest (g.S.Site.state c.args.site.now) (g.S.Site.state c.stage.new.site) c.stage.ensures.writes.preserves honest))
+
+pub returns-clause-unsynced : goal.returns-clause-unsynced
+returns-clause-unsynced g c honest settled =
+    let mid = g.S.Site.state c.stage.new.site in
+    let new = g.S.Site.state c.append.new.site in
+    let later = stays_honest (g.S.Site.state c.args.site.now) mid c.stage.ensures.writes.preserves honest in
+    let still = unsynced_untouched mid new (c.in_default.ensures.settled honest settled) (others_untouched Flash Disk mid new (λ h. cc) (c.append.ensures.changes later).only) in
+    on_ok c.append.result _ (still ∙ c.in_default.ensures.unsynced honest)
 
 pub returns-in-Err-clause-keeps : goal.returns-in-Err-clause-keeps
 returns-in-Err-clause-keeps g c = record {

@@ -1,8 +1,4 @@
-use Rattle.std.proofs.Common.{◌≡◌, ◌+◌, ◌↔◌, IsTrue, false, ℕ, List, Some, get_or, set, take, drop, arith, sym, ap, subst, ◌∙◌}
-use Rattle.std.proofs.Math.ListN.{length-set}
-use Rattle.second_chance.specs.declared.frame.Frame.{Frame}
-use Rattle.second_chance.specs.Queue.{Queue, mark_of, group_marks}
-use Rattle.flash_directory.specs.Heads.{newest, place_in}
+use Rattle.flash_directory.proofs.Names.{◌≡◌, ◌+◌, ◌↔◌, IsTrue, false, ℕ, List, Some, get_or, set, take, drop, arith, sym, ap, subst, ◌∙◌, length-set, newest, place_in, Queue, mark_of, group_marks, Frame}
 use Rattle.flash_directory.proofs.Marked.{marks_more, marks_at, marks_all}
 use Rattle.flash_directory.proofs.Keeping.{valid_at}
 use Rattle.flash_directory.proofs.directory.Directory.marks.Goals as goal

@@ -1,5 +1,4 @@
-use Rattle.std.proofs.Common.{◌≡◌, ◌+◌, length, take, drop}
-use Rattle.second_chance.specs.Queue.{group_marks}
+use Rattle.flash_directory.proofs.Names.{◌≡◌, ◌+◌, length, take, drop, group_marks}
 use Rattle.flash_directory.proofs.directory.Directory.marks.Given as goal
 
 abbrev pub invariant-loop-index : goal.invariant-loop-index

@@ -1,6 +1,4 @@
-use Rattle.std.proofs.Common.{is_some, ap, sym, subst, ◌∙◌}
-use Rattle.second_chance.specs.Queue.{Queue}
-use Rattle.flash_directory.specs.Heads.{IsQueue, newest}
+use Rattle.flash_directory.proofs.Names.{is_some, ap, sym, subst, ◌∙◌, IsQueue, newest, Queue}
 use Rattle.flash_directory.proofs.Keeping.{some_newest, newest_at}
 use Rattle.flash_directory.proofs.directory.Directory.newest.Goals as goal
 

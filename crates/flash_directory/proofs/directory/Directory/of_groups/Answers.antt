@@ -1,8 +1,4 @@
-use Rattle.std.proofs.Common.{ℕ, ◌+◌, ◌++◌, ◌∷◌, [], nat_eq, length, length-append, arith, ap, sym, ◌∙◌}
-use Rattle.std.specs.Map.{lookup}
-use Rattle.indexmap.specs.IndexMap.{get}
-use Rattle.flash_directory.specs.Heads.{last_among}
-use Rattle.flash_directory.specs.Places.{newer}
+use Rattle.flash_directory.proofs.Names.{ℕ, ◌+◌, ◌++◌, ◌∷◌, [], nat_eq, length, length-append, arith, ap, sym, ◌∙◌, lookup, last_among, newer, get}
 use Rattle.flash_directory.proofs.Keeping.{places_pushed}
 use Rattle.flash_directory.proofs.Opened.{queue_of_heads, map_more}
 use Rattle.flash_directory.proofs.directory.Directory.of_groups.Goals as goal

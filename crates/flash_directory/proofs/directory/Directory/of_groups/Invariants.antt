@@ -1,6 +1,4 @@
-use Rattle.std.proofs.Common.{◌≡◌, length, take, map}
-use Rattle.flash_directory.specs.Heads.{frames_in}
-use Rattle.flash_directory.specs.Places.{FindsNewest}
+use Rattle.flash_directory.proofs.Names.{◌≡◌, length, take, map, frames_in, FindsNewest}
 use Rattle.flash_directory.proofs.directory.Directory.of_groups.Given as goal
 
 abbrev pub invariant-loop-index : goal.invariant-loop-index

@@ -1,9 +1,4 @@
-use Rattle.std.proofs.Common.{ℕ, ◌≡◌, ◌+◌, ◌^◌, ◌≤◌, List, nat_eq, length, arith, ap, sym, subst, ◌∙◌}
-use Rattle.std.specs.Map.{lookup}
-use Rattle.indexmap.specs.IndexMap.{get}
-use Rattle.second_chance.specs.declared.frame.Frame.{Frame}
-use Rattle.second_chance.specs.Queue.{Queue}
-use Rattle.flash_directory.specs.Heads.{frames_in, last_among, newest}
+use Rattle.flash_directory.proofs.Names.{ℕ, ◌≡◌, ◌+◌, ◌^◌, ◌≤◌, List, nat_eq, length, arith, ap, sym, subst, ◌∙◌, lookup, frames_in, last_among, newest, get, Queue, Frame}
 use Rattle.flash_directory.proofs.Keeping.{places_pushed}
 use Rattle.flash_directory.proofs.Opened.{queue_pushed, size_of_heads}
 use Rattle.flash_directory.proofs.directory.Directory.push_group.Goals as goal

@@ -1,5 +1,4 @@
-use Rattle.std.proofs.Common.{◌+◌, ◌++◌, drop, arith, ap, ◌∙◌, sym}
-use Rattle.flash_directory.specs.Heads.{frames_in}
+use Rattle.flash_directory.proofs.Names.{◌+◌, ◌++◌, drop, arith, ap, ◌∙◌, sym, frames_in}
 use Rattle.flash_directory.proofs.Frames.{frames_more}
 use Rattle.flash_directory.proofs.group.Group.of_heads.Goals as goal
 

@@ -1,5 +1,4 @@
-use Rattle.std.proofs.Common.{◌≡◌, ◌++◌, length, drop}
-use Rattle.flash_directory.specs.Heads.{frames_in}
+use Rattle.flash_directory.proofs.Names.{◌≡◌, ◌++◌, length, drop, frames_in}
 use Rattle.flash_directory.proofs.group.Group.of_heads.Given as goal
 
 abbrev pub invariant-loop-head : goal.invariant-loop-head

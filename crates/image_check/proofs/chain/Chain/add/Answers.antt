@@ -1,9 +1,6 @@
-use Rattle.std.proofs.Common.{ℕ, ◌-◌, ◌≡◌, ◌∷◌, ◌++◌, [], true, false, refl, sym, ap, ◌∙◌}
+use Rattle.image_check.proofs.Names.{ℕ, ◌-◌, ◌≡◌, ◌∷◌, ◌++◌, [], true, false, refl, sym, ap, ◌∙◌, reverse-append, goes_well, is_update}
 use Rattle.std.specs.Prelude.{reverse, drop, take}
-use Rattle.std.proofs.lemmas.List.{reverse-append}
-use Rattle.log_records.specs.Log.{is_update}
 use Rattle.image_check.proofs.ChainOnes.{popped_is, kept_update, kept_clr}
-use Rattle.image_check.proofs.Walking.{goes_well}
 use Rattle.image_check.proofs.chain.Chain.add.Goals as goal
 
 pub returns-then-not-updates : goal.returns-then-not-updates

@@ -1,9 +1,4 @@
-use Rattle.std.proofs.Common.{ℕ, ◌+◌, ◌*◌, nat_eq, ap, ◌∙◌, sym, subst}
-use Rattle.indexmap.specs.IndexMap.{get}
-use Rattle.log_records.specs.declared.log_record.LogRecord.{LogRecord}
-use Rattle.log_records.specs.Log.{is_update, number_of, before_of}
-use Rattle.log_records.specs.Unfinished.{prev_of}
-use Rattle.image_check.specs.Showing.{IsAs}
+use Rattle.image_check.proofs.Names.{ℕ, ◌+◌, ◌*◌, nat_eq, ap, ◌∙◌, sym, subst, IsAs, get, is_update, number_of, before_of, prev_of, LogRecord}
 use Rattle.image_check.proofs.ChainOnes.{update_goes_on, update_begins}
 use Rattle.image_check.proofs.chain.Chain.continues.Goals as goal
 

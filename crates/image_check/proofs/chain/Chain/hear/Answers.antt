@@ -1,10 +1,6 @@
-use Rattle.std.proofs.Common.{◌≡◌, List, true, true≢false, sym, subst, ◌∙◌}
+use Rattle.image_check.proofs.Names.{◌≡◌, List, true, true≢false, sym, subst, ◌∙◌, eq-eqb, ne_eqb, IsKept, goes_well, Entry, is_of, txn_of, entries_of}
 use Rattle.std.specs.Prelude.{drop}
-use Rattle.std.proofs.lemmas.Bool.{eq-eqb, ne_eqb}
-use Rattle.log_records.specs.Log.{Entry, is_of, txn_of, entries_of}
-use Rattle.image_check.specs.Chaining.{IsKept}
 use Rattle.image_check.proofs.ChainOnes.{kept_other, kept_begin, kept_behind}
-use Rattle.image_check.proofs.Walking.{goes_well}
 use Rattle.image_check.proofs.chain.Chain.hear.Goals as goal
 
 pub returns-then-txn_of-txn : goal.returns-then-txn_of-txn

@@ -1,13 +1,7 @@
-use Rattle.std.proofs.Common.{◌≡◌, ◌⊎◌, ◌==◌, inl, inr, Bool, true, false, ℕ, nat_eq, cond, drop, Option, Some, None, List, refl, sym, ap, ◌∙◌, subst}
-use Rattle.indexmap.specs.IndexMap.{get}
-use Rattle.log_records.specs.Log.{Entry, txn_of, entries_of}
-use Rattle.image_check.specs.declared.chain.Chain.{Chain}
-use Rattle.image_check.specs.declared.chains.Chains.{Chains}
-use Rattle.image_check.specs.Chaining.{Keeps, HearsOwn}
+use Rattle.image_check.proofs.Names.{◌≡◌, ◌⊎◌, ◌==◌, inl, inr, Bool, true, false, ℕ, nat_eq, cond, drop, Option, Some, None, List, refl, sym, ap, ◌∙◌, subst, Keeps, HearsOwn, Chain, Chains, get, goes_well, memory_as, Entry, txn_of, entries_of}
 use Rattle.image_check.proofs.StrayOnes.{chains_begin, chains_go_on, chains_break}
-use Rattle.image_check.proofs.Walking.{goes_well, memory_as}
-use Rattle.image_check.proofs.chains.Chains.hear.Goals as goal
 use Rattle.image_check.proofs.chains.Chains.hear.Goals.{In-Ok}
+use Rattle.image_check.proofs.chains.Chains.hear.Goals as goal
 
 module _ (c : In-Ok) (records : List Entry) where
   abbrev e : Entry

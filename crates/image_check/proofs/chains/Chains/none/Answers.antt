@@ -1,4 +1,4 @@
-use Rattle.std.proofs.Common.{refl}
+use Rattle.image_check.proofs.Names.{refl}
 use Rattle.image_check.proofs.StrayOnes.{chains_first}
 use Rattle.image_check.proofs.chains.Chains.none.Goals as goal
 

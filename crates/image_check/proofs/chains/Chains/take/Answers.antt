@@ -1,5 +1,4 @@
-use Rattle.std.proofs.Common.{refl, sym, ◌∙◌}
-use Rattle.image_check.specs.declared.chain.Chain.{Chain}
+use Rattle.image_check.proofs.Names.{refl, sym, ◌∙◌, Chain}
 use Rattle.image_check.proofs.ChainOnes.{kept_where, kept_nowhere}
 use Rattle.image_check.proofs.chains.Chains.take.Goals as goal
 

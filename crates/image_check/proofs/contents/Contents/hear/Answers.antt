@@ -1,8 +1,5 @@
-use Rattle.std.proofs.Common.{sym, ap, ◌∙◌, cond, nat_eq, Some}
-use Rattle.record_model.specs.State.{Content}
-use Rattle.indexmap.specs.IndexMap.{get}
+use Rattle.image_check.proofs.Names.{sym, ap, ◌∙◌, cond, nat_eq, Some, get, goes_well, Content}
 use Rattle.image_check.proofs.ChainOnes.{last_unwritten, last_written}
-use Rattle.image_check.proofs.Walking.{goes_well}
 use Rattle.image_check.proofs.contents.Contents.hear.Goals as goal
 
 pub returns-in_default : goal.returns-in_default

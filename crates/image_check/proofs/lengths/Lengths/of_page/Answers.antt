@@ -1,12 +1,7 @@
-use Rattle.std.proofs.Common.{◌≡◌, ◌<◌, ℕ, nat_eq, Some, None, option_copied, length, true≢false, sym, ap, ◌∙◌, subst, arith}
+use Rattle.image_check.proofs.Names.{◌≡◌, ◌<◌, ℕ, nat_eq, Some, None, option_copied, length, true≢false, sym, ap, ◌∙◌, subst, arith, cond, Option, AreKeptOn, without, PageLengths, few_more, ReadsAtMost, length-versions, version_is, versions_on, get, content_at, length_of, Geometry, IsSound, lsn_of, slots_of}
+use Rattle.std.proofs.Common.{is_some}
 use Rattle.std.specs.Prelude.{List, slice_index_or}
-use Rattle.record_model.specs.State.{content_at, length_of}
-use Rattle.site.specs.declared.geometry.Geometry.{Geometry}
-use Rattle.indexmap.specs.IndexMap.{get}
-use Rattle.slotted_page.specs.Layout.{IsSound, lsn_of, slots_of}
-use Rattle.image_meaning.specs.Meaning.{versions_on}
-use Rattle.image_meaning.proofs.Versions.{length-versions, version_is}
-use Rattle.image_check.specs.Filling.{AreKeptOn}
+use Rattle.image_check.proofs.Looks.{lacks_few}
 use Rattle.image_check.proofs.FilledOnes.{of_version}
 use Rattle.image_check.proofs.lengths.Lengths.of_page.Goals as goal
 
@@ -42,3 +37,21 @@ returns-clause-lengths g c lengths finds versions kept =
           (λ slot low. subst (λ (octets : List ℕ). slice_index_or c.of.result.lengths slot 0 ≡ length_of (content_at (slots_of octets) slot)) version (c.of.ensures.lengths slot low))
           (subst (AreKeptOn (versions_on geometry image) lengths c.args.page) there (kept.each c.args.page less)),
     )
+
+pub returns-in-Some-clause-some : goal.returns-in-Some-clause-some
+returns-in-Some-clause-some g c = (omega (arith, c.if-page-geometry.false, ap (λ (k : Geometry). k.pages) c.geometry.ensures), record { log = omega arith; pages = omega arith })
+
+pub returns-then-not-sound-clause-some : goal.returns-then-not-sound-clause-some
+returns-then-not-sound-clause-some g c = (omega (arith, c.if-page-geometry.false, ap (λ (k : Geometry). k.pages) c.geometry.ensures), subst (λ (o : Option PageLengths). ReadsAtMost 0 (cond (is_some o) 0 1) (g.S.Site.state c.args.site.now) (g.S.Site.state c.version_of.new.site)) (sym (sym c.get.ensures.value ∙ ap option_copied c.in_default.is)) c.version_of.ensures.looks)
+
+pub returns-clause-some : goal.returns-clause-some
+returns-clause-some g c = (omega (arith, c.if-page-geometry.false, ap (λ (k : Geometry). k.pages) c.geometry.ensures), subst (λ (o : Option PageLengths). ReadsAtMost 0 (cond (is_some o) 0 1) (g.S.Site.state c.args.site.now) (g.S.Site.state c.version_of.new.site)) (sym (sym c.get.ensures.value ∙ ap option_copied c.in_default.is)) c.version_of.ensures.looks)
+
+pub returns-in-Err-clause-looks : goal.returns-in-Err-clause-looks
+returns-in-Err-clause-looks g c = few_more 0 (cond (is_some (get nat_eq c.args.self.now.pages c.args.page)) 0 1) 0 (without c.args.self.now.pages c.args.found.now.log.geometry.pages) (g.S.Site.state c.args.site.now) (g.S.Site.state c.version_of.new.site) (omega arith) (lacks_few c.args.self.now.pages c.args.page c.args.found.now.log.geometry.pages (omega (arith, c.if-page-geometry.false, ap (λ (k : Geometry). k.pages) c.geometry.ensures))) (subst (λ (o : Option PageLengths). ReadsAtMost 0 (cond (is_some o) 0 1) (g.S.Site.state c.args.site.now) (g.S.Site.state c.version_of.new.site)) (sym (sym c.get.ensures.value ∙ ap option_copied c.in_default.is)) c.version_of.ensures.looks)
+
+pub returns-then-not-sound-clause-looks : goal.returns-then-not-sound-clause-looks
+returns-then-not-sound-clause-looks g c = few_more 0 (cond (is_some (get nat_eq c.args.self.now.pages c.args.page)) 0 1) 0 (without c.args.self.now.pages c.args.found.now.log.geometry.pages) (g.S.Site.state c.args.site.now) (g.S.Site.state c.version_of.new.site) (omega arith) (lacks_few c.args.self.now.pages c.args.page c.args.found.now.log.geometry.pages (omega (arith, c.if-page-geometry.false, ap (λ (k : Geometry). k.pages) c.geometry.ensures))) (subst (λ (o : Option PageLengths). ReadsAtMost 0 (cond (is_some o) 0 1) (g.S.Site.state c.args.site.now) (g.S.Site.state c.version_of.new.site)) (sym (sym c.get.ensures.value ∙ ap option_copied c.in_default.is)) c.version_of.ensures.looks)
+
+pub returns-clause-looks : goal.returns-clause-looks
+returns-clause-looks g c = few_more 0 (cond (is_some (get nat_eq c.args.self.now.pages c.args.page)) 0 1) 0 (without c.args.self.now.pages c.args.found.now.log.geometry.pages) (g.S.Site.state c.args.site.now) (g.S.Site.state c.version_of.new.site) (omega arith) (lacks_few c.args.self.now.pages c.args.page c.args.found.now.log.geometry.pages (omega (arith, c.if-page-geometry.false, ap (λ (k : Geometry). k.pages) c.geometry.ensures))) (subst (λ (o : Option PageLengths). ReadsAtMost 0 (cond (is_some o) 0 1) (g.S.Site.state c.args.site.now) (g.S.Site.state c.version_of.new.site)) (sym (sym c.get.ensures.value ∙ ap option_copied c.in_default.is)) c.version_of.ensures.looks)

@@ -1,4 +1,4 @@
-use Rattle.std.proofs.Common.{◌≡◌, ◌%◌, rules, slice_index_or, arith}
+use Rattle.image_check.proofs.Names.{◌≡◌, ◌%◌, rules, slice_index_or, arith}
 use Rattle.image_check.proofs.FilledOnes.{sum_step, fits_by}
 use Rattle.image_check.proofs.lengths.PageLengths.fit.Goals as goal
 

@@ -1,6 +1,4 @@
-use Rattle.std.proofs.Common.{◌≡◌, ◌*◌, ◌%◌, ◌≤◌, ℕ, slice_index_or}
-use Rattle.std.specs.Prelude.{sum_by}
-use Rattle.std.specs.List.{range_with_len}
+use Rattle.image_check.proofs.Names.{◌≡◌, ◌*◌, ◌%◌, ◌≤◌, ℕ, slice_index_or, range_with_len, sum_by}
 use Rattle.image_check.proofs.lengths.PageLengths.fit.Given as goal
 
 abbrev pub invariant-loop-slot : goal.invariant-loop-slot

@@ -1,9 +1,4 @@
-use Rattle.std.proofs.Common.{◌≡◌, ℕ, inl, inr, length, ap, ◌∙◌, arith, slice_index_or, slice_set}
-use Rattle.std.proofs.lemmas.Bool.{cases_eq}
-use Rattle.std.proofs.lemmas.List.{length-set, get_or-set_same, get_or-set_other}
-use Rattle.std.proofs.Common.{sym}
-use Rattle.record_model.specs.State.{content_at, length_of}
-use Rattle.slotted_page.specs.Layout.{slots_of}
+use Rattle.image_check.proofs.Names.{◌≡◌, ℕ, inl, inr, length, ap, ◌∙◌, arith, slice_index_or, slice_set, sym, cases_eq, length-set, get_or-set_same, get_or-set_other, content_at, length_of, slots_of}
 use Rattle.image_check.proofs.lengths.PageLengths.of.Goals as goal
 
 pub loop-slot-preserved : goal.loop-slot-preserved

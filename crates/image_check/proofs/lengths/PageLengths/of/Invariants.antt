@@ -1,6 +1,4 @@
-use Rattle.std.proofs.Common.{◌≡◌, ◌<◌, ℕ, length, slice_index_or}
-use Rattle.record_model.specs.State.{content_at, length_of}
-use Rattle.slotted_page.specs.Layout.{slots_of}
+use Rattle.image_check.proofs.Names.{◌≡◌, ◌<◌, ℕ, length, slice_index_or, content_at, length_of, slots_of}
 use Rattle.image_check.proofs.lengths.PageLengths.of.Given as goal
 
 abbrev pub invariant-loop-slot : goal.invariant-loop-slot

@@ -1,11 +1,5 @@
-use Rattle.std.proofs.Common.{◌≡◌, ◌/◌, ℕ, nat_eq, nat_le, false, Option, Some, None, cond, sym, ap, ◌∙◌, arith}
-use Rattle.std.specs.Prelude.{slice_get}
-use Rattle.std.proofs.lemmas.Bool.Decides.{nat_tests}
-use Rattle.record_model.specs.State.{Content}
-use Rattle.indexmap.specs.IndexMap.{get}
-use Rattle.log_records.specs.Log.{Entry, number_of}
+use Rattle.image_check.proofs.Names.{◌≡◌, ◌/◌, ℕ, nat_eq, nat_le, false, Option, Some, None, cond, sym, ap, ◌∙◌, arith, nat_tests, slice_get, get, goes_well, Entry, number_of, Content}
 use Rattle.image_check.proofs.ShownOnes.{is_known, expected_same, expected_more, on_none, on_unknown}
-use Rattle.image_check.proofs.Walking.{goes_well}
 use Rattle.image_check.proofs.showing.Expected.hear.Goals as goal
 
 pub returns-in_default : goal.returns-in_default

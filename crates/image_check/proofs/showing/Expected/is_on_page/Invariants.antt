@@ -1,8 +1,4 @@
-use Rattle.std.proofs.Common.{◌+◌, ◌*◌, ◌<◌, ℕ, nat_eq}
-use Rattle.indexmap.specs.IndexMap.{get}
-use Rattle.record_model.specs.State.{content_at}
-use Rattle.slotted_page.specs.Layout.{slots_of}
-use Rattle.image_check.specs.Showing.{IsAs}
+use Rattle.image_check.proofs.Names.{◌+◌, ◌*◌, ◌<◌, ℕ, nat_eq, IsAs, get, content_at, slots_of}
 use Rattle.image_check.proofs.showing.Expected.is_on_page.Given as goal
 
 abbrev pub invariant-loop-slot : goal.invariant-loop-slot

@@ -1,6 +1,4 @@
-use Rattle.std.proofs.Common.{◌≡◌, nat_eq, true}
-use Rattle.std.specs.Prelude.{is_some}
-use Rattle.indexmap.specs.IndexMap.{get}
+use Rattle.image_check.proofs.Names.{◌≡◌, nat_eq, true, is_some, get}
 use Rattle.image_check.proofs.strays.Strays.first.Given as goal
 
 abbrev pub invariant-loop-place : goal.invariant-loop-place

@@ -1,10 +1,5 @@
-use Rattle.std.proofs.Common.{◌≡◌, ◌==◌, inl, inr, true, false, not, ℕ, nat_eq, cond, sym, ap, ◌∙◌}
-use Rattle.std.specs.Prelude.{is_some}
-use Rattle.std.proofs.lemmas.Bool.{cases_Bool, eqb-true}
-use Rattle.indexmap.specs.IndexMap.{get}
-use Rattle.log_records.specs.Log.{Entry, txn_of, is_closing}
+use Rattle.image_check.proofs.Names.{◌≡◌, ◌==◌, inl, inr, true, false, not, ℕ, nat_eq, cond, sym, ap, ◌∙◌, cases_Bool, eqb-true, is_some, get, goes_well, memory_as, Entry, txn_of, is_closing}
 use Rattle.image_check.proofs.StrayOnes.{strays_more}
-use Rattle.image_check.proofs.Walking.{goes_well, memory_as}
 use Rattle.image_check.proofs.strays.Strays.hear.Goals as goal
 
 pub returns-then-closes : goal.returns-then-closes

@@ -1,11 +1,5 @@
-use Rattle.std.proofs.Common.{◌≡◌, ◌*◌, false, List, nat_lt, sym, subst, arith}
-use Rattle.std_lemmas.proofs.AllOf.{all_filter}
-use Rattle.log_laws.proofs.Parts.{in_order_filter}
-use Rattle.log_records.specs.Log.{Entry, is_of}
-use Rattle.log_records.specs.Sound.{before_block}
-use Rattle.image_check.specs.Unended.{AreLeft}
-use Rattle.image_check.proofs.Walking.{memory_as}
-use Rattle.image_check.proofs.LeftOnes.{early_more, early_least}
+use Rattle.image_check.proofs.Names.{◌≡◌, ◌*◌, false, List, nat_lt, sym, subst, arith, memory_as, AreLeft, in_order_filter, Entry, is_of, before_block, all_filter}
+use Rattle.log_judge.proofs.LeftOnes.{early_more, early_least}
 use Rattle.image_check.proofs.survey.Survey.hear_early.Goals as goal
 
 pub returns-clause-early : goal.returns-clause-early

@@ -1,7 +1,4 @@
-use Rattle.std.proofs.Common.{sym, ap, ◌∙◌}
-use Rattle.site.specs.State.{State}
-use Rattle.image_meaning.specs.Meaning.{version_in, versions_on}
-use Rattle.image_meaning.proofs.Versions.{version_is}
+use Rattle.image_check.proofs.Names.{sym, ap, ◌∙◌, version_is, version_in, versions_on, State}
 use Rattle.image_check.proofs.values.Logged.count_page.Goals as goal
 
 pub returns-clause-values : goal.returns-clause-values

@@ -1,13 +1,5 @@
-use Rattle.std.proofs.Common.{rules, ◌≡◌, ◌*◌, ◌≤◌, inl, inr, ℕ, Option, Some, true≢false, is_some, refl, sym, ap, ◌∙◌, subst, arith}
-use Rattle.std.specs.Prelude.{IfSome}
-use Rattle.std.proofs.lemmas.Bool.{cases_eq}
-use Rattle.site.specs.declared.geometry.Geometry.{Geometry}
-use Rattle.site.specs.State.{State, Image}
-use Rattle.log_records.specs.Log.{value_of}
-use Rattle.flash_cache.specs.Representation.{version_on}
-use Rattle.image_meaning.specs.Meaning.{versions_on}
-use Rattle.image_form.specs.Octets.{AreVersions}
-use Rattle.image_check.specs.Showing.{HasContents}
+use Rattle.image_check.proofs.Names.{◌≡◌, ◌*◌, ◌≤◌, inl, inr, ℕ, Option, Some, true≢false, refl, sym, ap, ◌∙◌, subst, arith, ◌+◌, cases_eq, IfSome, version_on, HasContents, few_then, AreVersions, versions_on, value_of, looks_then, looks_answered, State, Image, Geometry}
+use Rattle.std.proofs.Common.{is_some, Ok}
 use Rattle.image_check.proofs.ShownOnes.{versions_later}
 use Rattle.image_check.proofs.ValuesCounted.{values_among, page_more, all_pages}
 use Rattle.image_check.proofs.Walking.{may_later}
@@ -52,7 +44,8 @@ loop-page-preserved g c =
           (more ∙ ap (λ (image : Image). values_among (value_of log (versions_on geometry image)) (32 * page) 32) same);
       few = let before = c.loop-page.invariant.few in let more = subst (λ (o : Option ℕ). IfSome o (λ count. count ≤ 32)) some c.in-Ok-Some.ensures.few in omega (arith, before, more);
       most = omega (arith, ap (λ (k : Geometry). k.pages) c.geometry-page-end.ensures, c.loop-page-test.true);
-      reads = search rules;
+      looks = few_then 0 page 0 1 0 (page + 1) old now (g.S.Site.state c.count_page.new.site) (omega arith) (omega arith) c.loop-page.invariant.looks c.in-Ok-Some.ensures.looks;
+      reads = looks_then tt (Ok tt) old now (g.S.Site.state c.count_page.new.site) reads (looks_answered c.in-Ok-Some.field-0 tt now (g.S.Site.state c.count_page.new.site) c.in-Ok-Some.ensures.reads);
     }
 
 pub returns-clause-shown : goal.returns-clause-shown

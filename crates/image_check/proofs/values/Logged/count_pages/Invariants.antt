@@ -1,13 +1,4 @@
-use Rattle.std.proofs.Common.{◌≡◌, ◌*◌, ◌≤◌, ◌<◌, ℕ, List}
-use Rattle.std.specs.Prelude.{Ok}
-use Rattle.site.specs.Work.{OnlyReads}
-use Rattle.log_records.specs.Log.{Entry, value_of}
-use Rattle.flash_cache.specs.Representation.{version_on}
-use Rattle.image_meaning.specs.Meaning.{versions_on}
-use Rattle.image_form.specs.Octets.{AreVersions}
-use Rattle.image_check.specs.Judging.{MayBeJudged}
-use Rattle.image_check.specs.Showing.{FindsVersions, HasContents}
-use Rattle.image_check.specs.Writing.{AreWritten}
+use Rattle.image_check.proofs.Names.{◌≡◌, ◌*◌, ◌≤◌, ◌<◌, ℕ, List, Ok, version_on, MayBeJudged, FindsVersions, HasContents, AreWritten, ReadsAtMost, AreVersions, versions_on, Entry, value_of, OnlyReads}
 use Rattle.image_check.proofs.ValuesCounted.{values_among}
 use Rattle.image_check.proofs.values.Logged.count_pages.Given as goal
 
@@ -22,5 +13,6 @@ invariant-loop-page g l =
           l.count ≡ values_among (value_of log (versions_on sizes old.image)) 0 (32 * l.page);
       few : l.count ≤ 32 * l.page;
       most : l.page ≤ sizes.pages;
+      looks : ReadsAtMost 0 l.page old (g.S.Site.state l.site);
       reads : OnlyReads {T = Unit {0}} (Ok tt) old (g.S.Site.state l.site);
     }

@@ -1,13 +1,7 @@
-use Rattle.std.proofs.Common.{arith, rules, true≢false, Ok, Err, refl, sym, ◌∙◌, subst}
-use Rattle.std.specs.List.{AllByRecursion}
-use Rattle.std.proofs.lemmas.Result.{err_from_is_err_and}
-use Rattle.std_lemmas.proofs.AllOf.{all_push, all_right}
-use Rattle.site.proofs.Working.{looks_then, looks_failed}
-use Rattle.log_records.specs.Sound.{Pairwise, HoldsOff}
-use Rattle.image_check.specs.Judging.{records_of}
-use Rattle.image_check.specs.Showing.{IsKnownEarly}
+use Rattle.image_check.proofs.Names.{rules, true≢false, Err, refl, sym, ◌∙◌, subst, err_from_is_err_and, AllByRecursion, records_of, IsKnownEarly, Pairwise, HoldsOff, looks_then, looks_failed, all_push, all_right}
+use Rattle.std.proofs.Common.{Ok}
 use Rattle.image_check.proofs.ValuesCounted.{pairs_front}
-use Rattle.image_check.proofs.Walking.{reads_lacked, walk_begins, walk_goes_on, judged_at, judged_end}
+use Rattle.image_check.proofs.Walking.{reads_lacked, walk_begins, walk_goes_on, judged_at, judged_end, walk_few}
 use Rattle.image_check.proofs.values.Logged.of_log.Goals as goal
 
 pub loop-logged-init : goal.loop-logged-init
@@ -26,7 +20,7 @@ returns-then-not-is_known_early g c = judged_at c.loop-logged.invariant c.in_ok-
 ))
 
 pub loop-logged-preserved : goal.loop-logged-preserved
-loop-logged-preserved g c = walk_goes_on c.loop-logged.invariant c.in_ok-lsn.field-0 c.next.new.self c.in_ok-lsn.ensures.next c.in-Some.lsn c.in-Some.rec c.in-Some.is c.in_ok-lsn.ensures.walk c.in_ok-lsn.ensures.reads c.in_ok-lsn.ensures.few _ (λ blocks sees at.
+loop-logged-preserved g c = walk_goes_on c.loop-logged.invariant c.in_ok-lsn.field-0 c.next.new.self c.in_ok-lsn.ensures.next c.in-Some.lsn c.in-Some.rec c.in-Some.is c.in_ok-lsn.ensures.walk c.in_ok-lsn.ensures.reads c.in_ok-lsn.ensures.few c.in_ok-lsn.ensures.ends _ (λ blocks sees at.
     let all = records_of c.args.found.now blocks in
     record {
       early = all_push (IsKnownEarly c.args.found.now.master.redo c.args.lsns.now) at.front _ at.holds.early (c.is_known_early.ensures.0 c.if-not-is_known_early.false);
@@ -41,10 +35,10 @@ returns g c = judged_end c.loop-logged.invariant c.in_ok-lsn.field-0 c.next.new.
 pub returns-in-Err : goal.returns-in-Err
 returns-in-Err g c =
     let now = g.S.Site.state c.loop-logged.site in
-    record { says = tt; reads = reads_lacked c.in-Err.ensures.stops (looks_then tt _ _ now _ c.loop-logged.invariant.reads c.in_ok-lsn.ensures.reads); few = let before = c.loop-logged.invariant.few in let ends = c.in_ok-lsn.ensures.ends in omega (arith, before, ends) }
+    record { says = tt; reads = reads_lacked c.in-Err.ensures.stops (looks_then tt _ _ now _ c.loop-logged.invariant.reads c.in_ok-lsn.ensures.reads); few = walk_few c.loop-logged.invariant c.in_ok-lsn.ensures.ends }
 
 pub returns-in_err-lsn : goal.returns-in_err-lsn
 returns-in_err-lsn g c =
     let p = err_from_is_err_and c.from_residual.result c.from_residual.ensures.1 in
     let now = g.S.Site.state c.loop-logged.site in
-    record { says = search rules; reads = rw (p.1, p.2) (looks_then tt _ _ now _ c.loop-logged.invariant.reads (looks_failed c.in_err-lsn.field-0.0 now _ c.in_err-lsn.ensures.reads)); few = let before = c.loop-logged.invariant.few in let ends = c.in_err-lsn.ensures.ends in omega (arith, before, ends) }
+    record { says = search rules; reads = rw (p.1, p.2) (looks_then tt _ _ now _ c.loop-logged.invariant.reads (looks_failed c.in_err-lsn.field-0.0 now _ c.in_err-lsn.ensures.reads)); few = walk_few c.loop-logged.invariant c.in_err-lsn.ensures.ends }

@@ -1,12 +1,4 @@
-use Rattle.std.proofs.Common.{◌==◌, ◌+◌, ◌*◌, ◌++◌, ◌∷◌, [], ℕ, nat_eq, Some, None, cond, refl, sym, subst, ◌∙◌}
-use Rattle.std.specs.Option.{option_or}
-use Rattle.indexmap.specs.IndexMap.{get}
-use Rattle.log_records.specs.declared.log_record.LogRecord.{LogRecord}
-use Rattle.log_records.specs.declared.log_record.LogRecord.TheVariants.{Begin, Update, Clr, Commit, End}
-use Rattle.image_check.specs.declared.written.Written.{Written}
-use Rattle.image_check.specs.declared.written.Writings.{Writings}
-use Rattle.image_check.specs.Writing.{AreWritten, before_by}
-use Rattle.image_check.proofs.Walking.{goes_well, memory_as}
+use Rattle.image_check.proofs.Names.{◌==◌, ◌+◌, ◌*◌, ◌++◌, ◌∷◌, [], ℕ, nat_eq, Some, None, cond, refl, sym, subst, ◌∙◌, option_or, AreWritten, before_by, Writings, Written, get, goes_well, memory_as, LogRecord, Begin, Update, Clr, Commit, End}
 use Rattle.image_check.proofs.WrittenOnes.{written_begin, written_closed, written_on}
 use Rattle.image_check.proofs.written.Writings.hear.Goals as goal
 

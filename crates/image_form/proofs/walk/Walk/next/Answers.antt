@@ -1,5 +1,4 @@
-use Rattle.std.proofs.Common.{refl, arith}
-use Rattle.log_records.proofs.Blocks.{some_octet}
+use Rattle.image_form.proofs.Names.{refl, arith, some_octet}
 use Rattle.image_form.proofs.BlockReading.{some_spelled}
 use Rattle.image_form.proofs.Walks.{given}
 use Rattle.image_form.proofs.walk.Walk.next.Goals as goal

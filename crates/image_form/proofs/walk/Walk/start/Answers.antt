@@ -1,4 +1,4 @@
-use Rattle.std.proofs.Common.{refl}
+use Rattle.image_form.proofs.Names.{refl}
 use Rattle.std.specs.Prelude.{[]}
 use Rattle.image_form.proofs.walk.Walk.start.Goals as goal
 

@@ -1,10 +1,5 @@
-use Rattle.std.proofs.Common.{ℕ, ◌-◌, ◌≡◌, ◌∷◌, [], Bool, true, false, refl, sym, ap, ◌∙◌}
-use Rattle.std.specs.Prelude.{reverse, drop, take}
-use Rattle.std.proofs.lemmas.List.{reverse-append}
-use Rattle.std.proofs.lemmas.Option.{none-some, same_Some}
-use Rattle.log_records.specs.Log.{is_update}
-use Rattle.log_judge.specs.declared.chain.Pending.{Pending}
-use Rattle.log_judge.specs.Chaining.{kept_by, pending_of}
+use Rattle.log_judge.proofs.Names.{ℕ, ◌-◌, ◌≡◌, ◌∷◌, [], Bool, true, false, refl, sym, ap, ◌∙◌, reverse-append, none-some, same_Some, reverse, kept_by, pending_of, Pending, is_update}
+use Rattle.std.specs.Prelude.{drop, take}
 use Rattle.log_judge.proofs.ChainOnes.{popped_is, kept_update, kept_clr}
 use Rattle.log_judge.proofs.Outcomes.{goes_well}
 use Rattle.log_judge.proofs.chain.Chain.add.Goals as goal

@@ -1,7 +1,4 @@
-use Rattle.std.proofs.Common.{◌≡◌, ◌-◌, ◌<◌, [], List, length, drop, get_or, sym, ◌∙◌, subst}
-use Rattle.std.specs.Prelude.{reverse}
-use Rattle.log_records.specs.Unfinished.{open_updates}
-use Rattle.log_judge.specs.declared.chain.Pending.{Pending}
+use Rattle.log_judge.proofs.Names.{◌≡◌, ◌-◌, ◌<◌, [], List, length, drop, get_or, sym, ◌∙◌, subst, reverse, Pending, open_updates}
 use Rattle.log_judge.proofs.ChainOnes.{clr_undoes, open_are_updates, last_first}
 use Rattle.log_judge.proofs.chain.Chain.undoes.Goals as goal
 

@@ -1,6 +1,4 @@
-use Rattle.std.proofs.Common.{◌≡◌, Bool, true, false, true≢false, refl, sym, ◌∙◌}
-use Rattle.std.specs.Prelude.{IsTrue}
-use Rattle.indexmap.specs.IndexSet.{index_set_len}
+use Rattle.log_judge.proofs.Names.{◌≡◌, Bool, true, false, true≢false, refl, sym, ◌∙◌, IsTrue, index_set_len}
 use Rattle.log_judge.proofs.ChainSteps.{none_broken, one_broken, in_none, one_in}
 use Rattle.log_judge.proofs.chains.Chains.are_linked.Goals as goal
 

@@ -1,4 +1,4 @@
-use Rattle.std.proofs.Common.{refl}
+use Rattle.log_judge.proofs.Names.{refl}
 use Rattle.log_judge.proofs.ChainSteps.{chains_begin}
 use Rattle.log_judge.proofs.Outcomes.{memory_as}
 use Rattle.log_judge.proofs.chains.Chains.begin.Goals as goal

@@ -1,8 +1,4 @@
-use Rattle.std.specs.Prelude.{option_map}
-use Rattle.std.proofs.Common.{◌≡◌, ◌==◌, ℕ, Bool, true, false, true≢false, cond, nat_eq, Option, Some, None, sym, ap, ◌∙◌, refl}
-use Rattle.indexmap.specs.IndexSet.{contains}
-use Rattle.log_records.specs.Log.{Entry}
-use Rattle.log_judge.specs.Chaining.{Kept, kept_by, kept_of}
+use Rattle.log_judge.proofs.Names.{◌≡◌, ◌==◌, ℕ, Bool, true, false, true≢false, cond, nat_eq, Option, Some, None, sym, ap, ◌∙◌, refl, option_map, contains, Kept, kept_by, kept_of, Entry}
 use Rattle.log_judge.proofs.ChainSteps.{chains_unknown, chains_break, chains_go_on, kept_there}
 use Rattle.log_judge.proofs.Outcomes.{goes_well, memory_as}
 use Rattle.log_judge.proofs.chains.Chains.go_on.Goals as goal

@@ -1,7 +1,4 @@
-use Rattle.std.proofs.Common.{◌∷◌, ◌++◌, [], ◌==◌, false, cond, None, nat_eq, sym, ap, subst, ◌∙◌}
-use Rattle.indexmap.specs.IndexSet.{contains}
-use Rattle.log_records.specs.declared.log_record.LogRecord.{LogRecord}
-use Rattle.log_judge.specs.Chaining.{AreChains, kept_of}
+use Rattle.log_judge.proofs.Names.{◌∷◌, ◌++◌, [], ◌==◌, false, cond, None, nat_eq, sym, ap, subst, ◌∙◌, contains, AreChains, kept_of, LogRecord}
 use Rattle.log_judge.proofs.OpenOnes.{begin_only}
 use Rattle.log_judge.proofs.ChainSteps.{chains_closed}
 use Rattle.log_judge.proofs.Outcomes.{goes_well, memory_as}

@@ -1,8 +1,4 @@
-use Rattle.std.proofs.Common.{Bool, ◌≡◌, ◌++◌, ◌∷◌, [], true≢false, sym, ap, ◌∙◌, subst, append_assoc, arith}
-use Rattle.std.specs.List.{range_with_len}
-use Rattle.log_records.specs.declared.log_record.LogRecord.{LogRecord}
-use Rattle.log_records.specs.Sound.{commit_numbers}
-use Rattle.log_judge.specs.Counting.{Counts, Heard}
+use Rattle.log_judge.proofs.Names.{Bool, ◌≡◌, ◌++◌, ◌∷◌, [], true≢false, sym, ap, ◌∙◌, subst, append_assoc, arith, range_with_len, Counts, Heard, commit_numbers, LogRecord}
 use Rattle.log_judge.proofs.Numbering.{early_block, not_commit, heard_other, heard_commit, heard_wrong, heard_few}
 use Rattle.log_judge.proofs.commits.Numbers.after.Goals as goal
 

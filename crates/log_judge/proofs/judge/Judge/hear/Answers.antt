@@ -1,14 +1,6 @@
-use Rattle.std.proofs.Common.{◌≡◌, ◌++◌, ◌∷◌, [], sym, ap, subst}
-use Rattle.std_lemmas.proofs.AllOf.{all_append}
-use Rattle.log_records.specs.Log.{Entry}
-use Rattle.log_records.specs.Sound.{IsInTable, Master, before_block}
-use Rattle.log_laws.proofs.Orders.{InTurn-append}
+use Rattle.log_judge.proofs.Names.{◌≡◌, ◌++◌, ◌∷◌, [], sym, ap, subst, AreChains, IsOfSizes, AreOpen, MayStand, AreLeft, InTurn-append, Entry, IsInTable, Master, before_block, all_append}
 use Rattle.log_judge.specs.declared.judge.Judge.{Judge}
 use Rattle.log_judge.specs.declared.txns.OpenTxns.{OpenTxns}
-use Rattle.log_judge.specs.Chaining.{AreChains}
-use Rattle.log_judge.specs.Judging.{IsOfSizes}
-use Rattle.log_judge.specs.Opening.{AreOpen, MayStand}
-use Rattle.log_judge.specs.Unended.{AreLeft}
 use Rattle.log_judge.proofs.Judged.{comes_next}
 use Rattle.log_judge.proofs.judge.Judge.hear.Goals as goal
 

@@ -1,9 +1,4 @@
-use Rattle.std.proofs.Common.{◌≡◌, ◌*◌, false, List, nat_lt, sym, subst, arith}
-use Rattle.std_lemmas.proofs.AllOf.{all_filter}
-use Rattle.log_laws.proofs.Parts.{in_order_filter}
-use Rattle.log_records.specs.Log.{Entry, is_of}
-use Rattle.log_records.specs.Sound.{before_block}
-use Rattle.log_judge.specs.Unended.{AreLeft}
+use Rattle.log_judge.proofs.Names.{◌≡◌, ◌*◌, false, List, nat_lt, sym, subst, arith, AreLeft, in_order_filter, Entry, is_of, before_block, all_filter}
 use Rattle.log_judge.proofs.Outcomes.{memory_as}
 use Rattle.log_judge.proofs.LeftOnes.{early_more, early_least}
 use Rattle.log_judge.proofs.judge.Judge.hear_early.Goals as goal

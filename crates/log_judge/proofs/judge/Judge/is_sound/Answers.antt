@@ -1,6 +1,4 @@
-use Rattle.std.proofs.Common.{sym, ap, subst, ◌∙◌, arith}
-use Rattle.log_records.specs.Sound.{Master}
-use Rattle.log_judge.specs.Counting.{Fit}
+use Rattle.log_judge.proofs.Names.{sym, ap, subst, ◌∙◌, arith, Fit, Master}
 use Rattle.log_judge.proofs.Judged.{opens_all, begun_all}
 use Rattle.log_judge.proofs.Numbering.{numbered, heard_few}
 use Rattle.log_judge.proofs.judge.Judge.is_sound.Goals as goal

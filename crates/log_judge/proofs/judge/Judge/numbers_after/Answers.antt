@@ -1,10 +1,4 @@
-use Rattle.std.proofs.Common.{◌≡◌, ◌*◌, ◌^◌, ◌<◌, ◌++◌, ◌∷◌, [], ℕ, List, length, inl, inr, true≢false, sym, ap, subst, ◌∙◌}
-use Rattle.std.proofs.lemmas.Bool.{cases_lt}
-use Rattle.log_records.specs.Log.{Entry}
-use Rattle.log_records.specs.Sound.{LogicalImage, IsInOrder, Master, active_in, before_block}
-use Rattle.checkpoint.specs.Newest.{seen}
-use Rattle.log_judge.specs.Counting.{Heard, NumbersAre}
-use Rattle.log_judge.specs.Judging.{HasHeard}
+use Rattle.log_judge.proofs.Names.{◌≡◌, ◌*◌, ◌^◌, ◌<◌, ◌++◌, ◌∷◌, [], ℕ, List, length, inl, inr, true≢false, sym, ap, subst, ◌∙◌, cases_lt, seen, Heard, NumbersAre, HasHeard, Entry, LogicalImage, IsInOrder, Master, active_in, before_block}
 use Rattle.log_judge.proofs.Judged.{stand_at, table_at, early_all, numbers_break, numbers_stand}
 use Rattle.log_judge.proofs.judge.Judge.numbers_after.Goals.{After-after}
 use Rattle.log_judge.proofs.judge.Judge.numbers_after.Goals as goal

@@ -1,11 +1,7 @@
-use Rattle.std.proofs.Common.{◌≡◌, ◌*◌, ◌≤◌, ◌==◌, true, false, cond, ℕ, nat_le, sym, ap, ◌∙◌, arith}
-use Rattle.std.proofs.lemmas.Bool.Decides.{nat_tests}
-use Rattle.lsn_set.specs.Held.{has}
-use Rattle.log_records.specs.Log.{Entry, is_closing}
-use Rattle.log_records.specs.Unfinished.{is_begin}
+use Rattle.log_judge.proofs.Names.{◌≡◌, ◌*◌, ◌≤◌, ◌==◌, true, false, cond, ℕ, sym, ap, ◌∙◌, arith, nat_tests, closing_is_no_begin, Entry, is_closing, is_begin, has}
+use Rattle.std.proofs.Common.{nat_le}
 use Rattle.log_judge.proofs.Outcomes.{goes_well, memory_as}
 use Rattle.log_judge.proofs.OpenOnes.{open_more, open_without, begins_go_on}
-use Rattle.log_records.proofs.Entries.{closing_is_no_begin}
 use Rattle.log_judge.proofs.txns.OpenTxns.hear.Goals as goal
 
 pub returns-then-closes : goal.returns-then-closes

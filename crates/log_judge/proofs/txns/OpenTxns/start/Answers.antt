@@ -1,10 +1,4 @@
-use Rattle.std.proofs.Common.{◌≡◌, ◌==◌, ◌||◌, Bool, true, false, cond, List, take, refl, sym, ap, ◌∙◌, arith}
-use Rattle.std.specs.List.{list_any}
-use Rattle.std.proofs.lemmas.List.{take_all}
-use Rattle.std.proofs.lemmas.Option.{get_or_from_slice_get}
-use Rattle.std.proofs.lemmas.List.Folds.{list_any_more}
-use Rattle.checkpoint.specs.declared.pairs.Pair.{Pair}
-use Rattle.checkpoint.specs.Newest.{seen}
+use Rattle.log_judge.proofs.Names.{◌≡◌, ◌==◌, ◌||◌, Bool, true, false, cond, List, take, refl, sym, ap, ◌∙◌, arith, take_all, list_any_more, get_or_from_slice_get, list_any, seen, Pair}
 use Rattle.log_judge.proofs.OpenOnes.{open_first}
 use Rattle.log_judge.proofs.Outcomes.{goes_well}
 use Rattle.log_judge.proofs.txns.OpenTxns.start.Goals as goal

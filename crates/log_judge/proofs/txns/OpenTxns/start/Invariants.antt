@@ -1,6 +1,4 @@
-use Rattle.std.proofs.Common.{◌≡◌, ◌==◌, ℕ, take}
-use Rattle.std.specs.List.{list_any}
-use Rattle.lsn_set.specs.Held.{has}
+use Rattle.log_judge.proofs.Names.{◌≡◌, ◌==◌, ℕ, take, list_any, has}
 use Rattle.log_judge.proofs.txns.OpenTxns.start.Given as goal
 
 abbrev pub invariant-loop-place : goal.invariant-loop-place

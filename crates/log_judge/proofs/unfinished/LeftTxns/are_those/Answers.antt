@@ -1,5 +1,4 @@
-use Rattle.std.proofs.Common.{true≢false, length, sym, ap, arith}
-use Rattle.checkpoint.specs.declared.pairs.Pair.{Pair}
+use Rattle.log_judge.proofs.Names.{true≢false, length, sym, ap, arith, Pair}
 use Rattle.log_judge.proofs.LeftOnes.{named_more, named_not}
 use Rattle.log_judge.proofs.unfinished.LeftTxns.are_those.Goals as goal
 

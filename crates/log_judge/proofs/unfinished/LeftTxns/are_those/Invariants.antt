@@ -1,4 +1,5 @@
-use Rattle.std.proofs.Common.{◌≡◌, ◌↔◌, ◌+◌, map, drop, length}
+use Rattle.log_judge.proofs.Names.{◌≡◌, ◌+◌, map, drop, length}
+use Rattle.std.proofs.Common.{◌↔◌}
 use Rattle.log_judge.proofs.LeftOnes.{pair_of}
 use Rattle.log_judge.proofs.unfinished.LeftTxns.are_those.Given as goal
 

@@ -1,10 +1,5 @@
-use Rattle.std.proofs.Common.{◌≡◌, ℕ, Some, sym, ap, ◌∙◌, arith}
-use Rattle.std.specs.BTreeMap.{BTreeMap, is_at}
-use Rattle.std.specs.Map.{lookup, remove_entry, set_value}
+use Rattle.log_judge.proofs.Names.{◌≡◌, ℕ, Some, sym, ap, ◌∙◌, arith, BTreeMap, is_at, lookup, remove_entry, set_value, nat_cmp, Left, Entry, txn_of}
 use Rattle.std.specs.Option.{option_copied_mut}
-use Rattle.std.specs.Ordering.{nat_cmp}
-use Rattle.log_records.specs.Log.{Entry, txn_of}
-use Rattle.log_judge.specs.declared.unfinished.Left.{Left}
 use Rattle.log_judge.proofs.LeftOnes.{left_same, left_closed, left_few, left_more}
 use Rattle.log_judge.proofs.unfinished.LeftTxns.go_on.Goals as goal
 

@@ -1,5 +1,4 @@
-use Rattle.std.proofs.Common.{◌≡◌, true, sym, ◌∙◌}
-use Rattle.log_records.specs.Unfinished.{is_begin}
+use Rattle.log_judge.proofs.Names.{◌≡◌, true, sym, ◌∙◌, is_begin}
 use Rattle.log_judge.proofs.LeftOnes.{left_begins}
 use Rattle.log_judge.proofs.Outcomes.{memory_as}
 use Rattle.log_judge.proofs.unfinished.LeftTxns.hear.Goals as goal

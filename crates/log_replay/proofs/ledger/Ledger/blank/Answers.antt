@@ -1,6 +1,4 @@
-use Rattle.std.proofs.Common.{◌*◌, refl, sym}
-use Rattle.std.specs.Prelude.{None}
-use Rattle.std.proofs.lemmas.List.{length-replicate}
+use Rattle.log_replay.proofs.Names.{◌*◌, refl, sym, length-replicate, None}
 use Rattle.log_replay.proofs.ledger.Ledger.blank.Goals as goal
 
 pub returns : goal.returns

@@ -1,4 +1,4 @@
-use Rattle.std.proofs.Common.{◌≡◌, ◌+◌, refl, sym, arith}
+use Rattle.log_replay.proofs.Names.{◌≡◌, ◌+◌, refl, sym, arith}
 use Rattle.log_replay.proofs.Ledgers.{Takes, committed}
 use Rattle.log_replay.proofs.ledger.Ledger.commit.Goals as goal
 

@@ -1,4 +1,4 @@
-use Rattle.std.proofs.Common.{◌≡◌, [], refl, sym}
+use Rattle.log_replay.proofs.Names.{◌≡◌, [], refl, sym}
 use Rattle.log_replay.proofs.Ledgers.{Takes, ended}
 use Rattle.log_replay.proofs.ledger.Ledger.end.Goals as goal
 

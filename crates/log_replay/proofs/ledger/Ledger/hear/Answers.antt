@@ -1,7 +1,4 @@
-use Rattle.std.proofs.Common.{sym, subst}
-use Rattle.log_records.specs.declared.log_record.LogRecord.{LogRecord}
-use Rattle.log_archive.specs.Accepted.{after_record}
-use Rattle.log_replay.specs.Stands.{Hears, StandsAt}
+use Rattle.log_replay.proofs.Names.{sym, subst, after_record, LogRecord, Hears, StandsAt}
 use Rattle.log_replay.proofs.ledger.Ledger.hear.Goals as goal
 
 pub returns-in-Begin : goal.returns-in-Begin

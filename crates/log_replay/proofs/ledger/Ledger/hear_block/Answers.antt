@@ -1,6 +1,4 @@
-use Rattle.std.proofs.Common.{◌≡◌, ◌+◌, ◌*◌, ◌<◌, ℕ, refl, sym, ap, ◌∙◌, arith}
-use Rattle.std.specs.Prelude.{Err}
-use Rattle.log_records.proofs.Blocks.{some_octet, used_low}
+use Rattle.log_replay.proofs.Names.{◌≡◌, ◌+◌, ◌*◌, ◌<◌, ℕ, refl, sym, ap, ◌∙◌, arith, Err, some_octet, used_low}
 use Rattle.log_replay.proofs.Blocks.{all_left, same_end, some_spelled, heard_more, heard_bad, heard_all}
 use Rattle.log_replay.proofs.Ledgers.{heard, is_bad, stands_later}
 use Rattle.log_replay.proofs.ledger.Ledger.hear_block.Goals as goal

@@ -1,9 +1,4 @@
-use Rattle.std.proofs.Common.{ℕ, ◌-◌, ◌*◌, ◌+◌, ◌≤◌, List}
-use Rattle.record_model.specs.State.{Write}
-use Rattle.log_records.specs.declared.log_record.LogRecord.{LogRecord}
-use Rattle.log_records.specs.Spelling.{IsBlock}
-use Rattle.log_archive.specs.Accepted.{Stream}
-use Rattle.log_replay.specs.Stands.{StandsAt}
+use Rattle.log_replay.proofs.Names.{ℕ, ◌-◌, ◌*◌, ◌+◌, ◌≤◌, List, Stream, IsBlock, LogRecord, StandsAt, Write}
 use Rattle.log_replay.proofs.Blocks.{HeardTo}
 use Rattle.log_replay.proofs.ledger.Ledger.hear_block.Given as goal
 

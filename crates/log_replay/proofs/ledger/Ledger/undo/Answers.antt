@@ -1,4 +1,4 @@
-use Rattle.std.proofs.Common.{◌≡◌, ◌==◌, true, refl, sym, ◌∙◌}
+use Rattle.log_replay.proofs.Names.{◌≡◌, ◌==◌, true, refl, sym, ◌∙◌}
 use Rattle.log_replay.proofs.Ledgers.{Takes, undone}
 use Rattle.log_replay.proofs.ledger.Ledger.undo.Goals as goal
 

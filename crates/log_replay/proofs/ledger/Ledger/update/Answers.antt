@@ -1,8 +1,4 @@
-use Rattle.std.proofs.Common.{◌≡◌, ◌*◌, ◌+◌, ◌==◌, length, nat_eq, true, false, refl, sym, ap, ◌∙◌}
-use Rattle.std.specs.Prelude.{nat_lt}
-use Rattle.indexmap.specs.IndexMap.{get}
-use Rattle.record_model.specs.State.{content_at}
-use Rattle.log_archive.specs.Accepted.{is_taken, same_content}
+use Rattle.log_replay.proofs.Names.{◌≡◌, ◌*◌, ◌+◌, ◌==◌, length, nat_eq, true, false, refl, sym, ap, ◌∙◌, nat_lt, get, is_taken, same_content, content_at}
 use Rattle.log_replay.proofs.Ledgers.{Takes, number_told, updated}
 use Rattle.log_replay.proofs.ledger.Ledger.update.Goals as goal
 

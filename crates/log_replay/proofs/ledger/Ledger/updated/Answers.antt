@@ -1,8 +1,4 @@
-use Rattle.std.proofs.Common.{◌≡◌, ◌∷◌, subst, ◌∙◌}
-use Rattle.std.specs.Prelude.{OnOk}
-use Rattle.log_archive.specs.Accepted.{Unclosed}
-use Rattle.log_replay.specs.Opened.{written}
-use Rattle.log_replay.specs.Stands.{Puts}
+use Rattle.log_replay.proofs.Names.{◌≡◌, ◌∷◌, subst, ◌∙◌, OnOk, Unclosed, written, Puts}
 use Rattle.log_replay.proofs.ledger.Ledger.updated.Goals as goal
 
 pub returns : goal.returns

@@ -1,5 +1,4 @@
-use Rattle.std.proofs.Common.{◌+◌, refl}
-use Rattle.log_replay.specs.declared.replay.Replay.{Replay}
+use Rattle.log_replay.proofs.Names.{◌+◌, refl, Replay}
 use Rattle.log_replay.proofs.Ledgers.{is_bad}
 use Rattle.log_replay.proofs.Replays.{stands_so, block_bad, block_heard}
 use Rattle.log_replay.proofs.replay.Replay.block.Goals as goal

@@ -1,6 +1,4 @@
-use Rattle.std.proofs.Common.{◌≡◌, ℕ, List, sym, ap, ◌∙◌}
-use Rattle.std.proofs.lemmas.Option.{none-some}
-use Rattle.log_archive.specs.Lines.{IsBlockLine}
+use Rattle.log_replay.proofs.Names.{◌≡◌, ℕ, List, sym, ap, ◌∙◌, none-some, IsBlockLine}
 use Rattle.log_replay.proofs.Replays.{end_accepted, end_bad, another_number, block_accepted, block_refused}
 use Rattle.log_replay.proofs.replay.Replay.hear.Goals as goal
 

@@ -1,5 +1,4 @@
-use Rattle.std.proofs.Common.{refl, sym, ap, ◌∙◌}
-use Rattle.log_replay.specs.declared.replay.Replay.{Replay}
+use Rattle.log_replay.proofs.Names.{refl, sym, ap, ◌∙◌, Replay}
 use Rattle.log_replay.proofs.Replays.{pops, none_popped}
 use Rattle.log_replay.proofs.replay.Replay.pop.Goals as goal
 

@@ -1,6 +1,4 @@
-use Rattle.std.proofs.Common.{◌≡◌, ◌+◌, ◌++◌, [], ◌∷◌, length, ap, sym, ◌∙◌, arith}
-use Rattle.std.specs.Prelude.{replicate, None}
-use Rattle.std.proofs.lemmas.List.{length-replicate, replicate-append-replicate}
+use Rattle.log_replay.proofs.Names.{◌≡◌, ◌+◌, ◌++◌, [], ◌∷◌, length, ap, sym, ◌∙◌, arith, length-replicate, replicate-append-replicate, replicate, None}
 use Rattle.log_replay.proofs.table.Table.blank.Goals as goal
 
 pub loop-count-preserved : goal.loop-count-preserved

@@ -1,4 +1,4 @@
-use Rattle.std.proofs.Common.{◌≡◌, ◌++◌}
+use Rattle.log_replay.proofs.Names.{◌≡◌, ◌++◌}
 use Rattle.log_replay.proofs.transaction.Transaction.into_net.Given as goal
 
 abbrev pub invariant-loop-number : goal.invariant-loop-number

@@ -1,7 +1,5 @@
-use Rattle.std.proofs.Common.{◌≡◌, ◌-◌, ◌∷◌, [], take, sym, ap, ◌∙◌}
-use Rattle.std.specs.Prelude.{reverse, drop}
-use Rattle.log_archive.specs.Accepted.{Unclosed}
-use Rattle.log_replay.specs.Opened.{written}
+use Rattle.log_replay.proofs.Names.{◌≡◌, ◌-◌, ◌∷◌, [], take, sym, ap, ◌∙◌, reverse, Unclosed, written}
+use Rattle.std.specs.Prelude.{drop}
 use Rattle.log_replay.proofs.Nets.{insert_is_put, popped}
 use Rattle.log_replay.proofs.transaction.Transaction.undo.Goals as goal
 

@@ -1,8 +1,4 @@
-use Rattle.std.proofs.Common.{◌≡◌, ◌∷◌, [], sym, ap, ◌∙◌}
-use Rattle.std.specs.Prelude.{reverse}
-use Rattle.std.proofs.lemmas.List.{reverse-append}
-use Rattle.log_archive.specs.Accepted.{Unclosed}
-use Rattle.log_replay.specs.Opened.{written}
+use Rattle.log_replay.proofs.Names.{◌≡◌, ◌∷◌, [], sym, ap, ◌∙◌, reverse-append, reverse, Unclosed, written}
 use Rattle.log_replay.proofs.Nets.{insert_is_put}
 use Rattle.log_replay.proofs.transaction.Transaction.update.Goals as goal
 

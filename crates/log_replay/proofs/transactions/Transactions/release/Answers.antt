@@ -1,10 +1,5 @@
-use Rattle.std.proofs.Common.{◌≡◌, ◌==◌, ◌||◌, nat_eq, Bool, true, false, cond, ℕ, take, refl, sym, ap, ◌∙◌, arith}
-use Rattle.std.specs.Prelude.{Option, None, slice_index_or}
-use Rattle.std.specs.List.{list_any}
-use Rattle.std.proofs.lemmas.List.{take_all}
+use Rattle.log_replay.proofs.Names.{◌≡◌, ◌==◌, ◌||◌, nat_eq, Bool, true, false, cond, ℕ, take, refl, sym, ap, ◌∙◌, arith, take_all, list_any, Option, None, slice_index_or, get, Write}
 use Rattle.std.proofs.lemmas.List.Folds.{list_any_more}
-use Rattle.indexmap.specs.IndexMap.{get}
-use Rattle.record_model.specs.State.{Write}
 use Rattle.log_replay.proofs.transactions.Transactions.release.Goals as goal
 
 pub loop-place-preserved : goal.loop-place-preserved

@@ -1,7 +1,4 @@
-use Rattle.std.proofs.Common.{◌≡◌, ◌==◌, nat_eq, cond, ℕ, take}
-use Rattle.std.specs.Prelude.{None}
-use Rattle.std.specs.List.{list_any}
-use Rattle.indexmap.specs.IndexMap.{get}
+use Rattle.log_replay.proofs.Names.{◌≡◌, ◌==◌, nat_eq, cond, ℕ, take, list_any, None, get}
 use Rattle.log_replay.proofs.transactions.Transactions.release.Given as goal
 
 abbrev pub invariant-loop-place : goal.invariant-loop-place

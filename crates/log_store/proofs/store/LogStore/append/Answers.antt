@@ -1,17 +1,5 @@
-use Rattle.std.proofs.Common.{rules, ◌≡◌, ◌+◌, ◌∙◌, ◌++◌, ◌∷◌, [], ℕ, List, Bool, ap, subst, arith, sym}
-use Rattle.std.specs.Prelude.{nat_lt, if◌then◌else◌, Result, Err}
-use Rattle.site.specs.declared.outside.Stop.{Stop}
-use Rattle.site.proofs.Laws.{goes_nowhere}
-use Rattle.log_records.specs.Spelling.{block_len}
-use Rattle.sealed_ring.specs.declared.ring.Ring.{Ring}
-use Rattle.sealed_ring.specs.Ready.{IsUsable}
-use Rattle.log_records.specs.Log.{Entry}
-use Rattle.log_store.specs.declared.store.LogStore.{LogStore}
-use Rattle.log_store.specs.LogList.{sealed_if, entries, with_record}
-use Rattle.log_store.specs.Representation.{overflows}
-use Rattle.log_store.specs.Sealing.{SealsTail}
+use Rattle.log_store.proofs.Names.{rules, ◌≡◌, ◌+◌, ◌∙◌, ◌++◌, ◌∷◌, [], ℕ, List, Bool, ap, subst, arith, sym, nat_lt, if◌then◌else◌, Result, Err, some_octet, Entry, block_len, sealed_if, entries, with_record, overflows, SealsTail, LogStore, IsUsable, Ring, goes_nowhere, Stop}
 use Rattle.log_store.proofs.TailLaws.{spelling_short, full_tail, room_made, end_rises}
-use Rattle.log_records.proofs.Blocks.{some_octet}
 use Rattle.log_store.proofs.EntryLaws.{sealing_keeps, one_more, next_place}
 use Rattle.log_store.proofs.GoingOn.{goes_on}
 use Rattle.log_store.proofs.SealingCalls.{seals_failed, seals_placed}

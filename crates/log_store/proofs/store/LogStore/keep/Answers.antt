@@ -1,4 +1,4 @@
-use Rattle.std.proofs.Common.{arith}
+use Rattle.log_store.proofs.Names.{arith}
 use Rattle.log_store.proofs.BlockLaws.{blocks_from}
 use Rattle.log_store.proofs.store.LogStore.keep.Goals as goal
 

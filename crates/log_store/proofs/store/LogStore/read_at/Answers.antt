@@ -1,5 +1,4 @@
-use Rattle.std.proofs.Common.{◌/◌, ◌∙◌, sym, rules}
-use Rattle.log_store.specs.LogList.{sealed_block}
+use Rattle.log_store.proofs.Names.{◌/◌, ◌∙◌, sym, rules, sealed_block}
 use Rattle.log_store.proofs.Standing.{found_in_tail, found_in_block, held_block, block_bounds}
 use Rattle.log_store.proofs.store.LogStore.read_at.Goals as goal
 

@@ -1,7 +1,4 @@
-use Rattle.std.proofs.Common.{ℕ, List, ◌∙◌, sym, subst, arith}
-use Rattle.log_records.specs.Spelling.{IsBlock}
-use Rattle.log_records.proofs.Blocks.{used_low}
-use Rattle.log_store.specs.LogList.{sealed_block}
+use Rattle.log_store.proofs.Names.{ℕ, List, ◌∙◌, sym, subst, arith, used_low, IsBlock, sealed_block}
 use Rattle.log_store.proofs.Standing.{ring_found, unit_read, held_block, one_end}
 use Rattle.log_store.proofs.store.LogStore.read_block.Goals as goal
 

@@ -1,13 +1,5 @@
-use Rattle.std.proofs.Common.{◌≡◌, ◌∙◌, ◌+◌, ◌^◌, [], Bool, ap, arith, refl, true, sym, subst, rules}
-use Rattle.std.specs.Prelude.{if◌then◌else◌}
-use Rattle.site.specs.State.{loose_of}
-use Rattle.site.proofs.Laws.{stays_honest}
-use Rattle.site.specs.Moments.{ChangesOnly}
-use Rattle.sealed_ring.specs.declared.ring.Ring.{Ring}
-use Rattle.sealed_ring.specs.declared.slots.Shape.{Shape}
-use Rattle.sealed_ring.specs.Ring.{IsRing, SameOutside, hi_of}
-use Rattle.sealed_ring.specs.Ready.{region}
-use Rattle.site.proofs.Working.{no_error}
+use Rattle.log_store.proofs.Names.{◌≡◌, ◌∙◌, ◌+◌, [], Bool, ap, arith, refl, true, sym, subst, rules, if◌then◌else◌, region, IsRing, SameOutside, hi_of, Ring, Shape, stays_honest, no_error, ChangesOnly, loose_of}
+use Rattle.std.proofs.Common.{◌^◌}
 use Rattle.log_store.proofs.GoingOn.{goes_on}
 use Rattle.log_store.proofs.NextBlocks.{at_end, masters_beside}
 use Rattle.log_store.proofs.SealLaws.{seal_beside, ring_ready, ring_finds, seal_left, seal_front, seal_reaches, seal_holds}

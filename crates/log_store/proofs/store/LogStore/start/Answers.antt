@@ -1,7 +1,4 @@
-use Rattle.std.proofs.Common.{◌-◌, ◌∙◌, ap, refl}
-use Rattle.sealed_ring.specs.Ring.{hi_of}
-use Rattle.sealed_ring.specs.Ready.{region}
-use Rattle.sealed_ring.specs.declared.slots.Shape.{Shape}
+use Rattle.log_store.proofs.Names.{◌-◌, ◌∙◌, ap, refl, region, hi_of, Shape}
 use Rattle.log_store.proofs.GoingOn.{begins}
 use Rattle.log_store.proofs.store.LogStore.start.Goals as goal
 

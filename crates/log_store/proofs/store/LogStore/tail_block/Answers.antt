@@ -1,4 +1,4 @@
-use Rattle.std.proofs.Common.{◌∙◌}
+use Rattle.log_store.proofs.Names.{◌∙◌}
 use Rattle.log_store.proofs.TailLaws.{tail_is_block}
 use Rattle.log_store.proofs.store.LogStore.tail_block.Goals as goal
 

@@ -1,31 +1,11 @@
-use Rattle.std.proofs.Common.{rules, List, [], ◌≤◌, false, length, append-nil, refl, ℕ, sym, subst, ap, ◌∙◌, arith}
-use Rattle.std.specs.Prelude.{if◌then◌else◌, OnOk}
-use Rattle.site.specs.declared.outside.Dev.TheVariants.{Disk}
-use Rattle.site.specs.State.{Image}
-use Rattle.site.proofs.Laws.{stays_honest}
-use Rattle.site.proofs.Working.{calls_then}
-use Rattle.image_changes.specs.Changes.{Reaches}
-use Rattle.second_chance.specs.Queue.{has_frame}
-use Rattle.second_chance.specs.Machine.{Cache, in_front}
-use Rattle.log_store.specs.LogList.{LogList, sealed_if}
-use Rattle.image_meaning.specs.Beside.{AreRingsSoundUnder}
-use Rattle.second_chance.specs.Machine.{Staged}
-use Rattle.write_ahead.specs.Forcing.{forces}
-use Rattle.page_store.specs.Caching.{cache_of, next_group, is_full, rules as rules_for}
-use Rattle.page_store.specs.Staging.{staged_by_eviction}
+use Rattle.page_store.proofs.Names.{rules, List, [], ◌≤◌, false, length, append-nil, refl, ℕ, sym, subst, ap, ◌∙◌, arith, if◌then◌else◌, OnOk, Reaches, AreRingsSoundUnder, LogList, sealed_if, AreSealed, pushed_for_room, cache_of, next_group, is_full, rules_for, Stands, room_changes, AreReady, LeavesPages, current, staged_by_eviction, Cache, in_front, Staged, has_frame, stays_honest, calls_then, ok_as, Image, Disk, forces}
 use Rattle.page_store.proofs.Numbers.{way_next}
-use Rattle.page_store.specs.Representation.{current}
-use Rattle.page_store.specs.Ahead.{AreSealed, pushed_for_room}
-use Rattle.page_store.specs.Changing.{room_changes}
-use Rattle.page_store.specs.Leaves.{AreReady, LeavesPages}
-use Rattle.image_changes.proofs.Counting.{calls_then as counts_then, calls_unchanged}
-use Rattle.page_store.specs.Calls.{Stands}
+use Rattle.page_store.proofs.Counting.{calls_then as counts_then, calls_unchanged}
 use Rattle.page_store.proofs.PushLaws.{ok_four}
 use Rattle.page_store.proofs.Bringing.{snapshot_same, ready_same, current_again, ahead_in}
 use Rattle.page_store.proofs.NextUnits.{next_then, next_read}
 use Rattle.page_store.proofs.Calling.{forces_again, keeps_read}
 use Rattle.page_store.proofs.StagingLaws.{stages_then, stages_as, stages_up}
-use Rattle.site.proofs.Working.{ok_as}
 use Rattle.page_store.proofs.store.PageStore.bring_in.Given.{Over}
 use Rattle.page_store.proofs.store.PageStore.bring_in.Goals.{After-read_in}
 use Rattle.page_store.proofs.store.PageStore.bring_in.Goals as goal
@@ -71,7 +51,7 @@ stands_in g c list ready =
       rings = λ newest rings. subst (AreRingsSoundUnder newest store.flash.geometry) (sym same.image) (stands.rings newest rings);
       reaches = subst (λ (i : Image). Reaches store.flash.geometry changes old.image i) (sym same.image) stands.reaches;
       calls = ap length same.past ∙ stands.calls;
-      device_calls = counts_then store.flash.geometry old mid new stands.device_calls (calls_unchanged store.flash.geometry mid new same);
+      device_calls = λ quiet. counts_then store.flash.geometry old mid new (stands.device_calls quiet) (calls_unchanged store.flash.geometry mid new same);
     })
     (read.fits fits) (c.read_in.ensures.current fits) c.read_in.ensures.put (c.read_in.ensures.read fits)
 

@@ -1,8 +1,4 @@
-use Rattle.std.proofs.Common.{◌≡◌, List, map, take_all, ap, ◌∙◌}
-use Rattle.std.proofs.lemmas.Simd.{map-map}
-use Rattle.buffer_pool.specs.declared.frame.Frame.{Frame}
-use Rattle.buffer_pool.specs.Frames.{mark_of, coldest_movable}
-use Rattle.page_store.specs.Pulling.{candidates}
+use Rattle.page_store.proofs.Names.{◌≡◌, List, map, take_all, ap, ◌∙◌, map-map, mark_of, coldest_movable, Frame, candidates}
 use Rattle.page_store.proofs.Movable.{told_mark}
 use Rattle.page_store.proofs.ToldPages.{coldest_told}
 use Rattle.page_store.proofs.store.PageStore.candidates.Goals as goal

@@ -1,4 +1,4 @@
-use Rattle.std.proofs.Common.{◌≡◌, map, take}
+use Rattle.page_store.proofs.Names.{◌≡◌, map, take}
 use Rattle.page_store.proofs.Movable.{told_mark}
 use Rattle.page_store.proofs.store.PageStore.candidates.Given as goal
 

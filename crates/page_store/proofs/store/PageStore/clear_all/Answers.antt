@@ -1,10 +1,4 @@
-use Rattle.std.proofs.Common.{◌≡◌, ℕ, ◌+◌, List, take, get_or, sym, ap, subst, ◌∙◌}
-use Rattle.std.specs.Prelude.{IsSome}
-use Rattle.std.proofs.lemmas.List.{take_more}
-use Rattle.buffer_pool.specs.declared.frame.Frame.{Frame}
-use Rattle.buffer_pool.specs.Frames.{State as Pool, frame_of, cleared}
-use Rattle.page_store.specs.declared.store.PageStore.{PageStore}
-use Rattle.page_store.specs.Flushing.{cleared_all}
+use Rattle.page_store.proofs.Names.{◌≡◌, ℕ, ◌+◌, List, take, get_or, sym, ap, subst, ◌∙◌, take_more, IsSome, Pool, frame_of, cleared, Frame, cleared_all, PageStore}
 use Rattle.page_store.proofs.Clearing.{still_there, cleared_push}
 use Rattle.page_store.proofs.ToldPages.{told_cleared}
 use Rattle.page_store.proofs.store.PageStore.clear_all.Goals as goal

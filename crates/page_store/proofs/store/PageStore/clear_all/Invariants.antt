@@ -1,7 +1,4 @@
-use Rattle.std.proofs.Common.{◌≡◌, take}
-use Rattle.buffer_pool.specs.Frames.{IsPool}
-use Rattle.page_store.specs.Representation.{AreTold}
-use Rattle.page_store.specs.Flushing.{cleared_all}
+use Rattle.page_store.proofs.Names.{◌≡◌, take, IsPool, cleared_all, AreTold}
 use Rattle.page_store.proofs.store.PageStore.clear_all.Given as goal
 
 abbrev pub invariant-loop-page : goal.invariant-loop-page

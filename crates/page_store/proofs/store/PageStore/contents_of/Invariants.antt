@@ -1,5 +1,4 @@
-use Rattle.std.proofs.Common.{◌≡◌, take, map}
-use Rattle.page_store.specs.Flushing.{content_in}
+use Rattle.page_store.proofs.Names.{◌≡◌, take, map, content_in}
 use Rattle.page_store.proofs.store.PageStore.contents_of.Given as goal
 
 abbrev pub invariant-loop-page : goal.invariant-loop-page

@@ -1,20 +1,5 @@
-use Rattle.std.proofs.Common.{rules, Bool, true, false, ◌+◌, ◌≡◌, ◌<◌, ℕ, [], length, map, sym, subst, ◌∙◌, ap, arith, refl}
-use Rattle.std.specs.Prelude.{All, List, reverse, if◌then◌else◌}
-use Rattle.std_lemmas.proofs.Results.{ok_both}
-use Rattle.buffer_pool.specs.declared.frame.Frame.{Frame}
-use Rattle.buffer_pool.specs.Frames.{State as Pool, AreDistinct, frame_of}
-use Rattle.second_chance.specs.Machine.{Cache, evict_coldest, must_be_pushed, rules_of, staged_in_eviction, staged_in_push}
-use Rattle.flash_cache.specs.declared.cache.FlashCache.{FlashCache}
-use Rattle.site.proofs.Working.{ok_as, calls_nothing, no_error}
-use Rattle.write_ahead.specs.Forcing.{end_forced, forces}
-use Rattle.page_store.specs.declared.store.PageStore.{PageStore}
-use Rattle.page_store.specs.Representation.{IsStore, Invariant}
-use Rattle.page_store.specs.Caching.{pool_page, cache_of, is_pushed, rules as rules_for}
-use Rattle.page_store.specs.Ahead.{evicted}
-use Rattle.page_store.specs.Changing.{given_changes, eviction_changes}
-use Rattle.page_store.specs.Leaves.{AreReady}
-use Rattle.flash_cache.specs.Pushed.{known_pushed, pushed_queue}
-use Rattle.page_store.specs.Calls.{MayWork, Pushes, StopsAtEnd, KeepsGiven, Stands, StandsGiven}
+use Rattle.page_store.proofs.Names.{rules, Bool, true, false, ◌+◌, ◌≡◌, ◌<◌, ℕ, [], length, map, sym, subst, ◌∙◌, ap, arith, refl, All, if◌then◌else◌, Pool, AreDistinct, frame_of, Frame, known_pushed, pushed_queue, FlashCache, evicted, pool_page, cache_of, is_pushed, rules_for, MayWork, Pushes, StopsAtEnd, KeepsGiven, Stands, StandsGiven, given_changes, eviction_changes, AreReady, IsStore, Invariant, PageStore, Cache, evict_coldest, must_be_pushed, rules_of, staged_in_eviction, staged_in_push, ok_as, calls_nothing, no_error, ok_both, end_forced, forces}
+use Rattle.std.specs.Prelude.{List, reverse}
 use Rattle.page_store.proofs.Departures.{HasLeft, Departs, departs, must_be, going_left, logged_left, few_left, absent_left, rest_current, rest_ready, rest_going, rest_logged, none_evicted, none_forced}
 use Rattle.page_store.proofs.Calling.{stops_as, pushes_as, pushes_still, pushes_with, keeps_as, keeps_still, stands_as, keeps_nothing, stands_still, keeps_given, stands_given}
 use Rattle.page_store.proofs.Changing.{eviction_is}

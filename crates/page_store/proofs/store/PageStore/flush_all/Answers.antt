@@ -1,6 +1,4 @@
-use Rattle.std.proofs.Common.{ap, ◌∙◌}
-use Rattle.second_chance.specs.Machine.{wants_flush}
-use Rattle.page_store.specs.Caching.{cache_of, rules}
+use Rattle.page_store.proofs.Names.{ap, ◌∙◌, cache_of, rules_for as rules, wants_flush}
 use Rattle.page_store.proofs.store.PageStore.flush_all.Goals as goal
 
 pub returns-clause-clean : goal.returns-clause-clean

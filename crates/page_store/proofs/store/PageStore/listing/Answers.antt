@@ -1,10 +1,6 @@
-use Rattle.std.proofs.Common.{◌++◌, map, List, ap, ◌∙◌}
-use Rattle.record_model.specs.declared.words.CacheLine.{CacheLine}
-use Rattle.record_model.specs.declared.words.CacheLine.TheVariants as line
-use Rattle.buffer_pool.specs.declared.frame.Frame.{Frame}
-use Rattle.second_chance.specs.Queue.{marks}
-use Rattle.second_chance.specs.Machine.{group_lines}
+use Rattle.page_store.proofs.Names.{◌++◌, map, List, ap, ◌∙◌, Frame, CacheLine, group_lines, marks}
 use Rattle.page_store.proofs.Lines.{pool_lines}
+use Rattle.record_model.specs.declared.words.CacheLine.TheVariants as line
 use Rattle.page_store.proofs.store.PageStore.listing.Goals as goal
 
 pub returns-clause-lines : goal.returns-clause-lines

@@ -1,19 +1,7 @@
-use Rattle.std.proofs.Common.{rules, ◌+◌, ◌≡◌, true, false, ◌&&◌, [], length, cond, arith, ap, refl, ◌∙◌}
-use Rattle.std.specs.Prelude.{nat_le}
-use Rattle.std.proofs.lemmas.Bool.Decides.{nat_tests}
-use Rattle.site.proofs.Working.{ok_as}
-use Rattle.write_ahead.specs.Forcing.{forces}
-use Rattle.page_store.specs.Caching.{cache_of, is_pushed}
-use Rattle.page_store.specs.Ahead.{evicted, pushed_for_room}
-use Rattle.page_store.specs.Changing.{eviction_changes, room_changes}
-use Rattle.page_store.specs.Calls.{Stands}
-use Rattle.site.specs.State.{Image}
-use Rattle.log_store.specs.LogList.{LogList}
+use Rattle.page_store.proofs.Names.{rules, ◌+◌, ◌≡◌, true, false, ◌&&◌, [], length, cond, arith, ap, refl, ◌∙◌, nat_tests, nat_le, LogList, evicted, pushed_for_room, cache_of, is_pushed, rules_for, next_group, Stands, eviction_changes, room_changes, staged_by_eviction, ok_as, Image, forces}
 use Rattle.page_store.proofs.Evictions.{not_forced}
 use Rattle.page_store.proofs.Calling.{keeps_as, stands_as, stops_as, stops_not, keeps_nothing, stands_still}
 use Rattle.page_store.proofs.StagingLaws.{stages_none, stages_as}
-use Rattle.page_store.specs.Caching.{rules as rules_for, next_group}
-use Rattle.page_store.specs.Staging.{staged_by_eviction}
 use Rattle.page_store.proofs.store.PageStore.make_room.Given.{Over}
 use Rattle.page_store.proofs.store.PageStore.make_room.Goals.{After-evict}
 use Rattle.page_store.proofs.store.PageStore.make_room.Goals as goal

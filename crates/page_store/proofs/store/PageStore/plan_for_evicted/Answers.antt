@@ -1,11 +1,5 @@
-use Rattle.std.proofs.Common.{◌≡◌, ℕ, ◌-◌, ◌≤◌, List, length, map, reverse, arith, ap, ◌∙◌}
-use Rattle.byte_fields.specs.declared.frame_head.Mark.{Mark}
+use Rattle.page_store.proofs.Names.{◌≡◌, ℕ, ◌-◌, ◌≤◌, List, length, map, reverse, arith, ap, ◌∙◌, Mark, rules_for as rules, movable_mark, candidates, leaving, Placed, chances_given, pages_pulled, chances_of, staged_of, pulled_at_eviction, PoolMark}
 use Rattle.second_chance.specs.declared.plan.Plan.{Plan}
-use Rattle.second_chance.specs.declared.plan.PoolMark.{PoolMark}
-use Rattle.second_chance.specs.Plans.{Placed, chances_given, pages_pulled, chances_of, staged_of, pulled_at_eviction}
-use Rattle.second_chance.specs.Machine.{leaving}
-use Rattle.page_store.specs.Caching.{rules}
-use Rattle.page_store.specs.Pulling.{movable_mark, candidates}
 use Rattle.page_store.proofs.Movable.{pulled_by_plan}
 use Rattle.page_store.proofs.store.PageStore.plan_for_evicted.Goals as goal
 

@@ -1,12 +1,5 @@
-use Rattle.std.proofs.Common.{◌≡◌, ℕ, ◌+◌, ◌<◌, ◌++◌, ◌∷◌, [], List, false, Some, get_or, length, map, take, arith, sym, ap, subst, ◌∙◌, append_assoc}
-use Rattle.std.specs.Prelude.{slice_get}
-use Rattle.std.proofs.lemmas.Option.{none-some, get_or_from_slice_get}
-use Rattle.std.proofs.lemmas.List.{take_more, length-map}
-use Rattle.buffer_pool.specs.declared.frame.Frame.{Frame}
-use Rattle.buffer_pool.specs.Frames.{State as Pool, frame_of, without}
-use Rattle.page_store.specs.declared.store.PageStore.{PageStore}
-use Rattle.page_store.specs.Pulling.{without_all, pulled}
-use Rattle.page_store.specs.Taking.{Has}
+use Rattle.page_store.proofs.Names.{◌≡◌, ℕ, ◌+◌, ◌<◌, ◌++◌, ◌∷◌, [], List, false, Some, get_or, length, map, take, arith, sym, ap, subst, ◌∙◌, append_assoc, take_more, length-map, none-some, get_or_from_slice_get, slice_get, Pool, frame_of, Frame, without_all, pulled, Has, PageStore}
+use Rattle.buffer_pool.specs.Frames.{without}
 use Rattle.page_store.proofs.Removing.{page_of, without_push, next_pulled, store_without}
 use Rattle.page_store.proofs.store.PageStore.pull.Goals as goal
 

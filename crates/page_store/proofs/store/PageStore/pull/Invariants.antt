@@ -1,8 +1,4 @@
-use Rattle.std.proofs.Common.{◌≡◌, ◌++◌, List, map, take}
-use Rattle.buffer_pool.specs.declared.frame.Frame.{Frame}
-use Rattle.page_store.specs.Pulling.{without_all, pulled}
-use Rattle.page_store.specs.Representation.{IsStore}
-use Rattle.page_store.specs.Taking.{Has}
+use Rattle.page_store.proofs.Names.{◌≡◌, ◌++◌, List, map, take, Frame, without_all, pulled, IsStore, Has}
 use Rattle.page_store.proofs.store.PageStore.pull.Given as goal
 
 abbrev pub invariant-loop-place : goal.invariant-loop-place

@@ -1,40 +1,12 @@
-use Rattle.std.specs.Prelude.{Ok, IsTrue}
-use Rattle.std.specs.List.{AllByRecursion}
-use Rattle.std.proofs.Common.{rules, refl, [], length, ◌≡◌, ◌++◌, ◌+◌, ◌*◌, ℕ, Bool, arith, sym, ap, ◌∙◌, subst, List}
-use Rattle.site.specs.declared.outside.Dev.TheVariants.{Log, Flash}
-use Rattle.site.specs.declared.geometry.Geometry.{Geometry}
-use Rattle.site.specs.State.{IsQuiet, snapshot_of}
-use Rattle.site.specs.Moments.{Leaves, LeavesOnly}
-use Rattle.site.proofs.Laws.{leaves_weaker, in_sequence, quiet_settled, holds_now, stays_honest}
-use Rattle.log_store.specs.LogList.{LogList, sealed_if, changes_if}
-use Rattle.flash_cache.specs.Pushed.{pushed_groups, frames_pushed, changes_of_group}
-use Rattle.slotted_page.specs.Layout.{IsSound}
-use Rattle.flash_cache.specs.Kept.{GivesVersions}
-use Rattle.log_store.specs.Representation.{HasBlocks, LeavesLog}
-use Rattle.image_changes.specs.Changes.{Reaches, Change}
-use Rattle.image_changes.specs.Reached.{LeavesFront}
-use Rattle.write_ahead.specs.Forcing.{IsLogged, end_forced, forces, IsLogAtEnd}
-use Rattle.page_store.specs.declared.store.PageStore.{PageStore}
-use Rattle.buffer_pool.specs.declared.frame.Frame.{Frame}
-use Rattle.page_store.specs.Ahead.{LeavesSealed, sealed_end}
-use Rattle.page_store.specs.Calls.{StandsGiven}
-use Rattle.page_store.specs.Leaves.{AreReady, LeavesPages, LeavesRings}
-use Rattle.second_chance.specs.Queue.{Queue}
+use Rattle.page_store.proofs.Names.{rules, refl, [], length, ◌≡◌, ◌++◌, ◌+◌, ◌*◌, ℕ, Bool, arith, sym, ap, ◌∙◌, subst, List, AllByRecursion, Ok, Frame, GivesVersions, staged_pages, pushed_groups, frames_pushed, changes_of_group, groups_on, FlashCache, Reaches, Change, IsReached, IsFrontOf, LeavesFront, LogList, sealed_if, changes_if, HasBlocks, LeavesLog, LeavesSealed, sealed_end, cache_of, rules_for, next_group, StandsGiven, given_changes, AreReady, LeavesPages, LeavesRings, AreTold, Invariant, HasQueueOn, Stages, PageStore, staged_in_push, Queue, each_weaker, leaves_weaker, in_sequence, quiet_settled, holds_now, stays_honest, no_error, ok_as, Leaves, LeavesOnly, SameBut, IsQuiet, IsSettled, snapshot_of, Geometry, Log, Flash, Disk, IsSound, ok_both, is_due, IsLogged, end_forced, forces, IsLogAtEnd}
+use Rattle.std.specs.Prelude.{IsTrue}
+use Rattle.page_store.proofs.Counting.{IsSilent, silent_leaves, unsynced_logged}
 use Rattle.page_store.proofs.Rings.{sealing_keeps, sound_pushed, pushing_keeps, rings_front}
 use Rattle.page_store.proofs.PushLaws.{version_same, group_changes_since, kept_where, masters_kept, own_sealing, force_leaves, force_sealed, between, Pushed, pushed, pushed_now, pushed_pages, push_leaves, pushed_sealed, reached_all, clean_given_same, gives_since, ok_under, ok_seven, fits_behind, log_fits, log_found, log_units_same}
-use Rattle.page_store.specs.Changing.{given_changes}
 use Rattle.page_store.proofs.Changing.{front_more}
-use Rattle.second_chance.specs.Machine.{staged_in_push}
-use Rattle.page_store.specs.Caching.{cache_of, rules as rules_for, next_group}
-use Rattle.page_store.specs.Staging.{HasQueueOn, Stages}
-use Rattle.tail_rebuild.specs.Saving.{is_due}
-use Rattle.flash_cache.specs.Representation.{groups_on}
-use Rattle.page_store.proofs.StagingLaws.{stages_beside, stages_between, stages_then, push_leaves as push_writes, queue_pushed}
-use Rattle.site.proofs.Working.{no_error, ok_as}
+use Rattle.page_store.proofs.StagingLaws.{stages_beside, stages_between, stages_then, push_leaves as push_writes, push_counted, queue_pushed}
 use Rattle.page_store.proofs.NextUnits.{next_logged, next_pushed, next_then, next_with}
-use Rattle.flash_cache.specs.declared.cache.FlashCache.{FlashCache}
-use Rattle.page_store.specs.Representation.{AreTold, Invariant}
-use Rattle.page_store.proofs.PushCalls.{push_takes, push_calls, four_most}
+use Rattle.page_store.proofs.PushCalls.{PushTakes, push_takes, push_calls, four_most}
 use Rattle.page_store.proofs.ToldPages.{fits_told, going_told, told_pushed}
 use Rattle.page_store.proofs.store.PageStore.push.Goals as goal
 
@@ -175,12 +147,20 @@ returns-in-Ok g c =
           let now = pushed_now store.flash groups pages changed contents old mid new b.flash b.disk b.told (sym own.log.now.content) own.told
           (subst (λ (q : Queue). GivesVersions h q.first (pushed_groups store.flash groups (frames_pushed store.flash mid.image pages changed contents)) pages contents mid.image new.image) queue is) in
           let made = subst (λ (l : List Change). Reaches h (first list ++ l) old.image new.image) (same list ready) (c.changes_add_up.ensures h (first list) second old.image mid.image new.image (reached list ready) reaches) in
-          let takes = push_takes list sealing store.flash old.image pages changed contents log.ring.hi log'.ring.hi old mid new c.requires.going.pages_going.flash.sizes c.in-Ok.ensures.forces.next (c.in-Ok.ensures.seals.device_calls ready.blocks.honest) past in
+          let takes = push_takes list sealing store.flash old.image pages changed contents log.ring.hi log'.ring.hi old mid new c.in-Ok.ensures.forces.next (c.in-Ok.ensures.seals.device_calls ready.blocks.honest) past.0 in
           record {
             gives = gives;
             reaches = made;
             calls = takes.calls;
-            device_calls = push_calls h (given_changes log list store old.image pages changed contents) old mid new made takes (own.told ∙ b.told) (c.force_for.ensures.seals.changes ready.blocks.honest).only.grown own.log.grown;
+            device_calls = λ quiet.
+                let still = c.in-Ok.ensures.calls.stays_quiet ready.blocks.honest quiet in
+                let changes = c.force_for.ensures.seals.changes ready.blocks.honest in
+                let front = (c.push_group-pushed.ensures.pushes groups b.fits b.holds).front still in
+                let silent = in_sequence old mid new IsSilent (each_weaker old mid (SameBut Log old) IsSilent (λ m same. same.telling) changes.only)
+                (silent_leaves mid new (leaves_weaker mid new (IsReached h (IsFrontOf second) mid) (λ s. s.told ≡ mid.told) (λ s is. is.told) front)) in
+                let before = unsynced_logged old mid quiet changes in
+                let unsynced = past.1 (quiet_settled Disk mid still) in
+                push_calls h (given_changes log list store old.image pages changed contents) (staged_pages store.flash) old new made takes (own.told ∙ b.told) silent (omega (arith, before, unsynced));
             leaves = λ given are given_clean. pushed_pages store.flash groups pages changed contents old mid new b.flash b.disk b.told c.ring_kept.ensures
                 (masters_kept c.ring_kept.ensures h (first list) old (snapshot_of mid) (own_sealing sealing list) (reached_all h (first list) old mid b.told (reached list ready))) given sealing list are (sealed_blocks list ready)
                 (snapshot_of new) now (clean (cleaned given_clean)) (reached_all h _ mid new own.told reaches);
@@ -197,7 +177,7 @@ returns-in-Ok g c =
           })
           c.push_group-pushed.ensures.directory ((c.push_group-pushed.ensures.pushes groups b.fits b.holds).gives b.clean) ((c.push_group-pushed.ensures.pushes groups b.fits b.holds).reaches)
           (ok_under c.push_group-pushed.result _ _ ((c.push_group-pushed.ensures.pushes groups b.fits b.holds).clean b.clean)) (c.push_group-pushed.ensures.keeps.fits b.fits) ((c.push_group-pushed.ensures.pushes groups b.fits b.holds).holds)
-          (c.push_group-pushed.ensures.device_calls b.honest);
+          (ok_both c.push_group-pushed.result _ _ (PushTakes store.flash mid new) (λ calls unsynced. (calls, unsynced)) (c.push_group-pushed.ensures.device_calls b.honest) (ok_under c.push_group-pushed.result (IsSettled Disk mid) _ (c.push_group-pushed.ensures.unsynced b.honest)));
       pushes =
           let log_reads = c.push_group-pushed.ensures.others Log (λ same. cc) ∙ c.force_for.ensures.seals.reads Log in
           let going : Invariant after new = going_told store cache after old new c.push_group-pushed.ensures.keeps.geometry told c.push_group-pushed.ensures.keeps.going are_told c.requires.going.pages_going in
@@ -225,8 +205,9 @@ returns-in-Ok g c =
           by_forcing (record {
             holds = λ has. queue_pushed c.push_group-pushed.result c.push_group-pushed.new.self store _ new c.push_group-pushed.ensures.keeps.going (c.push_group-pushed.ensures.keeps.fits has.fits) ((c.push_group-pushed.ensures.pushes has.groups has.fits has.holds).holds);
             quiet = λ has quiet. c.push_group-pushed.ensures.keeps.quiet has.fits.honest quiet;
-            writes = λ has quiet. push_writes store (groups_on store.flash.geometry mid.image) _ mid new has ((c.push_group-pushed.ensures.pushes has.groups has.fits has.holds).front quiet);
+            writes = λ has quiet. push_writes store (groups_on store.flash.geometry mid.image) _ mid new has ((c.push_group-pushed.ensures.pushes has.groups has.fits has.holds).front quiet) ((c.push_group-pushed.ensures.pushes has.groups has.fits has.holds).gaps quiet);
             last = λ has quiet. (c.push_group-pushed.ensures.pushes has.groups has.fits has.holds).last quiet;
+            counted = λ has quiet. push_counted c.push_group-pushed.result store cache _ mid new c.push_group-pushed.ensures.directory (c.push_group-pushed.ensures.unsynced has.fits.honest (quiet_settled Disk mid quiet));
             sizes = c.push_group-pushed.ensures.keeps.geometry;
           }));
       worn = search rules;

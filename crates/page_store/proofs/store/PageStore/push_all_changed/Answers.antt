@@ -1,23 +1,7 @@
-use Rattle.std.proofs.Common.{rules, ℕ, [], ◌≡◌, Bool, ◌++◌, true, false, refl, sym, ap, subst, ◌∙◌, arith, ◌≤◌, map}
-use Rattle.std.proofs.Math.Bool.{or-false}
-use Rattle.std.specs.Prelude.{nat_lt, ◌||◌}
-use Rattle.std.proofs.lemmas.Bool.{true≢false, or_left, or_right, and_left, and_parts}
-use Rattle.std.proofs.lemmas.Bool.Decides.{nat_tests}
-use Rattle.site.proofs.Working.{calls_nothing, no_error}
-use Rattle.second_chance.specs.Machine.{Rules, rules_of, Cache, push_changed, flushed, wants_flush}
-use Rattle.second_chance.specs.Laws.{changed_count}
-use Rattle.log_store.specs.LogList.{LogList, sealed_if}
-use Rattle.log_store.specs.Representation.{has_tail}
-use Rattle.write_ahead.specs.Forcing.{forces, is_unsealed, end_now}
-use Rattle.second_chance.proofs.GroupCounts.{changed_next}
-use Rattle.page_store.specs.declared.store.PageStore.{PageStore}
-use Rattle.page_store.specs.Caching.{next_group, cache_of, rules as rules_for}
-use Rattle.buffer_pool.specs.declared.frame.Frame.{Frame}
-use Rattle.page_store.specs.Flushing.{cleared_all, saved_next, flushed_first, flushed_contents, changed_frames}
-use Rattle.page_store.specs.Leaves.{AreReady}
-use Rattle.page_store.specs.Pulling.{room_for_pages}
+use Rattle.page_store.proofs.Names.{rules, ℕ, [], ◌≡◌, Bool, ◌++◌, true, false, refl, sym, ap, subst, ◌∙◌, arith, ◌≤◌, map, or-false, or_left, or_right, and_left, and_parts, nat_tests, nat_lt, Frame, LogList, sealed_if, has_tail, next_group, cache_of, rules_for, standing, push_changes, flush_changes, after_push, pushes_changes, cleared_all, saved_next, flushed_first, flushed_contents, changed_frames, AreReady, room_for_pages, PageStore, changed_next, changed_count, Rules, rules_of, Cache, push_changed, flushed, wants_flush, calls_nothing, no_error, forces, is_unsealed, end_now}
+use Rattle.std.specs.Prelude.{◌||◌}
+use Rattle.std.proofs.lemmas.Bool.{true≢false}
 use Rattle.page_store.proofs.Choosing.{first_changed}
-use Rattle.page_store.specs.Changing.{standing, push_changes, flush_changes, after_push, pushes_changes}
 use Rattle.page_store.proofs.Left.{some_left, none_left, front_pages, back_pages, all_changed}
 use Rattle.page_store.proofs.Unsealed.{next_round, nothing_forced, forced_by_first}
 use Rattle.page_store.proofs.Numbers.{flushed_next, flushed_more}
@@ -190,7 +174,7 @@ loop-rest-preserved g c =
                 (has_pushed log list' store store' mid new so_far.stands.ready stands.ready.pages.flash push.works.geometry inv.going.pages_going.flash.next inv.going.pages_going.flash.limits inv.going.pages_going.flash.few (saved_next store) stands.reaches) save.directory save.frames
                 (gives_versions store.flash.geometry (saved_next store) mid.image new.image (save.gives list' so_far.stands.ready)));
             keeps = keeps_as (sym now) refl (keeps_then c.fronts_add_up.ensures (once g s) works.geometry (works.calls.stays_quiet ready.pages.flash.honest) so_far.stands so_far.keeps (c.in_default.ensures.keeps list' so_far.stands.ready));
-            stands = stands_as (sym now) refl (stands_then c.changes_add_up.ensures (once g s) works.geometry so_far.stands stands);
+            stands = stands_as (sym now) refl (stands_then c.changes_add_up.ensures (once g s) works.geometry (works.calls.stays_quiet ready.pages.flash.honest) so_far.stands stands);
           };
       forced = inv.forced
           ∙ next_round is_unsealed (room_for_pages (rules_for store) store.flash.directory) store.pool.frames inv.going.pages_going.own.pool.distinct b (has_tail log) (has_tail log') log.ring.hi log'.ring.hi push.works.forces.next push.works.forces.end

@@ -1,15 +1,6 @@
-use Rattle.std.proofs.Common.{map, ◌≡◌, ◌+◌, ◌*◌, ◌≤◌, true, Ok}
-use Rattle.std.specs.Prelude.{nat_lt, ◌||◌, ◌^◌}
-use Rattle.second_chance.specs.Machine.{flushed, wants_flush}
-use Rattle.second_chance.specs.Laws.{changed_count}
-use Rattle.log_store.specs.LogList.{LogList}
-use Rattle.write_ahead.specs.Forcing.{forces}
-use Rattle.page_store.specs.Caching.{next_group, cache_of, rules}
-use Rattle.buffer_pool.specs.declared.frame.Frame.{Frame}
-use Rattle.page_store.specs.Flushing.{changed_frames, flushed_contents}
-use Rattle.page_store.specs.Leaves.{AreReady}
-use Rattle.page_store.specs.Changing.{flush_changes}
-use Rattle.page_store.specs.Calls.{Pushes, MayWork}
+use Rattle.page_store.proofs.Names.{map, ◌≡◌, ◌+◌, ◌*◌, ◌≤◌, true, nat_lt, ◌^◌, Frame, LogList, next_group, cache_of, rules_for as rules, Pushes, MayWork, flush_changes, changed_frames, flushed_contents, AreReady, changed_count, flushed, wants_flush, forces}
+use Rattle.std.proofs.Common.{Ok}
+use Rattle.std.specs.Prelude.{◌||◌}
 use Rattle.page_store.proofs.Flushes.{SoFar}
 use Rattle.page_store.proofs.StagingLaws.{IsFlushing}
 use Rattle.page_store.proofs.store.PageStore.push_all_changed.Given as goal

@@ -1,24 +1,4 @@
-use Rattle.std.proofs.Common.{◌≡◌, ◌≢◌, ◌<◌, ◌++◌, ℕ, List, length, length-append, map, arith, ap, subst, sym, ◌∙◌, refl}
-use Rattle.std.specs.Prelude.{Ok, All, AllPairs, IsSome}
-use Rattle.std.specs.List.{AllByRecursion}
-use Rattle.std.proofs.lemmas.List.{length-map}
-use Rattle.site.specs.declared.geometry.Geometry.{Geometry}
-use Rattle.buffer_pool.specs.declared.frame.Frame.{Frame}
-use Rattle.buffer_pool.specs.Frames.{State as Pool, IsPool, frame_of}
-use Rattle.second_chance.specs.Machine.{Cache, chance_frame}
-use Rattle.second_chance.specs.declared.frame.Frame.{Frame as Known}
-use Rattle.flash_cache.specs.Pushed.{chance_marks, pushed_queue}
-use Rattle.write_ahead.specs.Forcing.{IsLogged, end_forced, forces}
-use Rattle.page_store.specs.Leaves.{Gives}
-use Rattle.second_chance.specs.Plans.{Placed}
-use Rattle.page_store.specs.declared.store.PageStore.{PageStore}
-use Rattle.page_store.specs.Representation.{IsPage, AreTold}
-use Rattle.page_store.specs.Caching.{pool_page, cache_of, rules as rules_for}
-use Rattle.page_store.specs.Ahead.{AreLogged}
-use Rattle.page_store.specs.Calls.{Pushes, Stands}
-use Rattle.page_store.specs.Changing.{standing, push_changes}
-use Rattle.page_store.specs.Pulling.{room_for_pages}
-use Rattle.page_store.specs.Flushing.{saved_next, flushed_first, cleared_all}
+use Rattle.page_store.proofs.Names.{◌≡◌, ◌≢◌, ◌<◌, ◌++◌, ℕ, List, length, length-append, map, arith, ap, subst, sym, ◌∙◌, refl, length-map, AllByRecursion, Ok, All, AllPairs, IsSome, Pool, IsPool, frame_of, Frame, chance_marks, pushed_queue, AreLogged, pool_page, cache_of, rules_for, Pushes, Stands, standing, push_changes, saved_next, flushed_first, cleared_all, Gives, room_for_pages, IsPage, AreTold, PageStore, Cache, chance_frame, Placed, Known, Geometry, IsLogged, end_forced, forces}
 use Rattle.page_store.proofs.Saving.{pages_there, pages_exist, pages_apart, distinct_chosen, some_chosen}
 use Rattle.page_store.proofs.Choosing.{few_chosen, room_some}
 use Rattle.page_store.proofs.Touching.{pool_going}

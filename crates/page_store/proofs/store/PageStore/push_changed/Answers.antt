@@ -1,8 +1,4 @@
-use Rattle.std.proofs.Common.{rules, arith, refl, ℕ, sym, subst}
-use Rattle.std.specs.Prelude.{All, IsSome}
-use Rattle.buffer_pool.specs.Frames.{frame_of}
-use Rattle.page_store.specs.Caching.{rules as rules_for}
-use Rattle.page_store.specs.Pulling.{room_for_pages}
+use Rattle.page_store.proofs.Names.{rules, arith, refl, ℕ, sym, subst, All, IsSome, frame_of, rules_for, room_for_pages}
 use Rattle.page_store.proofs.Saving.{pages_there}
 use Rattle.page_store.proofs.Calling.{keeps_still, pushes_still}
 use Rattle.page_store.proofs.StagingLaws.{stages_none}

@@ -1,12 +1,4 @@
-use Rattle.std.proofs.Common.{rules, refl, ◌≡◌, ◌<◌, None, false, List, ◌∷◌, map, length, sym, ap, subst, ◌∙◌}
-use Rattle.flash_cache.specs.Representation.{version_on}
-use Rattle.buffer_pool.specs.declared.frame.Frame.{Frame}
-use Rattle.buffer_pool.specs.Frames.{State as Pool, frame_of}
-use Rattle.second_chance.specs.Queue.{with_read}
-use Rattle.second_chance.specs.Machine.{Cache, in_front}
-use Rattle.page_store.specs.Representation.{Matches, IsPage}
-use Rattle.page_store.specs.Caching.{pool_page, cache_of}
-use Rattle.site.proofs.Working.{ok_as, ok_always}
+use Rattle.page_store.proofs.Names.{rules, refl, ◌≡◌, ◌<◌, None, false, List, ◌∷◌, map, length, sym, ap, subst, ◌∙◌, Pool, frame_of, Frame, version_on, pool_page, cache_of, Matches, IsPage, Cache, in_front, with_read, ok_as, ok_always}
 use Rattle.page_store.proofs.Pools.{in_front_absent}
 use Rattle.page_store.proofs.Entering.{put_fits, put_going}
 use Rattle.page_store.proofs.StagingLaws.{stages_between, stages_result}

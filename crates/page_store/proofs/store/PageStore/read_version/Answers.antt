@@ -1,18 +1,6 @@
-use Rattle.std.specs.Prelude.{Ok, Bool}
-use Rattle.page_store.specs.declared.store.PageStore.{PageStore}
-use Rattle.page_store.specs.Staging.{HasQueueOn}
-use Rattle.std.proofs.Common.{rules, ◌≡◌, true, false, arith, sym, ap, subst, ◌∙◌, refl}
+use Rattle.page_store.proofs.Names.{rules, ◌≡◌, true, false, arith, sym, ap, subst, ◌∙◌, refl, Ok, page_on, FlashCache, Invariant, Matches, HasQueueOn, PageStore, has_frame, with_read, unchanged_in_sequence, stays_honest, ok_as, ok_always, Image, Log, Disk, Foreign, IsSound}
+use Rattle.std.specs.Prelude.{Bool}
 use Rattle.second_chance.proofs.Unread.{with_read_none, read_has}
-use Rattle.site.specs.declared.outside.Dev.TheVariants.{Log, Disk}
-use Rattle.site.specs.declared.outside.Stop.TheVariants.{Foreign}
-use Rattle.site.specs.State.{Image}
-use Rattle.disk_pages.specs.Pages.{page_on}
-use Rattle.slotted_page.specs.Layout.{IsSound}
-use Rattle.site.proofs.Laws.{unchanged_in_sequence, stays_honest}
-use Rattle.site.proofs.Working.{ok_as, ok_always}
-use Rattle.second_chance.specs.Queue.{has_frame, with_read}
-use Rattle.flash_cache.specs.declared.cache.FlashCache.{FlashCache}
-use Rattle.page_store.specs.Representation.{Invariant, Matches}
 use Rattle.page_store.proofs.PushLaws.{flash_fits_same, flash_holds_same, kept_where}
 use Rattle.page_store.proofs.Versions.{flash_later, store_with, fits_with}
 use Rattle.page_store.proofs.StagingLaws.{stages_still, queue_same, queue_pushed}
@@ -112,11 +100,13 @@ returns-in-Err-read_disk-clause-reads g c =
     search rules
 
 pub returns-in-Err-clause-stages : goal.returns-in-Err-clause-stages
-returns-in-Err-clause-stages g c = stages_still tt (omega arith) c.fetch.ensures.reads.same c.fetch.ensures.geometry (λ has. tt)
+returns-in-Err-clause-stages g c = stages_still tt (omega arith) c.fetch.ensures.reads.same c.fetch.ensures.geometry tt (λ has. tt)
 
 pub returns-then-found-clause-stages : goal.returns-then-found-clause-stages
 returns-then-found-clause-stages g c =
-    stages_still (ok_always c.sound_page.result _ refl) (omega arith) c.fetch.ensures.reads.same c.fetch.ensures.geometry (λ has.
+    let has : has_frame c.args.self.now.flash.directory c.args.page ≡ true = sym c.in-Ok.ensures.found ∙ c.if-found.true in
+    let same = ap (λ (f : FlashCache). f.directory.first) (c.in-Ok.ensures.marked has) in
+    stages_still (ok_always c.sound_page.result _ refl) (omega arith) c.fetch.ensures.reads.same c.fetch.ensures.geometry (ok_always c.sound_page.result _ (omega (arith, same))) (λ has.
     ok_always c.sound_page.result (HasQueueOn (record c.args.self.now { flash = c.fetch.new.self }) (g.S.Site.state c.fetch.new.site))
     (queue_pushed {T = Bool} (Ok c.in-Ok.found) c.fetch.new.self c.args.self.now has.groups (g.S.Site.state c.fetch.new.site) c.fetch.ensures.going (c.in-Ok.ensures.fits has.fits) (c.in-Ok.ensures.holds has.groups has.fits has.holds)))
 
@@ -126,7 +116,9 @@ returns-in-Ok-read_disk-clause-stages g c =
     let mid = g.S.Site.state c.fetch.new.site in
     let new = g.S.Site.state c.read_disk.new.site in
     let after : PageStore = record store { flash = c.fetch.new.self } in
-    stages_still (ok_always c.sound_page-in-Ok-read_disk.result _ refl) (omega arith) (search rules) c.fetch.ensures.geometry (λ has.
+    let unread = unframed g (goal.at.returns-in-Ok-read_disk-clause-stages g c).After-read_disk in
+    let first = ap (λ (f : FlashCache). f.directory.first) (c.fetch.ensures.none unread).1 in
+    stages_still (ok_always c.sound_page-in-Ok-read_disk.result _ refl) (omega arith) (search rules) c.fetch.ensures.geometry (ok_always c.sound_page-in-Ok-read_disk.result _ (omega (arith, first))) (λ has.
     let honest = stays_honest (g.S.Site.state c.args.site.now) mid c.fetch.ensures.reads.preserves has.fits.honest in
     let second = c.read_disk.ensures.same honest in
     ok_always c.sound_page-in-Ok-read_disk.result (HasQueueOn after new)
@@ -134,4 +126,4 @@ returns-in-Ok-read_disk-clause-stages g c =
     (queue_pushed {T = Bool} (Ok c.in-Ok.found) c.fetch.new.self store has.groups mid c.fetch.ensures.going (c.in-Ok.ensures.fits has.fits) (c.in-Ok.ensures.holds has.groups has.fits has.holds))))
 
 pub returns-in-Err-read_disk-clause-stages : goal.returns-in-Err-read_disk-clause-stages
-returns-in-Err-read_disk-clause-stages g c = stages_still tt (omega arith) (search rules) c.fetch.ensures.geometry (λ has. tt)
+returns-in-Err-read_disk-clause-stages g c = stages_still tt (omega arith) (search rules) c.fetch.ensures.geometry tt (λ has. tt)

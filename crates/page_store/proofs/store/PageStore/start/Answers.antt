@@ -1,11 +1,5 @@
-use Rattle.std.proofs.Common.{rules, ap, map, false}
-use Rattle.page_store.specs.Representation.{AreTold}
+use Rattle.page_store.proofs.Names.{rules, ap, map, false, Pool, pool_page, AreTold, PageStore, Cache, err_again}
 use Rattle.page_store.proofs.ToldPages.{told_none}
-use Rattle.buffer_pool.specs.Frames.{State as Pool}
-use Rattle.second_chance.specs.Machine.{Cache}
-use Rattle.page_store.specs.declared.store.PageStore.{PageStore}
-use Rattle.page_store.specs.Caching.{pool_page}
-use Rattle.site.proofs.Working.{err_again}
 use Rattle.page_store.proofs.Fitting.{fits_at_start}
 use Rattle.page_store.proofs.store.PageStore.start.Goals as goal
 

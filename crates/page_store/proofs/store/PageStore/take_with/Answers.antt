@@ -1,4 +1,4 @@
-use Rattle.std.proofs.Common.{◌∷◌, []}
+use Rattle.page_store.proofs.Names.{◌∷◌, []}
 use Rattle.page_store.proofs.store.PageStore.take_with.Goals as goal
 
 pub returns-clause-taken : goal.returns-clause-taken

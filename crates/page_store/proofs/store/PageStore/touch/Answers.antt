@@ -1,16 +1,4 @@
-use Rattle.std.proofs.Common.{◌≡◌, ℕ, true, None, Some, map, refl, rules, arith, sym, ap, subst, ◌∙◌}
-use Rattle.std.specs.Prelude.{Result}
-use Rattle.std.specs.List.{AllByRecursion}
-use Rattle.site.specs.declared.outside.Stop.{Stop}
-use Rattle.buffer_pool.proofs.Order.{frame_page}
-use Rattle.buffer_pool.specs.declared.frame.Frame.{Frame}
-use Rattle.buffer_pool.specs.Frames.{State as Pool, frame_of, front_of}
-use Rattle.second_chance.specs.Machine.{Cache}
-use Rattle.write_ahead.specs.Forcing.{IsLogged, end_forced}
-use Rattle.page_store.specs.Representation.{IsPage}
-use Rattle.page_store.specs.Caching.{pool_page, rules as rules_for}
-use Rattle.page_store.specs.Calls.{MayWork}
-use Rattle.page_store.specs.Rooms.{BringsIn}
+use Rattle.page_store.proofs.Names.{◌≡◌, ℕ, true, None, Some, map, refl, rules, arith, sym, ap, subst, ◌∙◌, AllByRecursion, Result, frame_page, Pool, frame_of, front_of, Frame, pool_page, rules_for, MayWork, IsPage, BringsIn, Cache, Stop, IsLogged, end_forced}
 use Rattle.page_store.proofs.Pools.{touched_held}
 use Rattle.page_store.proofs.Touching.{nothing_staged, not_there, nothing_forced, nothing_pushed, nothing_changes, all_touched, order_fits, order_current, pool_going}
 use Rattle.page_store.proofs.Misses.{its_keeps, its_stands, its_works, its_stages, its_worn, its_machine, its_flash_reads, its_disk_reads}

@@ -1,8 +1,4 @@
-use Rattle.std.proofs.Common.{◌+◌, List, false, take, take_all, get_or, refl, ap, subst, ◌∙◌}
-use Rattle.std.proofs.lemmas.List.{take_more}
-use Rattle.byte_fields.specs.declared.frame_head.Mark.{Mark}
-use Rattle.page_store.specs.declared.store.PageStore.{PageStore}
-use Rattle.page_store.specs.Telling.{is_marked, TellsOf}
+use Rattle.page_store.proofs.Names.{◌+◌, List, false, take, take_all, get_or, refl, ap, subst, ◌∙◌, take_more, Mark, is_marked, TellsOf, PageStore}
 use Rattle.page_store.proofs.ToldPages.{tells_mark, tells_none}
 use Rattle.page_store.proofs.store.PageStore.update_framed_marks.Goals as goal
 

@@ -1,5 +1,4 @@
-use Rattle.std.proofs.Common.{◌≡◌, take}
-use Rattle.page_store.specs.Telling.{is_marked, TellsOf}
+use Rattle.page_store.proofs.Names.{◌≡◌, take, is_marked, TellsOf}
 use Rattle.page_store.proofs.store.PageStore.update_framed_marks.Given as goal
 
 abbrev pub invariant-loop-mark : goal.invariant-loop-mark

@@ -1,7 +1,4 @@
-use Rattle.std.proofs.Common.{◌+◌, ℕ, List, take, take_all, get_or, refl, ap, subst, ◌∙◌}
-use Rattle.std.proofs.lemmas.List.{take_more}
-use Rattle.page_store.specs.declared.store.PageStore.{PageStore}
-use Rattle.page_store.specs.Telling.{is_named, TellsOf}
+use Rattle.page_store.proofs.Names.{◌+◌, ℕ, List, take, take_all, get_or, refl, ap, subst, ◌∙◌, take_more, is_named, TellsOf, PageStore}
 use Rattle.page_store.proofs.ToldPages.{tells_page, tells_none}
 use Rattle.page_store.proofs.store.PageStore.update_framed_pages.Goals as goal
 

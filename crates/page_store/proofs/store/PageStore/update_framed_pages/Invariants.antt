@@ -1,5 +1,4 @@
-use Rattle.std.proofs.Common.{◌≡◌, take}
-use Rattle.page_store.specs.Telling.{is_named, TellsOf}
+use Rattle.page_store.proofs.Names.{◌≡◌, take, is_named, TellsOf}
 use Rattle.page_store.proofs.store.PageStore.update_framed_pages.Given as goal
 
 abbrev pub invariant-loop-page : goal.invariant-loop-page

@@ -1,8 +1,5 @@
-use Rattle.std.proofs.Common.{◌≡◌, ℕ, Option, Some, None, IfSome, is_some, ap, sym, subst, ◌∙◌}
-use Rattle.second_chance.specs.Queue.{Queue}
+use Rattle.policy_sim.proofs.Names.{◌≡◌, ℕ, Option, Some, None, IfSome, is_some, ap, sym, subst, ◌∙◌, some_newest, newest_at, newest, IsNewest, IsQueue, Queue}
 use Rattle.flash_directory.specs.declared.place.Place.{Place}
-use Rattle.flash_directory.specs.Heads.{newest, IsNewest, IsQueue}
-use Rattle.flash_directory.proofs.Keeping.{some_newest, newest_at}
 use Rattle.policy_sim.proofs.directory.Directory.newest.Goals as goal
 
 pub returns-clause-frame : goal.returns-clause-frame

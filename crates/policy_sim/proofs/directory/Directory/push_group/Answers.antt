@@ -1,10 +1,5 @@
-use Rattle.std.proofs.Common.{ℕ, ◌≡◌, ◌+◌, ◌^◌, ◌≤◌, List, length, arith, ap, sym, subst, ◌∙◌}
-use Rattle.second_chance.specs.declared.frame.Frame.{Frame}
-use Rattle.second_chance.specs.Queue.{Queue}
-use Rattle.flash_directory.specs.Heads.{last_among, newest}
-use Rattle.flash_directory.proofs.Keeping.{places_pushed}
+use Rattle.policy_sim.proofs.Names.{ℕ, ◌≡◌, ◌+◌, ◌^◌, ◌≤◌, List, length, arith, ap, sym, subst, ◌∙◌, places_pushed, last_among, newest, at_page, Queue, Frame}
 use Rattle.flash_directory.proofs.Opened.{queue_pushed}
-use Rattle.policy_sim.specs.Tables.{at_page}
 use Rattle.policy_sim.proofs.directory.Directory.push_group.Goals as goal
 
 pub invariant_of-self-in_default : goal.invariant_of-self-in_default

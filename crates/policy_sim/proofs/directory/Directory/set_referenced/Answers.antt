@@ -1,10 +1,5 @@
-use Rattle.std.proofs.Common.{◌≡◌, ◌-◌, ℕ, List, set, length, arith, sym, ap, ◌∙◌}
-use Rattle.second_chance.specs.declared.frame.Frame.{Frame}
-use Rattle.second_chance.specs.Queue.{Queue, with_read, groups_read}
-use Rattle.flash_directory.specs.Heads.{read_at, last_among, newest}
+use Rattle.policy_sim.proofs.Names.{◌≡◌, ◌-◌, ℕ, List, set, length, arith, sym, ap, ◌∙◌, place_at, newest_read, read_at, last_among, newest, length-groups_read, Queue, with_read, groups_read, Frame}
 use Rattle.flash_directory.proofs.Reading.{groups_read_at, sizes_read}
-use Rattle.flash_directory.proofs.Keeping.{place_at, newest_read}
-use Rattle.second_chance.proofs.Unread.{length-groups_read}
 use Rattle.policy_sim.proofs.directory.Directory.set_referenced.Goals as goal
 
 -- the groups then

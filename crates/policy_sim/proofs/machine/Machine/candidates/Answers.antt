@@ -1,8 +1,4 @@
-use Rattle.std.proofs.Common.{List, ap, ◌∙◌}
-use Rattle.second_chance.specs.declared.plan.PoolMark.{PoolMark}
-use Rattle.second_chance.specs.Plans.{eviction_plan}
-use Rattle.second_chance.specs.Machine.{pool_marks}
-use Rattle.policy_sim.specs.Steps.{cache_of}
+use Rattle.policy_sim.proofs.Names.{List, ap, ◌∙◌, cache_of, pool_marks, eviction_plan, PoolMark}
 use Rattle.policy_sim.proofs.Pushed.{seven_are_enough}
 use Rattle.policy_sim.proofs.machine.Machine.candidates.Goals as goal
 

@@ -1,7 +1,4 @@
-use Rattle.std.proofs.Common.{rules, ◌≡◌, ◌∙◌, ◌++◌, ◌∷◌, [], false, true, length, ap, sym, refl, if◌then◌else◌}
-use Rattle.second_chance.specs.Machine.{Cache, PoolPage, must_be_pushed, push_evicted, staged_in_push}
-use Rattle.policy_sim.specs.Pools.{page_of, pages_of}
-use Rattle.policy_sim.specs.Steps.{rules_in}
+use Rattle.policy_sim.proofs.Names.{rules, ◌≡◌, ◌∙◌, ◌++◌, ◌∷◌, [], false, true, length, ap, sym, refl, if◌then◌else◌, page_of, pages_of, rules_in, Cache, PoolPage, must_be_pushed, push_evicted, staged_in_push}
 use Rattle.policy_sim.proofs.Touched.{coldest_evicted, coldest_pushes, coldest_stages}
 use Rattle.policy_sim.proofs.machine.Machine.evict.Goals as goal
 

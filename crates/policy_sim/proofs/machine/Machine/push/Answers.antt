@@ -1,13 +1,4 @@
-use Rattle.std.proofs.Common.{◌≡◌, ◌+◌, Bool, List, take, length, refl, arith, ap, sym, subst, ◌∙◌, if◌then◌else◌, []}
-use Rattle.byte_fields.specs.declared.frame_head.Mark.{Mark}
-use Rattle.second_chance.specs.declared.frame.Frame.{Frame}
-use Rattle.second_chance.specs.declared.plan.Plan.{Plan}
-use Rattle.second_chance.specs.Queue.{Queue, front_marks, has_frame, pushed}
-use Rattle.second_chance.specs.Machine.{Cache, PoolPage, holds, without, leaving}
-use Rattle.second_chance.specs.Laws.{names}
-use Rattle.policy_sim.specs.Pools.{group_of, page_of, pages_of}
-use Rattle.policy_sim.specs.Listing.{unless}
-use Rattle.policy_sim.specs.Steps.{cache_of, rules_in}
+use Rattle.policy_sim.proofs.Names.{◌≡◌, ◌+◌, Bool, List, take, length, refl, arith, ap, sym, subst, ◌∙◌, if◌then◌else◌, [], Mark, unless, group_of, page_of, pages_of, cache_of, rules_in, names, Cache, PoolPage, holds, without, leaving, Queue, front_marks, has_frame, pushed, Frame, Plan}
 use Rattle.policy_sim.proofs.Lost.{still_framed}
 use Rattle.policy_sim.proofs.Pushed.{push_is, staged_count, next_after}
 use Rattle.policy_sim.proofs.Struck.{listed_by}

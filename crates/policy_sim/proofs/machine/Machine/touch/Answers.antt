@@ -1,9 +1,4 @@
-use Rattle.std.proofs.Common.{◌≡◌, ◌+◌, ◌&&◌, ◌||◌, not, false, List, length, arith, sym, ap, ◌∙◌}
-use Rattle.second_chance.specs.Queue.{Queue, has_frame}
-use Rattle.second_chance.specs.Machine.{Cache, PoolPage, holds}
-use Rattle.policy_sim.specs.Pools.{pages_of}
-use Rattle.policy_sim.specs.Steps.{cache_of, rules_in}
-use Rattle.policy_sim.specs.declared.counts.Counts.{Counts}
+use Rattle.policy_sim.proofs.Names.{◌≡◌, ◌+◌, ◌&&◌, ◌||◌, not, false, List, length, arith, sym, ap, ◌∙◌, pages_of, cache_of, rules_in, Counts, Cache, PoolPage, holds, Queue, has_frame}
 use Rattle.policy_sim.proofs.Struck.{listed_by}
 use Rattle.policy_sim.proofs.Touched.{fetched, missed_cache, missed_counts, next_read, still_none}
 use Rattle.policy_sim.proofs.machine.Machine.touch.Goals as goal

@@ -1,5 +1,5 @@
-use Rattle.std.proofs.Common.{rules, slice_set, ap, arith}
-use Rattle.second_chance.specs.declared.plan.PoolMark.{PoolMark}
+use Rattle.policy_sim.proofs.Names.{rules, ap, arith, PoolMark}
+use Rattle.std.proofs.Common.{slice_set}
 use Rattle.policy_sim.proofs.Looked.{look_ends, look_goes_on, look_has_enough}
 use Rattle.policy_sim.proofs.pool.Pool.candidates.Goals as goal
 

@@ -1,4 +1,4 @@
-use Rattle.std.proofs.Common.{◌≡◌, ◌≤◌, length}
+use Rattle.policy_sim.proofs.Names.{◌≡◌, ◌≤◌, length}
 use Rattle.policy_sim.proofs.Looked.{IsLooked}
 use Rattle.policy_sim.proofs.pool.Pool.candidates.Given as goal
 

@@ -1,4 +1,4 @@
-use Rattle.std.proofs.Common.{◌∙◌}
+use Rattle.policy_sim.proofs.Names.{◌∙◌}
 use Rattle.policy_sim.proofs.Pooled.{held}
 use Rattle.policy_sim.proofs.pool.Pool.holds.Goals as goal
 

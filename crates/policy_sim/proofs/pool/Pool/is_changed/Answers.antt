@@ -1,7 +1,4 @@
-use Rattle.std.proofs.Common.{Option, ap, ◌∙◌}
-use Rattle.std.specs.Prelude.{unwrap_or}
-use Rattle.policy_sim.specs.declared.entry.Kept.{Kept}
-use Rattle.policy_sim.specs.Listing.{none_kept}
+use Rattle.policy_sim.proofs.Names.{Option, ap, ◌∙◌, unwrap_or, none_kept, Kept}
 use Rattle.policy_sim.proofs.Pooled.{marked}
 use Rattle.policy_sim.proofs.pool.Pool.is_changed.Goals as goal
 

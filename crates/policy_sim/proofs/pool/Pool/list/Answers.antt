@@ -1,12 +1,4 @@
-use Rattle.std.proofs.Common.{◌≡◌, ◌∙◌, ℕ, Some, nat_eq, ap, sym, subst}
-use Rattle.std.specs.Map.{lookup, set_value}
-use Rattle.std.specs.Ordering.{nat_cmp}
-use Rattle.std.specs.BTreeMap.{insert_entry}
-use Rattle.lru.specs.LruCache.{LruCache}
-use Rattle.policy_sim.specs.declared.entry.Entry.{Entry}
-use Rattle.policy_sim.specs.declared.entry.Kept.{Kept}
-use Rattle.policy_sim.specs.Pools.{pages_in}
-use Rattle.policy_sim.specs.Listing.{AreStamped, IsListedBy, but, listed_of}
+use Rattle.policy_sim.proofs.Names.{◌≡◌, ◌∙◌, ℕ, Some, nat_eq, ap, sym, subst, insert_entry, lookup, set_value, nat_cmp, LruCache, AreStamped, IsListedBy, but, listed_of, pages_in, Entry, Kept}
 use Rattle.policy_sim.proofs.Pooled.{Entries, absent_here}
 use Rattle.policy_sim.proofs.Struck.{Listed, but_absent, but_listed, but_set, listed_here, now_listed, set_pages, set_stamped}
 use Rattle.policy_sim.proofs.pool.Pool.list.Goals as goal

@@ -1,11 +1,5 @@
-use Rattle.std.proofs.Common.{◌≡◌, ◌∙◌, ℕ, nat_eq, ap, sym, subst}
+use Rattle.policy_sim.proofs.Names.{◌≡◌, ◌∙◌, ℕ, nat_eq, ap, sym, subst, keys_of, remove_entry, LruCache, AreStamped, IsListedBy, listed_of, pages_in, Kept, has_frame}
 use Rattle.std.specs.List.{IsDistinct}
-use Rattle.std.specs.Map.{keys_of, remove_entry}
-use Rattle.lru.specs.LruCache.{LruCache}
-use Rattle.second_chance.specs.Queue.{has_frame}
-use Rattle.policy_sim.specs.declared.entry.Kept.{Kept}
-use Rattle.policy_sim.specs.Pools.{pages_in}
-use Rattle.policy_sim.specs.Listing.{AreStamped, IsListedBy, listed_of}
 use Rattle.policy_sim.proofs.Pooled.{Entries, removed}
 use Rattle.policy_sim.proofs.Struck.{listed_removed, stamped_removed}
 use Rattle.policy_sim.proofs.pool.Pool.remove.Goals as goal

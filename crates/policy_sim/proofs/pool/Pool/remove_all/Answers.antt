@@ -1,8 +1,5 @@
-use Rattle.std.proofs.Common.{◌==◌, ◌∙◌, ap, sym, take, take_all, List, ℕ, arith}
-use Rattle.std_lemmas.proofs.Lists.{take_next}
-use Rattle.second_chance.specs.Machine.{PoolPage, without}
-use Rattle.second_chance.specs.Laws.{names}
-use Rattle.policy_sim.specs.Pools.{pages_of}
+use Rattle.policy_sim.proofs.Names.{◌==◌, ◌∙◌, ap, sym, take, List, ℕ, arith, pages_of, names, PoolPage, without, take_next}
+use Rattle.std.proofs.Common.{take_all}
 use Rattle.policy_sim.proofs.Pooled.{without_none, without_more}
 use Rattle.policy_sim.proofs.pool.Pool.remove_all.Goals as goal
 

@@ -1,9 +1,4 @@
-use Rattle.std.proofs.Common.{◌≡◌, take}
-use Rattle.second_chance.specs.Queue.{Queue}
-use Rattle.second_chance.specs.Machine.{without}
-use Rattle.second_chance.specs.Laws.{names}
-use Rattle.policy_sim.specs.Pools.{pages_of}
-use Rattle.policy_sim.specs.Listing.{IsPool, IsListed}
+use Rattle.policy_sim.proofs.Names.{◌≡◌, take, IsPool, IsListed, pages_of, names, without, Queue}
 use Rattle.policy_sim.proofs.pool.Pool.remove_all.Given as goal
 
 abbrev pub invariant-loop-place : goal.invariant-loop-place

@@ -1,12 +1,5 @@
-use Rattle.std.proofs.Common.{◌≡◌, ◌∷◌, ◌++◌, ◌∙◌, ◌-◌, ℕ, nat_eq, [], take, length, ap, sym, subst}
+use Rattle.policy_sim.proofs.Names.{◌≡◌, ◌∷◌, ◌++◌, ◌∙◌, ◌-◌, ℕ, nat_eq, [], take, length, ap, sym, subst, keys_of, LruCache, AreStamped, IsListedBy, listed_of, struck, entry_page, pages_in, Kept, holds, has_frame}
 use Rattle.std.specs.List.{IsDistinct}
-use Rattle.std.specs.Map.{keys_of}
-use Rattle.lru.specs.LruCache.{LruCache}
-use Rattle.second_chance.specs.Queue.{has_frame}
-use Rattle.second_chance.specs.Machine.{holds}
-use Rattle.policy_sim.specs.declared.entry.Kept.{Kept}
-use Rattle.policy_sim.specs.Pools.{entry_page, pages_in}
-use Rattle.policy_sim.specs.Listing.{AreStamped, IsListedBy, listed_of, struck}
 use Rattle.policy_sim.proofs.Pooled.{Entries, last_page, split_last}
 use Rattle.policy_sim.proofs.Struck.{gone_front, listed_front, stamped_front, struck_coldest}
 use Rattle.policy_sim.proofs.pool.Pool.take_coldest.Goals as goal

@@ -1,12 +1,5 @@
-use Rattle.std.proofs.Common.{rules, ◌≡◌, ◌∷◌, ◌+◌, ◌&&◌, ◌||◌, refl, nat_eq, ℕ, Bool, not, ap, sym, subst, ◌∙◌, arith}
+use Rattle.policy_sim.proofs.Names.{rules, ◌≡◌, ◌∷◌, ◌+◌, ◌&&◌, ◌||◌, refl, nat_eq, ℕ, Bool, not, ap, sym, subst, ◌∙◌, arith, keys_of, remove_entry, LruCache, AreStamped, IsListedBy, kept_of, listed_of, pages_in, Kept, holds, has_frame}
 use Rattle.std.specs.List.{IsDistinct}
-use Rattle.std.specs.Map.{keys_of, remove_entry}
-use Rattle.lru.specs.LruCache.{LruCache}
-use Rattle.second_chance.specs.Queue.{has_frame}
-use Rattle.second_chance.specs.Machine.{holds}
-use Rattle.policy_sim.specs.declared.entry.Kept.{Kept}
-use Rattle.policy_sim.specs.Pools.{pages_in}
-use Rattle.policy_sim.specs.Listing.{AreStamped, IsListedBy, kept_of, listed_of}
 use Rattle.policy_sim.proofs.Pooled.{Entries, put_is}
 use Rattle.policy_sim.proofs.Struck.{listed_removed, touched_listed}
 use Rattle.policy_sim.proofs.Fronted.{front_listed, front_pages, front_stamped}

@@ -1,5 +1,4 @@
-use Rattle.std.proofs.Common.{◌∙◌}
-use Rattle.policy_sim.specs.Listing.{struck}
+use Rattle.policy_sim.proofs.Names.{◌∙◌, struck}
 use Rattle.policy_sim.proofs.Struck.{struck_of}
 use Rattle.policy_sim.proofs.pool.Pool.unlist.Goals as goal
 

@@ -1,5 +1,5 @@
-use Rattle.std.proofs.Common.{arith}
 use Rattle.std.proofs.lemmas.Grind.{common_steps}
+use Rattle.policy_sim.proofs.Names.{arith}
 use Rattle.policy_sim.proofs.Listed.{after_more}
 use Rattle.policy_sim.proofs.sim.Sim.touch.Goals as goal
 

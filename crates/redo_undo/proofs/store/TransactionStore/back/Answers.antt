@@ -1,25 +1,7 @@
-use Rattle.std.specs.Prelude.{Ok, IsTrue, Option, Result, map, reverse, length}
-use Rattle.std.proofs.Common.{rules, ◌+◌, ◌-◌, take, drop, refl, arith, sym, ℕ, List, ◌≤◌}
-use Rattle.site.specs.declared.outside.Stop.{Stop}
-use Rattle.site.specs.State.{State}
-use Rattle.record_model.specs.Touches.{write_touch}
-use Rattle.record_model.specs.State.{Content, Write}
-use Rattle.log_records.specs.Log.{Entry, entries_of, updates_in}
-use Rattle.log_records.specs.Unfinished.{left_open}
-use Rattle.log_laws.specs.Analysis.{IsUnfinished}
-use Rattle.log_laws.specs.Follow.{IsActive}
-use Rattle.page_store.specs.declared.store.PageStore.{PageStore}
-use Rattle.checkpoint.specs.declared.master.Master.{Master}
-use Rattle.image_meaning.specs.Meaning.{master_of}
-use Rattle.image_meaning.proofs.Leaving.{under_leaves_for}
-use Rattle.redo_laws.specs.MachineSteps.{StepsMachine}
-use Rattle.redo_laws.specs.UndoWorks.{works_of}
-use Rattle.redo_laws.proofs.Asking.{asks_same, asks_err, asks_ok}
-use Rattle.redo_laws.proofs.UndoneWrites.{last_are_undone_by}
-use Rattle.ring_machine.proofs.Performing.{performs_answered}
-use Rattle.redo_undo.specs.declared.store.TransactionStore.{TransactionStore}
+use Rattle.redo_undo.proofs.Names.{◌+◌, ◌-◌, take, drop, refl, arith, sym, ℕ, List, ◌≤◌, Ok, IsTrue, Result, Master, under_leaves_for, master_of, IsUnfinished, IsActive, Entry, entries_of, updates_in, left_open, PageStore, Content, Write, write_touch, asks_same, asks_err, asks_ok, last_are_undone_by, StepsMachine, works_of, KeepsNext, TransactionStore, performs_answered, State, Stop}
+use Rattle.std.specs.Prelude.{Option, map, reverse, length}
+use Rattle.std.proofs.Common.{rules}
 use Rattle.redo_undo.specs.Stores.{Represents}
-use Rattle.redo_undo.specs.StoreCalls.{KeepsNext}
 use Rattle.redo_undo.proofs.Calling.{keeps_failed, keeps_answered}
 use Rattle.redo_undo.proofs.MirroringStores.{store_performs, clrs_save_none}
 use Rattle.redo_undo.proofs.NextUnits.{store_next, next_answered}

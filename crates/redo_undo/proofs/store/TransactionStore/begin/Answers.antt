@@ -1,17 +1,11 @@
-use Rattle.std.proofs.Common.{refl, ℕ, ◌+◌, rules}
-use Rattle.image_meaning.proofs.Leaving.{under_leaves_for}
-use Rattle.page_store.proofs.StagingLaws.{stages_ok, stages_err}
-use Rattle.redo_laws.proofs.Asking.{asks_nothing, stages_log}
+use Rattle.redo_undo.proofs.Names.{refl, ℕ, ◌+◌, Ok, IsTrue, under_leaves_for, next_logged, stages_ok, stages_err, asks_nothing, stages_log, KeepsNext, no_error}
+use Rattle.std.proofs.Common.{rules}
 use Rattle.redo_undo.proofs.Calling.{keeps_appended, works_appended}
-use Rattle.site.proofs.Working.{no_error}
-use Rattle.page_store.proofs.NextUnits.{next_logged}
-use Rattle.redo_undo.specs.StoreCalls.{KeepsNext}
 use Rattle.redo_undo.proofs.NextUnits.{store_next}
 use Rattle.redo_undo.proofs.StoreCalling.{keeps_of, works_at_error}
 use Rattle.redo_undo.proofs.Saved.{finds_kept}
-use Rattle.std.specs.Prelude.{Ok, IsTrue}
-use Rattle.redo_undo.proofs.store.TransactionStore.begin.Goals as goal
 use Rattle.redo_undo.proofs.MirroringStores.{store_performs}
+use Rattle.redo_undo.proofs.store.TransactionStore.begin.Goals as goal
 
 pub returns-in-Ok-clause-holds : goal.returns-in-Ok-clause-holds
 returns-in-Ok-clause-holds g c newest records table commits h = λ may.

@@ -1,45 +1,17 @@
-use Rattle.site.specs.State.{State}
-use Rattle.redo_laws.specs.Calls as calls
-use Rattle.site.specs.declared.outside.Stop.{Stop}
-use Rattle.image_meaning.specs.Moments.{LeavesFor, LeavesTableUnder}
-use Rattle.redo_laws.specs.Checkpointing.{MayBeMade}
-use Rattle.image_meaning.proofs.Leaving.{under_leaves_for}
-use Rattle.std.proofs.Common.{◌≡◌, ◌-◌, Err, refl, ap, arith, ◌≤◌, ◌∙◌, ℕ, List, ◌∷◌, [], sym}
-use Rattle.site.specs.declared.outside.Dev.TheVariants.{Log}
-use Rattle.page_store.specs.Caching.{rules}
-use Rattle.redo_laws.specs.MachineSteps.{checkpoint_works}
-use Rattle.redo_laws.proofs.AskingUndo.{asks_refused, log_alone}
-use Rattle.page_store.proofs.StagingLaws.{stages_ok, stages_err, stages_beside}
-use Rattle.redo_laws.proofs.Asking.{stages_log}
-use Rattle.redo_laws.proofs.AskingFlush.{never_worn_flash, asks_around, flush_then}
+use Rattle.redo_undo.proofs.Names.{◌≡◌, ◌-◌, refl, ap, arith, ◌≤◌, ◌∙◌, ℕ, List, ◌∷◌, [], sym, Ok, IsTrue, ⊤, Result, Master, under_leaves_for, LeavesFor, LeavesTableUnder, Entry, LogStore, next_logged, next_then, stages_ok, stages_err, stages_beside, rules, current, Content, flush, current_same, stages_log, never_worn_flash, asks_around, flush_then, asks_refused, log_alone, MayBeMade, checkpoint_works, MirrorsStore, KeepsNext, TransactionStore, performs_by, performs_then, performs_stopped, cached, force, save, Performs, stays_honest, no_error, calls_then, err_again, State, Log, Stop, Worn}
+use Rattle.std.proofs.Common.{Err}
 use Rattle.redo_undo.proofs.Saved.{may_still}
 use Rattle.redo_undo.proofs.Calling.{log_stops, keeps_answered, keeps_failed, keeps_appended, keeps_saved, keeps_then, keeps_unsaved}
 use Rattle.redo_undo.proofs.StoreCalling.{keeps_of}
-use Rattle.site.proofs.Working.{no_error, calls_then, err_again}
-use Rattle.std.specs.Prelude.{Ok, IsTrue, Option, ⊤, Result}
-use Rattle.site.proofs.Laws.{stays_honest}
-use Rattle.page_store.proofs.NextUnits.{next_logged, next_then}
-use Rattle.redo_undo.specs.declared.store.TransactionStore.{TransactionStore}
-use Rattle.redo_undo.specs.StoreCalls.{KeepsNext}
+use Rattle.std.specs.Prelude.{Option}
 use Rattle.redo_undo.proofs.NextUnits.{store_next, next_saved, next_failed, next_answered}
 use Rattle.redo_undo.proofs.store.TransactionStore.checkpoint.Given.{Over}
 use Rattle.redo_undo.proofs.store.TransactionStore.checkpoint.Goals.{After-save_master}
-use Rattle.site.specs.declared.outside.Stop.TheVariants.{Worn}
-use Rattle.redo_undo.proofs.store.TransactionStore.checkpoint.Goals as goal
-use Rattle.ring_machine.specs.Machine.{cached, force, save}
-use Rattle.ring_machine.specs.Performing.{Performs}
-use Rattle.record_model.specs.State.{Content}
-use Rattle.log_records.specs.Log.{Entry}
-use Rattle.log_store.specs.declared.store.LogStore.{LogStore}
-use Rattle.page_store.specs.Representation.{current}
-use Rattle.checkpoint.specs.declared.master.Master.{Master}
-use Rattle.redo_laws.specs.Holding as both
-use Rattle.redo_undo.specs.Mirroring.{MirrorsStore}
-use Rattle.record_model.specs.Touches.{flush}
-use Rattle.ring_machine.proofs.Performing.{performs_by, performs_then, performs_stopped}
 use Rattle.redo_undo.proofs.Mirroring.{numbers_left}
 use Rattle.redo_undo.proofs.MirroringStores.{store_performs, save_performs}
-use Rattle.redo_laws.proofs.Appended.{current_same}
+use Rattle.redo_laws.specs.Calls as calls
+use Rattle.redo_undo.proofs.store.TransactionStore.checkpoint.Goals as goal
+use Rattle.redo_laws.specs.Holding as both
 
 module _ (g : Over) (c : After-save_master g) (honest : IsTrue (g.S.Site.state c.args.site.now).honest) where
   abbrev flushed : TransactionStore

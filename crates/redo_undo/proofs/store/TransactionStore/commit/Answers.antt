@@ -1,59 +1,20 @@
-use Rattle.image_changes.proofs.Sequence.{ring_kept}
+use Rattle.redo_undo.proofs.Names.{◌≡◌, ◌∙◌, ◌∷◌, [], ◌++◌, ◌+◌, Bool, true, nat_lt, inl, inr, sym, ap, subst, arith, refl, ◌≤◌, ℕ, List, if◌then◌else◌, IsTrue, Ok, OnOk, Result, Master, ring_kept, Masters, KeepsUnits, master_shape, under_leaves_either_for, kept_by, versions_on, master_of, LeavesEitherFor, writes_in, Entry, Commit, LogList, sealed_if, changes_if, has_tail, LogStore, next_logged, log_fits, stages_err, stages_then, CallsForUnits, PageStore, Content, table_with, current_same, asks_nothing, stages_log, stages_alone, never_worn_flash, seals_only, log_skips, log_calls, ready_next, same_at_most, ends_orderly, then_skips, skips_on, log_at_end, MayCommit, EndsWith, IsLogWorn, blocks_to, SkipsNone, KeepsNext, performs_then, performs_stopped, performs_failed, force, stays_honest, changes_in_sequence, no_error, ChangesOnly, LeavesOnly, IsQuiet, State, Geometry, Log, Stop, Worn}
 use Rattle.log_laws.proofs.Appends.{commit_follows}
-use Rattle.page_store.proofs.PushLaws.{log_fits}
-use Rattle.std.proofs.Common.{rules, ◌≡◌, ◌∙◌, ◌∷◌, [], ◌++◌, ◌+◌, Bool, true, nat_lt, inl, inr, Err, sym, ap, subst, arith, refl, ◌≤◌, ℕ, List}
-use Rattle.std.specs.Prelude.{if◌then◌else◌, IsTrue, Ok, OnOk, Option, Result}
-use Rattle.site.specs.State.{IsQuiet, State}
-use Rattle.site.specs.declared.outside.Dev.TheVariants.{Log}
-use Rattle.site.specs.declared.outside.Stop.TheVariants.{Worn}
-use Rattle.site.specs.declared.geometry.Geometry.{Geometry}
-use Rattle.log_records.specs.declared.log_record.LogRecord.TheVariants.{Commit}
-use Rattle.log_store.specs.LogList.{LogList, sealed_if, changes_if}
-use Rattle.log_store.specs.Representation as log_store
-use Rattle.log_store.specs.Representation.{has_tail}
-use Rattle.image_changes.specs.Rings.{Masters, KeepsUnits, master_shape}
-use Rattle.image_changes.specs.Costs.{CallsForUnits}
-use Rattle.image_meaning.specs.Meaning.{kept_by, versions_on, master_of}
-use Rattle.image_meaning.proofs.Leaving.{under_leaves_either_for}
-use Rattle.redo_laws.specs.Holding.{IsLogWorn, blocks_to}
-use Rattle.page_store.proofs.StagingLaws.{stages_err, stages_then}
-use Rattle.redo_laws.proofs.Asking.{asks_nothing, stages_log, stages_alone}
-use Rattle.redo_laws.proofs.AskingFlush.{never_worn_flash}
+use Rattle.std.proofs.Common.{rules, Err}
+use Rattle.std.specs.Prelude.{Option}
 use Rattle.redo_undo.proofs.Calling.{appends_foreign, keeps_appended, log_stops}
-use Rattle.site.proofs.Working.{no_error}
-use Rattle.site.proofs.Laws.{stays_honest, changes_in_sequence}
-use Rattle.log_store.proofs.NextBlocks as blocks
-use Rattle.page_store.proofs.NextUnits.{next_logged}
-use Rattle.redo_undo.specs.StoreCalls.{KeepsNext}
 use Rattle.redo_undo.proofs.NextUnits.{store_next}
 use Rattle.redo_laws.proofs.Committed.{leaves_either, commit_holds, before_only, either_after}
-use Rattle.redo_laws.proofs.Forced.{seals_only}
-use Rattle.redo_laws.proofs.LeftNumbers.{log_skips, log_calls, ready_next, same_at_most}
-use Rattle.redo_laws.proofs.Orderlies.{ends_orderly}
-use Rattle.redo_laws.proofs.RingNumbers.{then_skips, skips_on}
 use Rattle.redo_undo.proofs.Saved.{finds_kept}
 use Rattle.redo_undo.proofs.StoreCalling.{keeps_of, keeps_ok}
-use Rattle.redo_laws.proofs.WornLogs.{log_at_end}
 use Rattle.redo_undo.proofs.store.TransactionStore.commit.Given.{Over}
 use Rattle.redo_undo.proofs.store.TransactionStore.commit.Goals.{After-force}
-use Rattle.site.specs.Moments.{ChangesOnly, LeavesOnly}
-use Rattle.site.specs.declared.outside.Stop.{Stop}
-use Rattle.record_model.specs.State.{Content, table_with}
-use Rattle.log_records.specs.Log.{Entry}
-use Rattle.log_laws.specs.Follow.{writes_in}
-use Rattle.checkpoint.specs.declared.master.Master.{Master}
-use Rattle.image_meaning.specs.Moments.{LeavesEitherFor}
-use Rattle.redo_laws.specs.Committing.{MayCommit, EndsWith}
 use Rattle.redo_undo.specs.Stores.{Represents}
-use Rattle.redo_laws.specs.Numbers.{SkipsNone}
-use Rattle.page_store.specs.declared.store.PageStore.{PageStore}
-use Rattle.log_store.specs.declared.store.LogStore.{LogStore}
-use Rattle.redo_undo.proofs.store.TransactionStore.commit.Goals as goal
-use Rattle.ring_machine.specs.Machine.{force}
-use Rattle.ring_machine.proofs.Performing.{performs_then, performs_stopped, performs_failed}
 use Rattle.redo_undo.proofs.Mirroring.{force_performs, numbers_left}
 use Rattle.redo_undo.proofs.MirroringStores.{store_performs}
-use Rattle.redo_laws.proofs.Appended.{current_same}
+use Rattle.log_store.specs.Representation as log_store
+use Rattle.log_store.proofs.NextBlocks as blocks
+use Rattle.redo_undo.proofs.store.TransactionStore.commit.Goals as goal
 
 -- The Commit is the last record, and is sealed.
 
@@ -98,14 +59,14 @@ module _ (g : Over) (c : After-force g) (newest : Option Master) (records : List
       (c.force.ensures.seals.any_moment list (fits quiet) last.ready.records)
       (c.force.ensures.seals.front list (fits quiet) last.ready.records (calm quiet)) c.requires.may.going.both.pages_going.own))
 
-  skips : (r : Result ℕ Stop) → OnOk r (blocks_to c.force.new.self ≤ blocks_to log + 0) → OnOk r (CallsForUnits log.geometry mid new) → IsQuiet old →
+  skips : (r : Result ℕ Stop) → OnOk r (blocks_to c.force.new.self ≤ blocks_to log + 0) → (IsQuiet mid → OnOk r (CallsForUnits log.geometry mid new)) → IsQuiet old →
       SkipsNone r pages.flash.geometry c.args.self.now.log c.force.new.self old new 1 0
   skips r few calls quiet = then_skips r c.in-Ok.lsn pages.flash.geometry c.args.self.now.log log c.force.new.self old mid new 1 0 0 0 1 0
       (skips_on _ c.args.self.now.log.geometry pages.flash.geometry c.args.self.now.log log old mid 1 0 c.requires.may.going.both.sizes
       ((c.in-Ok.ensures.keeps pages newest records table commits held.both).numbers c.requires.may.going.both quiet))
       (skips_on r log.geometry pages.flash.geometry log c.force.new.self mid new 0 0 sizes
       (log_skips r log.geometry log c.force.new.self list (has_tail log) mid new 0 (ready_next pages log list mid last.ready) (λ tail. tail)
-      (c.force.ensures.seals.any_moment list (fits quiet) last.ready.records) (c.force.ensures.seals.front list (fits quiet) last.ready.records (calm quiet)) few calls)) (omega arith) refl
+      (c.force.ensures.seals.any_moment list (fits quiet) last.ready.records) (c.force.ensures.seals.front list (fits quiet) last.ready.records (calm quiet)) few (calls (calm quiet)))) (omega arith) refl
 
 pub returns-in-Ok-force-clause-holds : goal.returns-in-Ok-force-clause-holds
 returns-in-Ok-force-clause-holds g c newest records table commits held may =
@@ -167,7 +128,7 @@ returns-in-Err-force-clause-keeps g c newest records table commits held may =
         worn = λ is. absurd (never_worn_flash (Err c.in-Err-force.stop) c.in-Err-force.ensures.seals.stops is);
         readable = appends_foreign (Err c.in-Err-force.stop) c.in-Err-force.ensures.seals.stops;
       };
-      numbers = skips g s newest records table commits held may (Err c.in-Err-force.stop) tt tt;
+      numbers = skips g s newest records table commits held may (Err c.in-Err-force.stop) tt (λ quiet. tt);
     }
 
 pub returns-in-Ok-force-clause-keeps : goal.returns-in-Ok-force-clause-keeps
@@ -178,7 +139,7 @@ returns-in-Ok-force-clause-keeps g c newest records table commits held may =
     keeps_ok (moments g s newest records table commits held may)
     (skips g s newest records table commits held may (Ok c.in-Ok.lsn)
     (same_at_most c.log_record.new.log c.force.new.self c.in-Ok.ensures.some c.in-Ok-force.ensures.seals.next c.in-Ok-force.ensures.empty)
-    (log_calls (Ok c.in-Ok.lsn) log.geometry log.ring.hi c.force.new.self.ring.hi (list g s newest records table commits held may) (has_tail log) (g.S.Site.state c.log_record.new.site) (g.S.Site.state c.force.new.site)
+    (λ quiet. log_calls (Ok c.in-Ok.lsn) log.geometry log.ring.hi c.force.new.self.ring.hi (list g s newest records table commits held may) (has_tail log) (g.S.Site.state c.log_record.new.site) (g.S.Site.state c.force.new.site) quiet
     (c.force.ensures.seals.changes m.ready.blocks.honest) (c.in-Ok-force.ensures.seals.reaches _ m.ready.blocks m.ready.records) c.in-Ok-force.ensures.seals.next (c.in-Ok-force.ensures.seals.device_calls m.ready.blocks.honest)))
 
 pub returns-in-Err-clause-asks : goal.returns-in-Err-clause-asks

@@ -1,14 +1,7 @@
-use Rattle.std.proofs.Common.{◌≡◌, ◌+◌, ◌*◌, ◌/◌, ◌%◌, ◌++◌, ◌∷◌, [], ℕ, List, refl, sym, subst, arith, rules, Option}
-use Rattle.std.specs.Prelude.{option_copied, IsTrue}
-use Rattle.site.specs.State.{State}
-use Rattle.record_model.specs.State.{Content}
-use Rattle.log_records.specs.Log.{Entry, shown}
-use Rattle.log_records.specs.declared.log_record.LogRecord.TheVariants.{Begin}
+use Rattle.redo_undo.proofs.Names.{◌≡◌, ◌+◌, ◌*◌, ◌/◌, ◌%◌, ◌++◌, ◌∷◌, [], ℕ, List, refl, sym, subst, arith, Option, option_copied, IsTrue, Master, versions_on, shown_push, Entry, shown, Begin, Content, shown_in, update_by, State}
+use Rattle.std.proofs.Common.{rules}
 use Rattle.log_records.specs.Room.{HasOpenRoom}
-use Rattle.log_laws.proofs.Shown.{shown_push}
-use Rattle.checkpoint.specs.declared.master.Master.{Master}
-use Rattle.image_meaning.specs.Meaning.{versions_on}
-use Rattle.redo_undo.specs.Stores.{MayGrow, Represents, shown_in, update_by}
+use Rattle.redo_undo.specs.Stores.{MayGrow, Represents}
 use Rattle.redo_undo.proofs.Rooms.{fits_as, fits_behind}
 use Rattle.redo_undo.proofs.store.TransactionStore.fits.Goals as goal
 

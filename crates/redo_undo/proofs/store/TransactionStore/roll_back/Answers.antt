@@ -1,36 +1,16 @@
-use Rattle.redo_laws.specs.MachineSteps.{StepsMachine, undo_one_works}
-use Rattle.page_store.specs.declared.store.PageStore.{PageStore}
-use Rattle.site.specs.declared.outside.Stop.{Stop}
-use Rattle.site.specs.State.{State}
+use Rattle.redo_undo.proofs.Names.{◌+◌, refl, ap, ◌∙◌, arith, sym, ℕ, List, ◌≡◌, ◌≤◌, Ok, IsTrue, Result, Master, under_leaves_for, master_of, IsUnfinished, IsActive, Entry, entries_of, updates_in, left_open, PageStore, Content, Write, write_touch, asks_same, asks_err, asks_ok, asks_fails, active_is_undone_by, StepsMachine, undo_one_works, KeepsNext, RollsBack, TransactionStore, performs_answered, performs_refused, State, Geometry, Stop, Foreign}
 use Rattle.redo_undo.specs.Stores.{Represents}
-use Rattle.image_meaning.specs.Meaning.{master_of}
-use Rattle.log_laws.specs.Analysis.{IsUnfinished}
-use Rattle.log_laws.specs.Follow.{IsActive}
-use Rattle.record_model.specs.Touches.{write_touch}
-use Rattle.record_model.specs.State.{Content, Write}
-use Rattle.log_records.specs.Log.{Entry, entries_of, updates_in}
-use Rattle.checkpoint.specs.declared.master.Master.{Master}
 use Rattle.redo_undo.proofs.store.TransactionStore.roll_back.Goals.{After-undo_one, In-Ok}
 use Rattle.redo_undo.proofs.store.TransactionStore.roll_back.Given.{Over}
-use Rattle.redo_laws.proofs.UndoneWrites.{active_is_undone_by}
 use Rattle.redo_undo.proofs.Calling.{keeps_few, keeps_failed, keeps_answered, works_foreign}
 use Rattle.redo_undo.proofs.StoreCalling.{keeps_of, works_at_error}
-use Rattle.image_meaning.proofs.Leaving.{under_leaves_for}
-use Rattle.redo_laws.proofs.Asking.{asks_same, asks_err, asks_ok, asks_fails}
-use Rattle.std.specs.Prelude.{Ok, IsTrue, Option, Result, map, reverse, length}
-use Rattle.std.proofs.Common.{rules, ◌+◌, refl, ap, ◌∙◌, arith, sym, ℕ, List, ◌≡◌, ◌≤◌}
-use Rattle.site.specs.declared.geometry.Geometry.{Geometry}
-use Rattle.site.specs.declared.outside.Stop.TheVariants.{Foreign}
+use Rattle.std.specs.Prelude.{Option, map, reverse, length}
+use Rattle.std.proofs.Common.{rules}
 use Rattle.redo_undo.proofs.Saved.{finds_kept}
-use Rattle.redo_undo.specs.declared.store.TransactionStore.{TransactionStore}
-use Rattle.redo_undo.specs.StoreCalls.{KeepsNext}
 use Rattle.redo_undo.proofs.NextUnits.{store_next, next_answered}
-use Rattle.redo_undo.specs.StoreRollback.{RollsBack}
 use Rattle.redo_undo.proofs.StoreRollbacks.{active_left, rolls_back, has_room}
-use Rattle.redo_undo.proofs.store.TransactionStore.roll_back.Goals as goal
-use Rattle.log_records.specs.Unfinished.{left_open}
-use Rattle.ring_machine.proofs.Performing.{performs_answered, performs_refused}
 use Rattle.redo_undo.proofs.MirroringStores.{store_performs, undoing_saves_none}
+use Rattle.redo_undo.proofs.store.TransactionStore.roll_back.Goals as goal
 
 -- What undoing it leaves.
 module _ (g : Over) (c : After-undo_one g) (newest : Option Master) (records : List Entry) (table : List Content) (commits : ℕ) (h : Represents c.args.self.now (g.S.Site.state c.args.site.now) newest records table commits)

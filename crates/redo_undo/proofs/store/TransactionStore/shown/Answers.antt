@@ -1,11 +1,6 @@
-use Rattle.redo_laws.proofs.Changed.{front_shows}
-use Rattle.std.proofs.Common.{◌≡◌, ℕ, ◌*◌, ◌+◌, ◌%◌, List, Some, rules, ap, ◌∙◌, arith}
-use Rattle.std.proofs.Math.Nat.{div-add-mod}
-use Rattle.image_meaning.specs.Meaning.{versions_on}
-use Rattle.buffer_pool.specs.Frames.{front_of}
-use Rattle.redo_undo.specs.Stores.{sizes_of}
+use Rattle.redo_undo.proofs.Names.{◌≡◌, ℕ, ◌*◌, ◌+◌, ◌%◌, List, Some, ap, ◌∙◌, arith, div-add-mod, front_of, versions_on, shown, front_shows, sizes_of}
+use Rattle.std.proofs.Common.{rules}
 use Rattle.redo_undo.proofs.store.TransactionStore.shown.Goals as goal
-use Rattle.log_records.specs.Log.{shown}
 
 pub returns-in-None-clause-shown : goal.returns-in-None-clause-shown
 returns-in-None-clause-shown c site newest records table commits h =

@@ -1,12 +1,10 @@
-use Rattle.std.proofs.Common.{refl, rules}
-use Rattle.std.specs.Prelude.{IsTrue}
-use Rattle.redo_undo.specs.StoreCalls.{KeepsNext}
+use Rattle.redo_undo.proofs.Names.{refl, IsTrue, under_leaves_for, KeepsNext}
+use Rattle.std.proofs.Common.{rules}
 use Rattle.redo_undo.proofs.NextUnits.{store_next}
-use Rattle.image_meaning.proofs.Leaving.{under_leaves_for}
 use Rattle.redo_undo.proofs.Saved.{finds_kept}
 use Rattle.redo_undo.proofs.StoreCalling.{keeps_of, where_two}
-use Rattle.redo_undo.proofs.store.TransactionStore.touch.Goals as goal
 use Rattle.redo_undo.proofs.MirroringStores.{store_performs}
+use Rattle.redo_undo.proofs.store.TransactionStore.touch.Goals as goal
 
 pub returns-clause-holds : goal.returns-clause-holds
 returns-clause-holds g c newest records table commits h =

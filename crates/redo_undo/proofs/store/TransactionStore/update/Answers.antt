@@ -1,21 +1,13 @@
-use Rattle.image_meaning.proofs.Leaving.{under_leaves_for}
-use Rattle.std.proofs.Common.{refl, ℕ, List, rules, ◌≡◌, ◌+◌, ◌*◌, ◌/◌, ◌%◌, ◌++◌, ◌∷◌, [], sym, subst, arith}
-use Rattle.std.proofs.lemmas.Option.{same_Some}
+use Rattle.redo_undo.proofs.Names.{refl, ℕ, List, ◌≡◌, ◌+◌, ◌*◌, ◌/◌, ◌%◌, ◌++◌, ◌∷◌, [], sym, subst, arith, same_Some, Ok, IsTrue, front_of, under_leaves_for, LogRecord, updates, KeepsNext, shown_in, update_by, performs_as, RingOp, changed}
+use Rattle.std.proofs.Common.{rules}
 use Rattle.redo_undo.proofs.Rooms.{fits_as}
-use Rattle.log_records.specs.declared.log_record.LogRecord.{LogRecord}
 use Rattle.redo_undo.proofs.Saved.{finds_kept}
-use Rattle.std.specs.Prelude.{Ok, IsTrue}
 use Rattle.redo_undo.proofs.StoreCalling.{keeps_of, works_at_error}
-use Rattle.redo_undo.specs.StoreCalls.{KeepsNext}
 use Rattle.redo_undo.proofs.NextUnits.{store_next}
-use Rattle.redo_undo.specs.Stores.{Represents, MayGrow, shown_in, update_by}
-use Rattle.redo_undo.proofs.store.TransactionStore.update.Goals as goal
-use Rattle.ring_machine.specs.Machine.{RingOp, changed}
-use Rattle.ring_machine.specs.Octets as octets
-use Rattle.ring_machine.proofs.Performing.{performs_as}
-use Rattle.redo_undo.specs.Mirroring.{updates}
+use Rattle.redo_undo.specs.Stores.{Represents, MayGrow}
 use Rattle.redo_undo.proofs.MirroringStores.{store_performs}
-use Rattle.buffer_pool.specs.Frames.{front_of}
+use Rattle.redo_undo.proofs.store.TransactionStore.update.Goals as goal
+use Rattle.ring_machine.specs.Octets as octets
 
 pub log_change-requires-clause-fits : goal.log_change-requires-clause-fits
 log_change-requires-clause-fits g c = λ n own.

@@ -1,7 +1,4 @@
-use Rattle.std.proofs.Common.{◌+◌, sym}
-use Rattle.site.proofs.Laws.{no_call}
-use Rattle.site.specs.Moments.{Leaves}
-use Rattle.sealed_ring.specs.Ready.{region, LeavesOldOrNew}
+use Rattle.sealed_ring.proofs.Names.{◌+◌, sym, region, LeavesOldOrNew, no_call, Leaves}
 use Rattle.sealed_ring.proofs.Highest.{hi_is}
 use Rattle.sealed_ring.proofs.Sealed.{seals_hi, sealed_outside}
 use Rattle.sealed_ring.proofs.Stays.{quiet_again}

@@ -1,6 +1,4 @@
-use Rattle.std.proofs.Common.{◌≡◌, ℕ, ◌+◌, ◌%◌, List, length, take, drop, sym, ◌∙◌, ap, arith}
-use Rattle.sealed_ring.specs.Ring.{place}
-use Rattle.sealed_ring.specs.Ready.{region}
+use Rattle.sealed_ring.proofs.Names.{◌≡◌, ℕ, ◌+◌, ◌%◌, List, length, take, drop, sym, ◌∙◌, ap, arith, region, place}
 use Rattle.sealed_ring.proofs.Heads.{part_front, unit_is}
 use Rattle.sealed_ring.proofs.ring.Ring.read_part.Goals as goal
 

@@ -1,8 +1,4 @@
-use Rattle.std.proofs.Common.{◌≡◌, ℕ, ◌*◌, ◌%◌, [], ◌++◌, length, take, drop, true≢false, sym, ◌∙◌, ap, subst, arith}
-use Rattle.std.proofs.lemmas.List.{length-take-le}
-use Rattle.sealed_ring.specs.Ring.{place}
-use Rattle.sealed_ring.specs.Row.{HaveNumbers, StandInRow}
-use Rattle.sealed_ring.specs.Ready.{region}
+use Rattle.sealed_ring.proofs.Names.{◌≡◌, ℕ, ◌*◌, ◌%◌, [], ◌++◌, length, take, drop, true≢false, sym, ◌∙◌, ap, subst, arith, length-take-le, region, place, HaveNumbers, StandInRow}
 use Rattle.sealed_ring.proofs.InRow.{slots_fit, row_long, row_inside, numbers_in_front, numbers_of_front, numbers_stand, numbers_read, contents_read}
 use Rattle.sealed_ring.proofs.ring.Ring.read_units.Goals as goal
 

@@ -1,8 +1,5 @@
-use Rattle.std.proofs.Common.{ℕ, ◌%◌, sym, ◌∙◌, ap, arith}
-use Rattle.site.specs.State.{content_of}
-use Rattle.site.proofs.Laws.{stays_honest}
-use Rattle.sealed_ring.specs.Ring.{gate, number}
-use Rattle.sealed_ring.specs.Ready.{region}
+use Rattle.sealed_ring.proofs.Names.{ℕ, ◌%◌, sym, ◌∙◌, ap, arith, region, gate, stays_honest, content_of}
+use Rattle.sealed_ring.specs.Ring.{number}
 use Rattle.sealed_ring.proofs.Highest.{small_number}
 use Rattle.sealed_ring.proofs.ring.Ring.scan.Goals as goal
 

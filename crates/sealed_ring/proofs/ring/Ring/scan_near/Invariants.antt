@@ -1,9 +1,5 @@
-use Rattle.std.proofs.Common.{ℕ, ◌-◌, ◌<◌, ◌≤◌, ◌^◌, length, IsTrue}
-use Rattle.std.specs.Prelude.{Ok}
-use Rattle.sealed_ring.specs.Ring.{FitsIn}
+use Rattle.sealed_ring.proofs.Names.{ℕ, ◌-◌, ◌<◌, ◌≤◌, ◌^◌, length, IsTrue, Ok, ReadsFrom, region, FitsIn}
 use Rattle.sealed_ring.specs.Near.{IsThere}
-use Rattle.sealed_ring.specs.Ready.{region}
-use Rattle.sealed_ring.specs.Reading.{ReadsFrom}
 use Rattle.sealed_ring.proofs.ring.Ring.scan_near.Given as goal
 
 abbrev pub invariant-loop-hi : goal.invariant-loop-hi

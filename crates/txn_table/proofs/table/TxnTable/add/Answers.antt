@@ -1,8 +1,4 @@
-use Rattle.std.proofs.Common.{rules, ◌≡◌, ◌∙◌, ap, not, nat_lt, insert, unwrap_or, arith, lit<}
-use Rattle.std.proofs.lemmas.Iterator.{YieldsList-from_slice}
-use Rattle.std.proofs.lemmas.Iterator.Search.{position_from_yields_List}
-use Rattle.std.proofs.lemmas.List.Sums.{prefix_len-le-length}
-use Rattle.txn_table.specs.declared.active.Active.{Active}
+use Rattle.txn_table.proofs.Names.{rules, ◌≡◌, ◌∙◌, ap, not, nat_lt, insert, unwrap_or, arith, lit<, YieldsList-from_slice, position_from_yields_List, prefix_len-le-length, Active}
 use Rattle.txn_table.proofs.Places.{place-position, room, absent}
 use Rattle.txn_table.proofs.Changes.{with_entry, insert-with_entry, IsTable-with_entry, adds, absent_is}
 use Rattle.txn_table.proofs.table.TxnTable.add.Goals as goal

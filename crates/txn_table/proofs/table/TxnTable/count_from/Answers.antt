@@ -1,6 +1,4 @@
-use Rattle.std.proofs.Common.{◌≡◌, ◌<◌, ◌≤◌, ◌∙◌, ap, sym, subst, length, map, get_or, All, refl, arith}
-use Rattle.txn_table.specs.declared.active.Active.{Active}
-use Rattle.txn_table.specs.Entries.{IsTable, counted_from}
+use Rattle.txn_table.proofs.Names.{◌≡◌, ◌<◌, ◌≤◌, ◌∙◌, ap, sym, subst, length, map, get_or, All, refl, arith, IsTable, counted_from, Active}
 use Rattle.txn_table.proofs.Counting.{counted_to, length-counted_to, at-counted_to, all-counted, IsTable-counted, one_more}
 use Rattle.txn_table.proofs.table.TxnTable.count_from.Goals as goal
 

@@ -1,4 +1,4 @@
-use Rattle.std.proofs.Common.{◌≡◌}
+use Rattle.txn_table.proofs.Names.{◌≡◌}
 use Rattle.txn_table.proofs.Counting.{counted_to}
 use Rattle.txn_table.proofs.table.TxnTable.count_from.Given as goal
 

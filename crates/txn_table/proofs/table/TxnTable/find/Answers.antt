@@ -1,6 +1,4 @@
-use Rattle.std.proofs.Common.{rules, ◌==◌, ◌∙◌}
-use Rattle.std.proofs.lemmas.Iterator.{YieldsList-from_slice}
-use Rattle.std.proofs.lemmas.Iterator.Search.{find_from_yields_List}
+use Rattle.txn_table.proofs.Names.{rules, ◌==◌, ◌∙◌, YieldsList-from_slice, find_from_yields_List}
 use Rattle.txn_table.proofs.table.TxnTable.find.Goals as goal
 
 pub returns-clause-entry : goal.returns-clause-entry

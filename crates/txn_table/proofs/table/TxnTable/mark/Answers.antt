@@ -1,7 +1,4 @@
-use Rattle.std.proofs.Common.{◌≡◌, sym, subst, set, get_or, option_map, IsSome}
-use Rattle.arrayvec.specs.ArrayVec.{with_items}
-use Rattle.txn_table.specs.Entries.{IsTable, ChangesOnly, after_mark, entry_of}
-use Rattle.txn_table.specs.declared.active.Active.{Active}
+use Rattle.txn_table.proofs.Names.{◌≡◌, sym, subst, set, get_or, option_map, IsSome, with_items, IsTable, ChangesOnly, after_mark, entry_of, Active}
 use Rattle.txn_table.proofs.Changes.{with_own, refill-with_own, IsTable-own, changes_own}
 use Rattle.txn_table.proofs.Marks.{leaves_mark, counted_mark}
 use Rattle.txn_table.proofs.table.TxnTable.mark.Goals as goal

@@ -1,4 +1,4 @@
-use Rattle.std.proofs.Common.{◌∙◌, ap, sym, slice_get}
+use Rattle.txn_table.proofs.Names.{◌∙◌, ap, sym, slice_get}
 use Rattle.txn_table.proofs.Places.{first_begins}
 use Rattle.txn_table.proofs.table.TxnTable.oldest_begin.Goals as goal
 

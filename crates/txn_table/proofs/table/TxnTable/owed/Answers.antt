@@ -1,5 +1,4 @@
-use Rattle.std.proofs.Common.{arith}
-use Rattle.txn_table.specs.declared.active.Active.{Active}
+use Rattle.txn_table.proofs.Names.{arith, Active}
 use Rattle.txn_table.proofs.Places.{owed_more}
 use Rattle.txn_table.proofs.table.TxnTable.owed.Goals as goal
 

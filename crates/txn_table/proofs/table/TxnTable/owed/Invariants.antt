@@ -1,5 +1,4 @@
-use Rattle.std.proofs.Common.{◌≡◌, take}
-use Rattle.txn_table.specs.Entries.{owed}
+use Rattle.txn_table.proofs.Names.{◌≡◌, take, owed}
 use Rattle.txn_table.proofs.table.TxnTable.owed.Given as goal
 
 abbrev pub invariant-loop-entry : goal.invariant-loop-entry

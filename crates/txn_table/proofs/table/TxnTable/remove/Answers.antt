@@ -1,5 +1,4 @@
-use Rattle.std.proofs.Common.{◌≡◌, ◌==◌, ◌∙◌, ap, remove}
-use Rattle.std.specs.List.{position_or_len}
+use Rattle.txn_table.proofs.Names.{◌≡◌, ◌==◌, ◌∙◌, ap, remove, position_or_len}
 use Rattle.txn_table.proofs.Changes.{without, remove-without, IsTable-without, removes}
 use Rattle.txn_table.proofs.table.TxnTable.remove.Goals as goal
 

@@ -1,7 +1,4 @@
-use Rattle.std.proofs.Common.{◌≡◌, ℕ, ◌-◌, min, sym, ap, subst, set, get_or, option_map, IsSome, ◌∙◌}
-use Rattle.arrayvec.specs.ArrayVec.{with_items}
-use Rattle.txn_table.specs.Entries.{IsTable, ChangesOnly, after_undone, entry_of}
-use Rattle.txn_table.specs.declared.active.Active.{Active}
+use Rattle.txn_table.proofs.Names.{◌≡◌, ℕ, ◌-◌, min, sym, ap, subst, set, get_or, option_map, IsSome, ◌∙◌, with_items, IsTable, ChangesOnly, after_undone, entry_of, Active}
 use Rattle.txn_table.proofs.Changes.{with_own, refill-with_own, IsTable-own, changes_own}
 use Rattle.txn_table.proofs.Marks.{leaves_undone, counted_undone}
 use Rattle.txn_table.proofs.table.TxnTable.undone.Goals as goal

@@ -1,8 +1,4 @@
-use Rattle.std.proofs.Common.{◌≡◌, ◌<◌, ◌^◌, sym, subst, set, get_or, option_map, IsSome}
-use Rattle.std.specs.Option.{ForSome}
-use Rattle.arrayvec.specs.ArrayVec.{with_items}
-use Rattle.txn_table.specs.Entries.{IsTable, ChangesOnly, after_write, entry_of}
-use Rattle.txn_table.specs.declared.active.Active.{Active}
+use Rattle.txn_table.proofs.Names.{◌≡◌, ◌<◌, ◌^◌, sym, subst, set, get_or, option_map, IsSome, ForSome, with_items, IsTable, ChangesOnly, after_write, entry_of, Active}
 use Rattle.txn_table.proofs.Changes.{with_own, refill-with_own, IsTable-own, changes_own}
 use Rattle.txn_table.proofs.Marks.{leaves_write, counted_write}
 use Rattle.txn_table.proofs.table.TxnTable.wrote.Goals as goal

@@ -1,9 +1,0 @@
-use Rattle.std.proofs.Common.{◌≡◌, ◌↔◌, ◌+◌, map, drop, length}
-use Rattle.image_check.proofs.LeftOnes.{pair_of}
-use Rattle.image_check.proofs.unfinished.LeftTxns.are_named.Given as goal
-
-abbrev pub invariant-loop-txn : goal.invariant-loop-txn
-invariant-loop-txn l = record {
-  same : (map pair_of l.txn-iterator ≡ drop l.place l.master.active) ↔ (map pair_of l.self.left.entries ≡ l.master.active);
-  len : length l.txn-iterator + l.place ≡ length l.master.active;
-}

@@ -1,7 +1,0 @@
-use Rattle.std.proofs.Common.{◌≡◌, ◌+◌}
-use Rattle.std.specs.BTreeMap.{values}
-use Rattle.image_check.specs.Unended.{owed_for}
-use Rattle.image_check.proofs.unfinished.LeftTxns.fit.Given as goal
-
-abbrev pub invariant-loop-left : goal.invariant-loop-left
-invariant-loop-left l = l.free + owed_for (values l.self.left) ≡ l.room + owed_for l.left-iterator

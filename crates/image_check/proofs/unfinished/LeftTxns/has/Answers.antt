@@ -1,6 +1,0 @@
-use Rattle.std.proofs.Common.{◌∙◌}
-use Rattle.image_check.proofs.HeldOnes.{has_is}
-use Rattle.image_check.proofs.unfinished.LeftTxns.has.Goals as goal
-
-pub returns : goal.returns
-returns c records is = c.contains_key.ensures ∙ has_is records c.args.self.now.left c.args.txn is
