@@ -52,7 +52,8 @@ line_of (inr (inr (inl load))) = (codes "load", load.0.count ∷ load.0.seed ∷
 line_of (inr (inr (inr (inl simulate)))) = (codes "simulate", simulate.0.groups ∷ simulate.0.pool ∷ [])
 line_of (inr (inr (inr (inr (inl trial))))) = (codes "trial", trial.0.geometry.pages ∷ trial.0.geometry.groups ∷ trial.0.geometry.blocks ∷ trial.0.pool ∷ [])
 line_of (inr (inr (inr (inr (inr (inl check)))))) = (codes "check", [])
-line_of (inr (inr (inr (inr (inr (inr archive)))))) = (codes "archive", archive.0 ∷ [])
+line_of (inr (inr (inr (inr (inr (inr (inl archive))))))) = (codes "archive", archive.0 ∷ [])
+line_of (inr (inr (inr (inr (inr (inr (inr verify))))))) = (codes "verify", verify.0 ∷ [])
 
 pub written_out : {words : List Text} (right : IsRight words) → words ≡ (line_of right).0 ∷ map decimal (line_of right).1
 written_out (inl run) = run.1.words_are
@@ -61,7 +62,8 @@ written_out (inr (inr (inl load))) = load.1.words_are
 written_out (inr (inr (inr (inl simulate)))) = simulate.1.words_are
 written_out (inr (inr (inr (inr (inl trial))))) = trial.1.words_are
 written_out (inr (inr (inr (inr (inr (inl check)))))) = check
-written_out (inr (inr (inr (inr (inr (inr archive)))))) = archive.1.words_are
+written_out (inr (inr (inr (inr (inr (inr (inl archive))))))) = archive.1.words_are
+written_out (inr (inr (inr (inr (inr (inr (inr verify))))))) = verify.1.words_are
 
 abbrev pub Fits : ℕ → Type 0
 Fits n = n < 2 ^ 64
@@ -82,7 +84,8 @@ fit (inr (inr (inr (inr (inl trial))))) =
     let to = trial.1.limits.to in
     (omega (arith, pages), (omega (arith, groups), (omega (arith, blocks), (omega (arith, to), tt))))
 fit (inr (inr (inr (inr (inr (inl check)))))) = tt
-fit (inr (inr (inr (inr (inr (inr archive)))))) = (archive.1.fits, tt)
+fit (inr (inr (inr (inr (inr (inr (inl archive))))))) = (archive.1.fits, tt)
+fit (inr (inr (inr (inr (inr (inr (inr verify))))))) = let to = verify.1.to in (omega (arith, to), tt)
 
 named_undashed : {words : List Text} (right : IsRight words) → is_dashed (line_of right).0 ≡ false
 named_undashed (inl run) = refl
@@ -91,7 +94,8 @@ named_undashed (inr (inr (inl load))) = refl
 named_undashed (inr (inr (inr (inl simulate)))) = refl
 named_undashed (inr (inr (inr (inr (inl trial))))) = refl
 named_undashed (inr (inr (inr (inr (inr (inl check)))))) = refl
-named_undashed (inr (inr (inr (inr (inr (inr archive)))))) = refl
+named_undashed (inr (inr (inr (inr (inr (inr (inl archive))))))) = refl
+named_undashed (inr (inr (inr (inr (inr (inr (inr verify))))))) = refl
 
 -- a number in decimal begins with a digit
 numeral_undashed : (t : Text) → IsNumeral 10 t → is_dashed t ≡ false
@@ -138,6 +142,10 @@ taken_archive : (t : Text) → Plain t → takes program (codes "archive" ∷ t 
 unfolding clap_on_literals
 taken_archive t p = rw (p.dashes, p.long, p.short) refl
 
+taken_verify : (t : Text) → Plain t → takes program (codes "verify" ∷ t ∷ []) ≡ true
+unfolding clap_on_literals
+taken_verify t p = rw (p.dashes, p.long, p.short) refl
+
 taken_line : {words : List Text} (right : IsRight words) → AllByRecursion Plain (map decimal (line_of right).1) → takes program ((line_of right).0 ∷ map decimal (line_of right).1) ≡ true
 taken_line (inl run) p = taken_run _ p.0
 taken_line (inr (inl new)) p = taken_new _ _ _ p.0 p.1.0 p.1.1.0
@@ -145,7 +153,8 @@ taken_line (inr (inr (inl load))) p = taken_load _ _ _ p.0 p.1.0 p.1.1.0
 taken_line (inr (inr (inr (inl simulate)))) p = taken_simulate _ _ p.0 p.1.0
 taken_line (inr (inr (inr (inr (inl trial))))) p = taken_trial _ _ _ _ p.0 p.1.0 p.1.1.0 p.1.1.1.0
 taken_line (inr (inr (inr (inr (inr (inl check)))))) p = taken_check
-taken_line (inr (inr (inr (inr (inr (inr archive)))))) p = taken_archive _ p.0
+taken_line (inr (inr (inr (inr (inr (inr (inl archive))))))) p = taken_archive _ p.0
+taken_line (inr (inr (inr (inr (inr (inr (inr verify))))))) p = taken_verify _ p.0
 
 -- so it takes all right words
 pub right_taken : (words : List Text) → IsRight words → takes program words ≡ true

@@ -1,4 +1,4 @@
--- The words of `run`, `new`, `load`, `simulate`, `trial` and `archive` each say one thing.
+-- The words of `run`, `new`, `load`, `simulate`, `trial`, `archive` and `verify` each say one thing.
 use Rattle.std.proofs.Common.{◌≡◌, ◌∙◌, ℕ, List, [], ◌∷◌, map, get_or, inl, inr, refl, sym}
 use Rattle.std.specs.Prelude.{decimal}
 use Rattle.std.specs.List.{AllByRecursion}
@@ -7,7 +7,7 @@ use Rattle.site.specs.declared.geometry.Geometry.{Geometry}
 use Rattle.command_line.specs.declared.request.Load.{Load}
 use Rattle.command_line.specs.declared.request.Simulation.{Simulation}
 use Rattle.command_line.specs.declared.request.TrialSizes.{TrialSizes}
-use Rattle.command_line.specs.Words.{IsArchive, IsRun, IsNew, IsLoad, IsSimulate, IsTrial, IsRight}
+use Rattle.command_line.specs.Words.{IsArchive, IsVerify, IsRun, IsNew, IsLoad, IsSimulate, IsTrial, IsRight}
 use Rattle.command_line.proofs.ClapLaws.{Fits, fit, line_of, written_out}
 
 -- numbers whose texts are the same are the same
@@ -54,5 +54,10 @@ one_trial words t other first second =
 
 pub one_from : (words : List (List ℕ)) (from other : ℕ) → IsArchive words from → IsArchive words other → from ≡ other
 one_from words from other first second =
-    let same = one_line {words = words} (inr (inr (inr (inr (inr (inr (from, first))))))) (inr (inr (inr (inr (inr (inr (other, second))))))) in
+    let same = one_line {words = words} (inr (inr (inr (inr (inr (inr (inl (from, first)))))))) (inr (inr (inr (inr (inr (inr (inl (other, second)))))))) in
+    λ i. get_or (same i) 0 0
+
+pub one_archive_size : (words : List (List ℕ)) (pages other : ℕ) → IsVerify words pages → IsVerify words other → pages ≡ other
+one_archive_size words pages other first second =
+    let same = one_line {words = words} (inr (inr (inr (inr (inr (inr (inr (pages, first)))))))) (inr (inr (inr (inr (inr (inr (inr (other, second)))))))) in
     λ i. get_or (same i) 0 0

@@ -45,6 +45,9 @@ check_words = new_app (codes "check")
 abbrev pub archive_words : App
 archive_words = with_rule (new_app (codes "archive")) (text (new_rule (codes "from")))
 
+abbrev pub verify_words : App
+verify_words = with_rule (new_app (codes "verify")) (text (new_rule (codes "pages")))
+
 abbrev pub bare : App
 bare = on_top (λ s. record s {
   no_binary_name = true;
@@ -64,9 +67,9 @@ earlier_words =
     with_subcommand (with_subcommand (with_subcommand database_words simulate_words.top) trial_words.top)
     check_words.top
 
--- and `archive` with one
+-- and `archive` and `verify` with one each
 abbrev pub program : App
-program = with_subcommand earlier_words archive_words.top
+program = with_subcommand (with_subcommand earlier_words archive_words.top) verify_words.top
 
 -- the command is this one, and no argument of it is global
 abbrev pub IsLike : Command → App → Type 0
@@ -88,6 +91,12 @@ pub record IsPool (found : Found) (pool : ℕ) : Type 0 where
 pub record IsFrom (found : Found) (from : ℕ) : Type 0 where
   pub text : first_value found (codes "from") ≡ Some (decimal from)
   pub fits : from < 2 ^ 64
+
+-- the text behind `verify` is a number of pages
+pub record ArePages (found : Found) (pages : ℕ) : Type 0 where
+  pub text : first_value found (codes "pages") ≡ Some (decimal pages)
+  pub from : 1 ≤ pages
+  pub to : pages ≤ 65536
 
 -- the texts behind `new` are sizes
 pub record AreSizes (found : Found) (g : Geometry) : Type 0 where

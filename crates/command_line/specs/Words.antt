@@ -11,6 +11,7 @@ use Rattle.command_line.specs.declared.request.Simulation.{Simulation}
 use Rattle.command_line.specs.declared.request.TrialSizes.{TrialSizes}
 use Rattle.command_line.specs.declared.request.Request.{Request}
 use Rattle.command_line.specs.declared.request.Request.TheVariants.{Run, New, Load, Simulate, Trial, Check, Archive}
+use Rattle.command_line.specs.declared.request.Request.TheVariants.{Verify}
 
 -- the octets of each word
 abbrev pub words_of : List (String Global) → List (List ℕ)
@@ -80,12 +81,19 @@ pub record IsArchive (words : List (List ℕ)) (from : ℕ) : Type 0 where
   pub words_are : words ≡ codes "archive" ∷ decimal from ∷ []
   pub fits : from < 2 ^ 64
 
+-- `verify PAGES`, with PAGES in decimal, from 1 to 65,536
+pub record IsVerify (words : List (List ℕ)) (pages : ℕ) : Type 0 where
+  pub words_are : words ≡ codes "verify" ∷ decimal pages ∷ []
+  pub from : 1 ≤ pages
+  pub to : pages ≤ 65536
+
 -- the words are in the table
 abbrev pub IsRight : List (List ℕ) → Type 0
 IsRight words =
     ((pool : ℕ) × IsRun words pool) ⊎ (((g : Geometry) × IsNew words g)
     ⊎ (((load : Workload) × IsLoad words load) ⊎ (((s : Simulation) × IsSimulate words s)
-    ⊎ (((t : TrialSizes) × IsTrial words t) ⊎ (IsCheck words ⊎ ((from : ℕ) × IsArchive words from))))))
+    ⊎ (((t : TrialSizes) × IsTrial words t) ⊎ (IsCheck words
+    ⊎ (((from : ℕ) × IsArchive words from) ⊎ ((pages : ℕ) × IsVerify words pages)))))))
 
 -- the words ask for this
 abbrev pub IsRequest : Request → List (List ℕ) → Type 0
@@ -96,6 +104,7 @@ IsRequest (Simulate s) words = IsSimulate words s
 IsRequest (Trial t) words = IsTrial words t
 IsRequest Check words = IsCheck words
 IsRequest (Archive from) words = IsArchive words from
+IsRequest (Verify pages) words = IsVerify words pages
 
 -- the word begins with a dash
 abbrev pub is_dashed : List ℕ → Bool

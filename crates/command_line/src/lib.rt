@@ -6,5 +6,6 @@ mod words;
 
 pub use request::{Load, Request, Simulation, TrialSizes, Unread, read_words};
 pub use words::{
-    COUNT_MAX, POOL_MAX, geometry_of, groups_in, number_in, number_within, sizes, trial_geometry_of,
+    COUNT_MAX, PAGES_MAX, POOL_MAX, geometry_of, groups_in, number_in, number_within, sizes,
+    trial_geometry_of,
 };

@@ -3,11 +3,11 @@ ghost use Rattle.std.specs.Prelude.{◌≡◌, ◌↔◌, IfSome, IfNone, IfOk, 
 ghost use Rattle.std.specs.List.{list_any};
 ghost use Rattle.clap.specs.Words.{found_of, kind_of, new_rule, rule_of};
 ghost use Rattle.clap.specs.declared.error.kind.ErrorKind.TheVariants.{OutOfMemory};
-ghost use Rattle.command_line.specs.Program.{AreSizes, IsFrom, IsLike, IsLoadOf, IsPool, IsReadFrom};
+ghost use Rattle.command_line.specs.Program.{ArePages, AreSizes, IsFrom, IsLike, IsLoadOf, IsPool, IsReadFrom};
 ghost use Rattle.command_line.specs.Program.{IsSimulationOf, IsTrialOf};
 ghost use Rattle.command_line.specs.Program.{archive_words, bare, check_words, database_words, earlier_words};
 ghost use Rattle.command_line.specs.Program.{load_words, new_words, program, run_words, simulate_words, text};
-ghost use Rattle.command_line.specs.Program.{trial_words};
+ghost use Rattle.command_line.specs.Program.{trial_words, verify_words};
 ghost use Rattle.command_line.specs.Words.{HasTrialLimits, IsRight, IsRequest, HasCacheLimits, HasDash, HasLoadLimits};
 ghost use Rattle.command_line.specs.Words.{is_dashed, words_of};
 ghost use Rattle.command_line.specs.declared.request.Load.{Load};
@@ -17,7 +17,8 @@ ghost use Rattle.command_line.specs.declared.request.Unread.{Unread};
 ghost use Rattle.site.specs.declared.geometry.Geometry.{Geometry};
 
 use crate::words::{
-    COUNT_MAX, POOL_MAX, geometry_of, groups_in, number_in, number_within, trial_geometry_of,
+    COUNT_MAX, PAGES_MAX, POOL_MAX, geometry_of, groups_in, number_in, number_within,
+    trial_geometry_of,
 };
 use clap::error::ErrorKind;
 use clap::{Arg, ArgMatches, Command, Error};
@@ -63,6 +64,8 @@ pub enum Request {
     Check,
     /// The log's sealed blocks from this one on.
     Archive(u64),
+    /// How many commits an archive has, of a database with so many pages.
+    Verify(u32),
 }
 
 /// Why words ask for nothing.
@@ -143,6 +146,13 @@ fn archive_command<'a>(alloc: Global) -> Result<Command<'a>, AllocError>
     Command::new(alloc, "archive").arg(text_argument(alloc, "from"))
 }
 
+// The words behind `verify`.
+fn verify_command<'a>(alloc: Global) -> Result<Command<'a>, AllocError>
+    ensures { IfOk result (λ c. IsLike c verify_words) }
+{
+    Command::new(alloc, "verify").arg(text_argument(alloc, "pages"))
+}
+
 // The words are the program's without its own name, and there is no help.
 fn bare_command<'a>(alloc: Global) -> Command<'a>
     ensures { IsLike result bare }
@@ -180,12 +190,15 @@ fn earlier_command<'a>(alloc: Global) -> Result<Command<'a>, AllocError>
         .subcommand(check_command(alloc))
 }
 
-// The program's command line: these words, and `archive` with its text.
+// The program's command line: these words, and `archive` and `verify` with a text each.
 fn command<'a>(alloc: Global) -> Result<Command<'a>, AllocError>
     ensures { IfOk result (λ c. IsLike c program) }
 {
     let archive = archive_command(alloc)?;
-    earlier_command(alloc)?.subcommand(archive)
+    let verify = verify_command(alloc)?;
+    earlier_command(alloc)?
+        .subcommand(archive)?
+        .subcommand(verify)
 }
 
 fn begins_with_dash(word: &[u8]) -> bool
@@ -233,6 +246,17 @@ fn from_in(archive: &ArgMatches<'_>) -> Option<u64>
         return None;
     };
     Some(from)
+}
+
+// The number of pages that the text behind `verify` gives.
+fn archive_pages_in(verify: &ArgMatches<'_>) -> Option<u32>
+    ensures pages { IfSome result (λ pages. ArePages (found_of verify.now) pages) }
+    ensures none { IfNone result ((pages : ℕ) → ArePages (found_of verify.now) pages → ⊥) }
+{
+    let Some(pages) = verify.get_str("pages") else {
+        return None;
+    };
+    number_within(pages.as_bytes(), 1, PAGES_MAX)
 }
 
 // The sizes that the texts behind `new` give.
@@ -414,6 +438,12 @@ fn request_in(matches: &ArgMatches<'_>) -> Option<Request>
             return None;
         };
         return Some(Request::Archive(from));
+    }
+    if let Some(verify) = matches.subcommand_matches("verify") {
+        let Some(pages) = archive_pages_in(verify) else {
+            return None;
+        };
+        return Some(Request::Verify(pages));
     }
     None
 }

@@ -13,7 +13,8 @@ pub const POOL_MAX: u32 = 4_096;
 /// The most sets that a load may make.
 pub const COUNT_MAX: u32 = 100_000;
 
-const PAGES_MAX: u32 = 65_536;
+/// The most pages that a database has.
+pub const PAGES_MAX: u32 = 65_536;
 
 const GROUPS_MAX: u32 = 16_384;
 

@@ -375,6 +375,47 @@ const ARCHIVES: &[Step<'static>] = &[
     Step::Reads(Dev::Log, 0),
 ];
 
+// The line of the block of `set 5 0a0b` without its last 914 zeros.
+const FIRST_BLOCK: &str = "block 0 002e010200000000000000020000000000000002000000000500030a0b0400000000000000020000000000000001";
+
+// An archive is read; no device is touched. What isn't accepted is told by its line: no block, one twice, a long one.
+const VERIFIED: &[Step<'static>] = &[
+    Step::Feed(FIRST_BLOCK),
+    Step::FeedMany(914, "0"),
+    Step::Feed("\nend 1\nend 1"),
+    Step::Call("verify 1", 0),
+    Step::Told("verified 1\n"),
+    Step::Reads(Dev::Log, 0),
+    Step::Changes(1),
+    Step::New(STANDARD),
+    Step::Call("verify 65536", 0),
+    Step::Told("verified 0\n"),
+    Step::New(STANDARD),
+    Step::Feed("end 1\n"),
+    Step::Call("verify 16", 13),
+    Step::Told("fault stream 1\n"),
+    Step::New(STANDARD),
+    Step::Feed(FIRST_BLOCK),
+    Step::FeedMany(914, "0"),
+    Step::Feed("\n"),
+    Step::Feed(FIRST_BLOCK),
+    Step::FeedMany(914, "0"),
+    Step::Call("verify 16", 13),
+    Step::Told("fault stream 2\n"),
+    Step::New(STANDARD),
+    Step::FeedMany(1_027, "0"),
+    Step::Call("verify 16", 13),
+    Step::Told("fault stream 1\n"),
+    Step::New(STANDARD),
+    Step::Fail(Call::Take, 1),
+    Step::Call("verify 16", 5),
+    Step::Told("fault input\n"),
+    Step::New(STANDARD),
+    Step::Fail(Call::Tell, 1),
+    Step::Call("verify 16", 6),
+    Step::Told(""),
+];
+
 const LARGE_DEVICES: &[Step<'static>] = &[
     Step::New(LARGE),
     Step::Call("new 1024 64 400", 0),
@@ -431,7 +472,11 @@ simulate 8 1 1
 simulate 4 1
 simulate 10 1
 simulate 16388 1
-simulate 8 4097";
+simulate 8 4097
+verify
+verify 0
+verify 65537
+verify 1 1";
 
 // Whether these words are refused, and nothing is done but telling it.
 fn refuses_words(alloc: Global, words: &str) -> Result<bool, Fail> {
@@ -600,7 +645,7 @@ const LARGEST_SEED: &[Step<'static>] = &[
 ];
 
 // The tests by their names.
-const TESTS: [(&str, &[Step<'static>]); 28] = [
+const TESTS: [(&str, &[Step<'static>]); 29] = [
     ("the_largest_pool_is_served", LARGEST_POOL),
     ("a_long_input_is_heard_to_its_end", LONG_INPUT),
     ("lines_are_answered", LINES),
@@ -618,6 +663,7 @@ const TESTS: [(&str, &[Step<'static>]); 28] = [
     ("a_new_database_is_tested", NEW),
     ("devices_are_checked", CHECKS),
     ("archives_are_told", ARCHIVES),
+    ("archives_are_verified", VERIFIED),
     ("large_devices_are_tested", LARGE_DEVICES),
     ("a_trace_is_reported", TRACES),
     ("faults_have_their_status", FAULTS),

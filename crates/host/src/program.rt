@@ -37,7 +37,7 @@ fn words<R: Env + AllocGlobal>(rt: &R) -> Result<Vec<String>, AllocError> {
 }
 
 // The site that these words work on: for a new database its files are made where they are missing; a simulation, a
-// trial and wrong words open none.
+// trial, an archive that is verified and wrong words open none.
 fn site<'a, R>(rt: &'a R, words: &[String]) -> Result<FileSite<&'a R>, Stop>
 where
     R: Files + Input + Print + Eprint + Clock + AllocGlobal,
@@ -49,7 +49,9 @@ where
     }
     match read_words(rt.alloc(), words) {
         Ok(Request::Simulate(_)) => FileSite::for_trace(rt, rt.alloc()),
-        Ok(Request::Trial(_)) | Err(Unread::Words) => FileSite::bare(rt, rt.alloc()),
+        Ok(Request::Trial(_)) | Ok(Request::Verify(_)) | Err(Unread::Words) => {
+            FileSite::bare(rt, rt.alloc())
+        }
         Ok(Request::Check) | Ok(Request::Archive(_)) => FileSite::for_check(rt, rt.alloc()),
         Ok(_) => FileSite::existing(rt, rt.alloc()),
         Err(Unread::Memory) => Err(Stop::Memory),

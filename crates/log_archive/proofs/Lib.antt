@@ -1,11 +1,11 @@
 pub mod Numbered
 pub mod Lined
 mod StreamRows
-mod Following
+pub mod Following
 mod Ascending
 mod AtNumber
 mod Behind
 mod Steps
 mod Walks
 mod Blocks
-mod OneStream
+pub mod OneStream

@@ -39,7 +39,7 @@ digits_of digits hex k is =
     ap (take k) (append_assoc digits (codes " ") hex) ∙ ap (λ n. take n (digits ++ (codes " " ++ hex))) is ∙ take-append_seam digits (codes " " ++ hex)
 
 module _ (line : List ℕ) (n : ℕ) (content : List ℕ) (is : IsBlockLine line n content) where
-  length-line : length line ≡ 7 + length (decimal n) + 2 * BLOCK_LEN
+  pub length-line : length line ≡ 7 + length (decimal n) + 2 * BLOCK_LEN
   length-line =
       let whole = ap length is.text ∙ length-parted (decimal n) (encode_lower content) in
       let hex = length-encode_with lower_digits content in

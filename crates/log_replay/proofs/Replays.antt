@@ -90,6 +90,10 @@ module _ (pages : ℕ) (s : Stream) (popped : List (List Write)) (old new : Repl
   pops None items = tt
   pops (Some net) items = moved (popped ++ net ∷ []) (stands.ledger.nets ∙ ap (λ l. popped ++ l) items ∙ sym (append_assoc popped (net ∷ []) new.ledger.waiting.items))
 
+  -- all are let go
+  pub forgotten : new.ledger.waiting.items ≡ [] → StandsFor pages s s.nets new
+  forgotten none = moved s.nets (sym (append-nil s.nets) ∙ ap (λ l. s.nets ++ l) (sym none))
+
 pub none_popped : (r : Option (List Write)) (old new : List (List Write)) → old ≡ option_to_list r ++ new → old ≡ [] → r ≡ None
 none_popped None old new items empty = refl
 none_popped (Some net) old new items empty = let wrong : net ∷ new ≡ [] = sym items ∙ empty in cc

@@ -6,7 +6,7 @@ ghost use Rattle.log_records.specs.declared.log_record.LogRecord.{LogRecord};
 ghost use Rattle.log_records.specs.Spelling.{IsBlock};
 ghost use Rattle.site.specs.declared.outside.Stop.TheVariants.{Memory};
 ghost use Rattle.log_archive.specs.Lines.{IsEndLine};
-ghost use Rattle.log_archive.specs.Accepted.{AfterLine, Stream, after_block, blank_stream};
+ghost use Rattle.log_archive.specs.Accepted.{AfterLine, Stream, after_block, blank_stream, commits_in};
 ghost use Rattle.log_replay.specs.declared.ledger.ReplayFault.TheVariants.{BadStream};
 ghost use Rattle.log_replay.specs.Stands.{Hears, NoneWaits, StandsFor};
 
@@ -117,5 +117,21 @@ impl Replay {
         ensures none { NoneWaits self.old → result ≡ None }
     {
         self.ledger.waiting.pop_front()
+    }
+
+    /// How many commits there were, those before the stream too.
+    pub fn commits(&self) -> u64
+        ensures { (pages : ℕ) (s : Stream) (popped : List (List Write)) → StandsFor pages s popped self.now
+            → result ≡ commits_in s }
+    {
+        self.ledger.commits
+    }
+
+    /// Lets the nets that wait go, as if each was popped.
+    pub fn forget(&mut self)
+        ensures { (pages : ℕ) (s : Stream) (popped : List (List Write)) → StandsFor pages s popped self.old
+            → StandsFor pages s s.nets self.new }
+    {
+        self.ledger.waiting.clear();
     }
 }

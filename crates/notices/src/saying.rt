@@ -283,6 +283,13 @@ pub fn say<R: Eprint>(
                 "face: the log has no block of that number: gone names the oldest that it has, ahead the one that comes next",
             );
         }
+        13 => {
+            let _ = rt.eprintln(
+                "face: that line of the input isn't the next block of the archive, or an end line with its number, or \
+                a record of it doesn't follow: hand in the archives from block 0 on, in their order, with none left out, \
+                and the PAGES of their database",
+            );
+        }
         16 => {
             let _ = eprintln!(rt;
                 "face: that line of the input is no touch: each is r PAGE or w PAGE, PAGE 0 to 65535, and there are at \

@@ -13,6 +13,7 @@ usage: face new PAGES GROUPS BLOCKS   makes a database in the current folder
                                       plays a script of lives with power cuts in memory
        face check                     tells whether the database in the current folder is sound, and changes nothing
        face archive FROM              tells the log's blocks from FROM on, as lines of text
+       face verify PAGES              tells how many commits the archive on standard input has
 PAGES  1 to 65536, each of 32 records and 4096 octets of face.disk
 GROUPS a multiple of 4 from 8 to 16384, each of 33536 octets of face.flash
 BLOCKS 16 to 1048576, each of 512 octets of face.log
@@ -70,7 +71,7 @@ impl Number {
 pub enum Wrong {
     /// There are none, or one isn't text.
     Nothing,
-    /// The first isn't one of `new`, `run`, `load`, `simulate`, `trial`, `check` and `archive`.
+    /// The first isn't one of `new`, `run`, `load`, `simulate`, `trial`, `check`, `archive` and `verify`.
     Unknown,
     /// The word of this place isn't this number.
     Unfit(usize, Number),
@@ -97,6 +98,7 @@ fn number_at(first: &str, place: usize) -> Option<Number> {
         ("trial", 4) => Some(Number::TrialBlocks),
         ("trial", 5) => Some(Number::Pool),
         ("archive", 2) => Some(Number::From),
+        ("verify", 2) => Some(Number::Pages),
         _ => None,
     }
 }
@@ -143,7 +145,7 @@ pub fn say_words<R: Eprint>(rt: &R, words: &[String]) {
         Some(Wrong::Unknown) => {
             let word = word_at(words, 1);
             eprintln!(rt;
-                "face: word 1 is {word:?}, and not new, run, load, simulate, trial, check or archive"
+                "face: word 1 is {word:?}, and not new, run, load, simulate, trial, check, archive or verify"
             )
         }
         Some(Wrong::Unfit(place, number)) => {

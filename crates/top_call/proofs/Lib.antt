@@ -1,2 +1,3 @@
 mod Archived
 mod Simulated
+mod Verified

@@ -10,10 +10,11 @@ ghost use Rattle.face.specs.TopCall.{LoadContract, NewContract, RunContract};
 ghost use Rattle.command_line.specs.declared.request.Load.{Load};
 ghost use Rattle.command_line.specs.declared.request.Simulation.{Simulation};
 ghost use Rattle.command_line.specs.declared.request.TrialSizes.{TrialSizes};
-ghost use Rattle.command_line.specs.Words.{IsArchive, IsCheck, IsRun, IsNew, IsLoad, IsSimulate, IsTrial};
+ghost use Rattle.command_line.specs.Words.{IsArchive, IsCheck, IsRun, IsNew, IsLoad, IsSimulate, IsTrial, IsVerify};
 ghost use Rattle.command_line.specs.Words.{HasDash, IsRight, words_of};
 ghost use Rattle.archive_report.specs.Contract.{ArchiveContract};
 ghost use Rattle.front_end.specs.Check.{CheckContract};
+ghost use Rattle.stream_report.specs.Contract.{VerifyContract};
 ghost use Rattle.trace_report.specs.Contract.{SimulateContract};
 ghost use Rattle.face.specs.Trial.{TrialContract};
 ghost use Rattle.front_end.specs.Refusals.{RefusesWords, RefusesDevices, LacksMemory};
@@ -24,6 +25,7 @@ use face::{lack_memory, serve, serve_load, serve_trial};
 use front_end::{make_new, serve_check, tell_words};
 use site::Site;
 use std::alloc::Global;
+use stream_report::verify;
 use trace_report::simulate;
 
 /// The top call: the program's words, without its own name, and the site that it works on. The answer is the status
@@ -34,8 +36,9 @@ use trace_report::simulate;
 /// no device. The words `trial PAGES GROUPS BLOCKS POOL`, with at most 1,024 pages, 256 groups and 4,096 blocks, are
 /// the work of `trial`, on a site in memory of these sizes, and touch no device either. The word `check` tells whether
 /// the devices are sound, and changes nothing. The words `archive FROM`, with FROM below 2^64, tell the log's sealed
-/// blocks from that one on, and change nothing but that the log is synced. All other words have status 2.
-/// Reading the words may want memory, which has status 4; then nothing is read or changed.
+/// blocks from that one on, and change nothing but that the log is synced. The words `verify PAGES`, with PAGES from 1 to
+/// 65,536, hear an archive of the log on the input and tell how many commits it has; they touch no device. All other
+/// words have status 2. Reading the words may want memory, which has status 4; then nothing is read or changed.
 pub fn face<S: Site>(alloc: Global, words: &[String], site: &mut S) -> u8
     // What each command does, and when each of its statuses comes.
     ensures run { (pool : ℕ) → IsRun (words_of words.now) pool
@@ -51,6 +54,8 @@ pub fn face<S: Site>(alloc: Global, words: &[String], site: &mut S) -> u8
     ensures check { IsCheck (words_of words.now) → CheckContract (S.state site.old) (S.state site.new) result }
     ensures archive { (from : ℕ) → IsArchive (words_of words.now) from
         → ArchiveContract from (S.state site.old) (S.state site.new) result }
+    ensures verify { (pages : ℕ) → IsVerify (words_of words.now) pages
+        → VerifyContract pages (S.state site.old) (S.state site.new) result }
     // Which octets a run takes of an honest site, and with which status, whatever stands on its devices.
     ensures hears { ((pool : ℕ) × IsRun (words_of words.now) pool) → IsTrue (S.state site.old).honest
         → HearsInTime result (S.state site.old) (S.state site.new) }
@@ -87,6 +92,7 @@ pub fn face<S: Site>(alloc: Global, words: &[String], site: &mut S) -> u8
         Ok(Request::Trial(sizes)) => serve_trial(alloc, &sizes, site),
         Ok(Request::Check) => serve_check(alloc, site),
         Ok(Request::Archive(from)) => archive(from, site),
+        Ok(Request::Verify(pages)) => verify(alloc, pages, site),
         Err(Unread::Words) => {
             let _ = tell_words(site);
             2

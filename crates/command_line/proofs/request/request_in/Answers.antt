@@ -1,7 +1,7 @@
 use Rattle.std.proofs.Common.{rules, ◌≡◌, codes, ⊎_elim, sym, true≢false}
 use Rattle.std.specs.Prelude.{Some}
 use Rattle.clap.specs.Words.{found_of, subcommand_name_of}
-use Rattle.command_line.proofs.ClapInverse.{run_right, run_wrong, new_right, new_wrong, load_right, load_wrong, simulate_right, simulate_wrong, trial_right, trial_wrong, check_right, archive_right, archive_wrong, right_named}
+use Rattle.command_line.proofs.ClapInverse.{run_right, run_wrong, new_right, new_wrong, load_right, load_wrong, simulate_right, simulate_wrong, trial_right, trial_wrong, check_right, archive_right, archive_wrong, verify_right, verify_wrong, right_named}
 use Rattle.command_line.proofs.request.request_in.Goals as goal
 
 pub returns-in_default-pool_in-clause-none : goal.returns-in_default-pool_in-clause-none
@@ -69,6 +69,16 @@ returns-in-Some-subcommand_matches-6-clause-some c words read =
     let is : subcommand_name_of c.args.matches.now ≡ Some (codes "archive") = search rules in
     archive_right words c.args.matches.now (found_of c.in-Some-subcommand_matches-6.archive.now) read c.in-Some-subcommand_matches-6.ensures.rows is c.in-Some-from_in.from c.in-Some-from_in.ensures.from
 
+pub returns-in_default-archive_pages_in-clause-none : goal.returns-in_default-archive_pages_in-clause-none
+returns-in_default-archive_pages_in-clause-none c words read =
+    let is : subcommand_name_of c.args.matches.now ≡ Some (codes "verify") = search rules in
+    verify_wrong words c.args.matches.now (found_of c.in-Some-subcommand_matches-7.verify.now) read c.in-Some-subcommand_matches-7.ensures.rows is c.in_default-archive_pages_in.ensures.none
+
+pub returns-in-Some-subcommand_matches-7-clause-some : goal.returns-in-Some-subcommand_matches-7-clause-some
+returns-in-Some-subcommand_matches-7-clause-some c words read =
+    let is : subcommand_name_of c.args.matches.now ≡ Some (codes "verify") = search rules in
+    verify_right words c.args.matches.now (found_of c.in-Some-subcommand_matches-7.verify.now) read c.in-Some-subcommand_matches-7.ensures.rows is c.in-Some-archive_pages_in.pages c.in-Some-archive_pages_in.ensures.pages
+
 pub returns-clause-none : goal.returns-clause-none
 returns-clause-none c words read right = ⊎_elim
     (λ run. absurd (true≢false (sym (c.in_default.ensures.found.1 run))))
@@ -82,5 +92,7 @@ returns-clause-none c words read right = ⊎_elim
     (λ trial. absurd (true≢false (sym (c.in_default-subcommand_matches-4.ensures.found.1 trial))))
     (λ both. ⊎_elim
     (λ check. absurd (true≢false (sym (c.in_default-subcommand_matches-5.ensures.found.1 check))))
-    (λ archive. absurd (true≢false (sym (c.in_default-subcommand_matches-6.ensures.found.1 archive)))) both) end) last) others) other)
+    (λ rest6. ⊎_elim
+    (λ archive. absurd (true≢false (sym (c.in_default-subcommand_matches-6.ensures.found.1 archive))))
+    (λ verify. absurd (true≢false (sym (c.in_default-subcommand_matches-7.ensures.found.1 verify)))) rest6) both) end) last) others) other)
     (right_named words c.args.matches.now read right)

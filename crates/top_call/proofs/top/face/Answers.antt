@@ -7,13 +7,15 @@ use Rattle.command_line.specs.declared.request.Simulation.{Simulation}
 use Rattle.command_line.specs.declared.request.TrialSizes.{TrialSizes}
 use Rattle.face.specs.Trial.{TrialContract}
 use Rattle.trace_report.specs.Contract.{SimulateContract}
-use Rattle.command_line.specs.Words.{IsArchive, IsLoad, IsNew, IsRight, IsSimulate, IsTrial, words_of, IsRun}
+use Rattle.command_line.specs.Words.{IsArchive, IsLoad, IsNew, IsRight, IsSimulate, IsTrial, IsVerify, words_of, IsRun}
 use Rattle.front_end.proofs.Endings.{only_tells}
-use Rattle.command_line.proofs.WordLaws.{one_from, one_geometry, one_load, one_pool, one_simulation, one_trial}
+use Rattle.command_line.proofs.WordLaws.{one_archive_size, one_from, one_geometry, one_load, one_pool, one_simulation, one_trial}
 use Rattle.front_end.proofs.Firsts.{first_line}
 use Rattle.archive_report.specs.Contract.{ArchiveContract}
 use Rattle.top_call.proofs.Archived.{first_archived, lacked_archive, not_two}
 use Rattle.top_call.proofs.Simulated.{first_simulated}
+use Rattle.stream_report.specs.Contract.{VerifyContract}
+use Rattle.top_call.proofs.Verified.{first_verified, lacked_verify, never_two}
 use Rattle.top_call.proofs.top.face.Goals as goal
 
 pub returns-in-Ok-Run-clause-run : goal.returns-in-Ok-Run-clause-run
@@ -60,7 +62,7 @@ returns-in-Ok-Archive-clause-first g c =
 pub returns-in-Ok-Archive-clause-words : goal.returns-in-Ok-Archive-clause-words
 returns-in-Ok-Archive-clause-words g c =
     let found : IsArchive (words_of c.args.words.now) c.in-Ok-Archive.from = search rules in
-    inr (inl (inr (inr (inr (inr (inr (inr (c.in-Ok-Archive.from, found))))))))
+    inr (inl (inr (inr (inr (inr (inr (inr (inl (c.in-Ok-Archive.from, found)))))))))
 
 pub returns-in-Ok-Archive-clause-wrong : goal.returns-in-Ok-Archive-clause-wrong
 returns-in-Ok-Archive-clause-wrong g c two right = not_two c.archive.result c.archive.ensures.archive.causes.others two
@@ -71,7 +73,35 @@ returns-in-Ok-Archive-clause-refused g c two = absurd (not_two c.archive.result 
 pub returns-in-Err-Words-clause-archive : goal.returns-in-Err-Words-clause-archive
 returns-in-Err-Words-clause-archive g c from is_archive =
     let never : IsRight (words_of c.args.words.now) → ⊥ = search rules in
-    absurd (never (inr (inr (inr (inr (inr (inr (from, is_archive))))))))
+    absurd (never (inr (inr (inr (inr (inr (inr (inl (from, is_archive)))))))))
+
+pub returns-in-Ok-Verify-clause-verify : goal.returns-in-Ok-Verify-clause-verify
+returns-in-Ok-Verify-clause-verify g c pages is_verify =
+    let found : IsVerify (words_of c.args.words.now) c.in-Ok-Verify.pages = search rules in
+    subst (λ (n : ℕ). VerifyContract n (g.S.Site.state c.args.site.now) (g.S.Site.state c.verify.new.site) c.verify.result) (one_archive_size (words_of c.args.words.now) _ pages found is_verify) c.verify.ensures.verify
+
+pub returns-in-Err-Memory-clause-verify : goal.returns-in-Err-Memory-clause-verify
+returns-in-Err-Memory-clause-verify g c pages is_verify = lacked_verify pages c.lack_memory.result (g.S.Site.state c.args.site.now) (g.S.Site.state c.lack_memory.new.site) c.lack_memory.ensures.lacks
+
+pub returns-in-Ok-Verify-clause-first : goal.returns-in-Ok-Verify-clause-first
+returns-in-Ok-Verify-clause-first g c =
+    first_verified c.verify.result (g.S.Site.state c.args.site.now) (g.S.Site.state c.verify.new.site) c.verify.ensures.first c.verify.ensures.verify.others
+
+pub returns-in-Ok-Verify-clause-words : goal.returns-in-Ok-Verify-clause-words
+returns-in-Ok-Verify-clause-words g c =
+    let found : IsVerify (words_of c.args.words.now) c.in-Ok-Verify.pages = search rules in
+    inr (inl (inr (inr (inr (inr (inr (inr (inr (c.in-Ok-Verify.pages, found)))))))))
+
+pub returns-in-Ok-Verify-clause-wrong : goal.returns-in-Ok-Verify-clause-wrong
+returns-in-Ok-Verify-clause-wrong g c two right = never_two c.verify.result c.verify.ensures.verify.others two
+
+pub returns-in-Ok-Verify-clause-refused : goal.returns-in-Ok-Verify-clause-refused
+returns-in-Ok-Verify-clause-refused g c two = absurd (never_two c.verify.result c.verify.ensures.verify.others two)
+
+pub returns-in-Err-Words-clause-verify : goal.returns-in-Err-Words-clause-verify
+returns-in-Err-Words-clause-verify g c pages is_verify =
+    let never : IsRight (words_of c.args.words.now) → ⊥ = search rules in
+    absurd (never (inr (inr (inr (inr (inr (inr (inr (pages, is_verify)))))))))
 
 pub returns-in-Err-Words-clause-refused : goal.returns-in-Err-Words-clause-refused
 returns-in-Err-Words-clause-refused g c two = only_tells _ (g.S.Site.state c.args.site.now) (g.S.Site.state c.tell_words.new.site) c.tell_words.result c.tell_words.ensures

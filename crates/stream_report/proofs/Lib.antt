@@ -1,0 +1,3 @@
+mod Heard
+mod Told
+mod Firsts
