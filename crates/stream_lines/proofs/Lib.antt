@@ -1,0 +1,3 @@
+mod LineOctets
+mod Gathered
+mod Takes
