@@ -286,7 +286,7 @@ pub fn say<R: Eprint>(
         13 => {
             let _ = rt.eprintln(
                 "face: that line of the input isn't the next block of the archive, or an end line with its number, or \
-                a record of it doesn't follow: hand in the archives from block 0 on, in their order, with none left out, \
+                a record of it doesn't follow: hand in the archives from block 0 on, in order, with none left out, \
                 and the PAGES of their database",
             );
         }

@@ -11,7 +11,7 @@ use Rattle.shell_text.specs.Runs.{in_front, lines_of}
 use Rattle.shell_text.proofs.Lines.{lines_of-newline, lines_of-end}
 use Rattle.stream_lines.specs.declared.source.Fault.{Fault}
 use Rattle.stream_lines.specs.declared.source.Source.{Source}
-use Rattle.stream_lines.specs.Lines.{IsSource, to_hear, pending, total, limit, long, with_newline, HearsPart, HearsOnly, HearsLine, HearsLong, IsCutOff, CutsOff}
+use Rattle.stream_lines.specs.Lines.{IsSource, to_hear, pending, total, limit, with_newline, HearsPart, HearsOnly, HearsLine, HearsLong, IsCutOff, CutsOff}
 
 -- what was heard of a line so far: no newline; its octets are kept as far as they fit
 pub record HeardSoFar (before after line : List ℕ) (turns : ℕ) : Type 0 where

@@ -80,7 +80,8 @@ impl Source {
             → IfErr result (λ fault. CutsOff fault (total self.old (S.state site.old)) (S.state site.old).input.left
             (S.state site.new).input.left) }
         ensures preserves { Preserves (S.state site.old) (S.state site.new) }
-        ensures input { result ≡ Err Fault.Input → Rose (S.state site.old).input_faults (S.state site.new).input_faults }
+        ensures input { result ≡ Err Fault.Input
+            → Rose (S.state site.old).input_faults (S.state site.new).input_faults }
         ensures faults { HearFaults result (S.state site.old) (S.state site.new) }
     {
         match site.take(&mut self.buffer[..1]) {
@@ -113,7 +114,8 @@ impl Source {
         ensures same { IsTrue (S.state site.old).honest → HearsOnly (S.state site.old) (S.state site.new) }
         ensures takes { IsTrue (S.state site.old).honest → TakesWithin self.old (S.state site.old) (S.state site.new) }
         ensures preserves { Preserves (S.state site.old) (S.state site.new) }
-        ensures input { result ≡ Err Fault.Input → Rose (S.state site.old).input_faults (S.state site.new).input_faults }
+        ensures input { result ≡ Err Fault.Input
+            → Rose (S.state site.old).input_faults (S.state site.new).input_faults }
         ensures faults { HearFaults result (S.state site.old) (S.state site.new) }
     {
         if self.from < self.to {
@@ -160,7 +162,11 @@ impl Source {
     /// The next line, without its newline, in place of what stands in the line that is handed in. Nothing changes but
     /// the input. A line of more than 1,026 octets is Long; no more of it is taken once 1,027 were heard. Where taking
     /// fails, or goes past the limit, the octets of an unfinished line are lost.
-    pub fn next<S: Site>(&mut self, site: &mut S, line: &mut ArrayVec<u8, LONG>) -> Result<Heard, Fault>
+    pub fn next<S: Site>(
+        &mut self,
+        site: &mut S,
+        line: &mut ArrayVec<u8, LONG>,
+    ) -> Result<Heard, Fault>
         requires { IsSource self.old }
         ensures source { IsSource self.new }
         ensures heard { IsTrue (S.state site.old).honest → HasEnded self.old (S.state site.old)
@@ -177,7 +183,8 @@ impl Source {
         ensures takes { IsTrue (S.state site.old).honest → HasEnded self.old (S.state site.old)
             → TakesWithin self.old (S.state site.old) (S.state site.new) }
         ensures preserves { Preserves (S.state site.old) (S.state site.new) }
-        ensures input { result ≡ Err Fault.Input → Rose (S.state site.old).input_faults (S.state site.new).input_faults }
+        ensures input { result ≡ Err Fault.Input
+            → Rose (S.state site.old).input_faults (S.state site.new).input_faults }
         ensures faults { HearFaults result (S.state site.old) (S.state site.new) }
     {
         line.clear();
