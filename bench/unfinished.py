@@ -6,8 +6,9 @@
 Each PROGRAM is one to measure, named by its path; without any it is the one that bin/face runs. The logs are written by this script:
 so many transactions with no Update or with one, and one transaction with so many, each Update on another page than the one before, and
 on a record of its own. A sound log of as many blocks, whose transactions have all ended, stands beside each. The table has the seconds
-of a start, the reply `open` among them; it gives up after two minutes. The files are made in the current folder, in folders of their
-own that are removed."""
+of a start, the reply `open` among them; it gives up after two minutes. Last come a check and a start over a log that is full of Begins
+and has no room to undo them, beside one of as many blocks that is full of transactions of a Begin and an End: the seconds of a
+processor, the memory, and the status. The files are made in the current folder, in folders of their own that are removed."""
 import os
 import shutil
 import struct
@@ -22,6 +23,7 @@ PAGES, GROUPS, LIMIT = 8192, 8, 120
 COUNTS = [1000, 10000, 50100, 200400]
 WRITES = [1000, 10000, 100000, 260000]
 POOLS = [1, 64]
+REFUSED = 16000  # blocks
 
 
 def update(txn, prev, number):
@@ -88,6 +90,19 @@ def seconds(face, log, owed, pool):
         shutil.rmtree(folder, ignore_errors=True)
 
 
+def costs(face, log, words):
+    """What these words cost over a log with as much room as it has blocks."""
+    folder = tempfile.mkdtemp(dir=".")
+    try:
+        log.write(folder, len(log.blocks) - 1)
+        with subprocess.Popen([face, *words], cwd=folder, stdin=subprocess.DEVNULL, stdout=subprocess.DEVNULL, stderr=subprocess.DEVNULL) as run:
+            _, status, used = os.wait4(run.pid, 0)
+            run.returncode = os.waitstatus_to_exitcode(status)
+        return f"{used.ru_utime + used.ru_stime:.1f} s, {used.ru_maxrss // 1000} MB, status {run.returncode}"
+    finally:
+        shutil.rmtree(folder, ignore_errors=True)
+
+
 def row(programs, name, made, pool):
     log, owed = made
     sound = ended(len(log.blocks))
@@ -104,6 +119,12 @@ def main():
     for writes in WRITES:
         for pool in POOLS:
             row(programs, f"1 with {writes} Updates", unfinished(1, writes), pool)
+    full, sound = Log(), ended(REFUSED)
+    while len(full.blocks) < REFUSED or len(full.blocks[-1]) < 501:
+        full.add(b"\x01")
+    for words in ["check"], ["run", "64"]:
+        for face in programs:
+            print(f"| Begins alone, {words[0]} | {POOLS[-1]} | {REFUSED} | {face} | {costs(face, sound, words)} | {costs(face, full, words)} |", flush=True)
 
 
 main()

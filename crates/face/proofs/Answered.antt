@@ -1,5 +1,5 @@
 -- Lines that are heard and answered, one after the other.
-use Rattle.face.proofs.Names.{◌≡◌, ℕ, suc, List, ◌∷◌, ◌++◌, drop, arith, Ok, Site, Preserves, EachMoment, CacheLine, Line, Engine, sizes_of, QueueIsOnFlash, listing_of, Source, HearsOnly, IsSource, TakesWithin, WhereItFits, reply_lines, CarriesOut, HandsReply, TellsAnswer, IsGood, Begins, Run, answered, listing_at, state_at, step, HasAnswered}
+use Rattle.face.proofs.Names.{◌≡◌, ℕ, suc, List, ◌∷◌, ◌++◌, drop, arith, Ok, sizes_of, QueueIsOnFlash, listing_of, WhereItFits, Engine, CarriesOut, HandsReply, TellsAnswer, IsGood, Begins, Run, answered, listing_at, state_at, step, HasAnswered, HearsOnly, IsSource, TakesWithin, Source, Line, CacheLine, reply_lines, Preserves, EachMoment, Site}
 use Rattle.face.proofs.Cuts.{Cut}
 use Rattle.face.proofs.Dones.{done_next}
 use Rattle.face.proofs.Listed.{asked, left_after, listed_next}

@@ -1,7 +1,5 @@
 -- Calls are counted by the units that are appended and the octets that are told.
-use Rattle.face.proofs.Names.{◌≡◌, List, ◌++◌, ℕ, length, length-append, arith, ap, ◌∙◌, Geometry, Site, TellsOnly, CallsForUnits, HearsOnly, since}
-use Rattle.page_store.specs.Costs.{cost_of}
-use Rattle.page_store.proofs.Counting.{unsynced_told}
+use Rattle.face.proofs.Names.{◌≡◌, List, ◌++◌, ℕ, length, length-append, arith, ap, ◌∙◌, HearsOnly, unsynced_told, CallsForUnits, cost_of, since, Site, TellsOnly, Geometry}
 
 -- while only is heard
 pub calls_heard : (g : Geometry) (mid now : Site) → HearsOnly mid now → CallsForUnits g mid now

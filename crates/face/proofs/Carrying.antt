@@ -1,18 +1,7 @@
 -- A line is carried out: a command of the database, one that asks for nothing, and one whose reply is told.
-use Rattle.face.proofs.Names.{◌≡◌, inl, inr, ⊎_elim, ℕ, ◌+◌, ◌++◌, ◌≤◌, true, false, List, [], IsTrue, IfErr, OnOk, IsErrOf, refl, sym, ◌∙◌, ap, subst, arith, ◌≢◌, Result, Ok, Err, Some, None, ⊤, Dev, Log, Failed, Stop, Device, Memory, Worn, Foreign, Geometry, Rose, faults_in, with_output_fault, Site, Image, Moment, Snapshot, IsQuiet, EachMoment, LeavesOnly, each_both, each_weaker, goes_in_sequence, goes_nowhere, holds_now, in_sequence, leaves_weaker, rose_since, stays_honest, TellsPart, CacheLine, Command, Cache, Mark, Quit, Stat, Listing, Reply, State, Outcome, Line, is_cache, CacheOp, line_touches, MirrorsStore, AreNext, TransactionStore, Performs, line_work, performs_answered, performs_as, cache_of, rules, Engine, Matches, Invariant, sizes_of, LeavesEither, LeavesTable, listing_of, CallsForUnits, reply_lines, reply_text, Halt, RunFaults, hands_as, CarriesOut, CarriesUntold, DoesLine, HandsReply, TellsAnswer, AnswerFailsBy, IsAsked, StandsFor, line_checkpoints, line_log_reads, step, LeavesAnswer}
-use Rattle.std.proofs.Common.{IfOk}
-use Rattle.site.specs.Faults.{WorkFaults}
-use Rattle.site.proofs.Laws.{stays_quiet}
-use Rattle.site.proofs.Working.{ok_always}
-use Rattle.redo_undo.specs.Mirroring.{PerformsStore}
-use Rattle.ring_machine.proofs.Performing.{performs_nothing}
+use Rattle.face.proofs.Names.{◌≡◌, inl, inr, ⊎_elim, ℕ, ◌+◌, ◌++◌, ◌≤◌, true, false, List, [], IsTrue, IfErr, OnOk, IsErrOf, refl, sym, ◌∙◌, ap, subst, arith, ◌≢◌, Result, Ok, Err, Some, None, IfOk, ⊤, staged_from, run_makes, Invariant, sizes_of, LeavesEither, LeavesTable, listing_of, log_reads_by, Matches, Engine, CarriesOut, CarriesUntold, DoesLine, HandsReply, TellsAnswer, LinePerforms, LineStepsMachine, halted, AnswerFailsBy, IsAsked, StandsFor, line_checkpoints, line_log_reads, step, LeavesAnswer, hands_as, RunFaults, HandsLines, TellsText, Halt, cache_of, rules, CallsForUnits, Line, is_cache, State, Outcome, CacheOp, line_touches, CacheLine, Command, Reply, Listing, MirrorsStore, PerformsStore, AreNext, TransactionStore, performs_answered, performs_as, performs_nothing, line_work, Performs, reply_lines, reply_text, each_both, each_weaker, goes_in_sequence, goes_nowhere, holds_now, in_sequence, leaves_weaker, rose_since, stays_honest, stays_quiet, ok_always, Rose, faults_in, with_output_fault, WorkFaults, EachMoment, LeavesOnly, Site, Image, Moment, Snapshot, IsQuiet, TellsPart, Geometry, Dev, Log, Failed, Stop, Device, Memory, Worn, Foreign}
+use Rattle.record_model.specs.declared.words.Command.TheVariants.{Cache, Mark, Quit, Stat}
 use Rattle.engine.specs.Calls.{CommandContract, KeepsEngine}
-use Rattle.engine.specs.LogReads.{log_reads_by}
-use Rattle.engine.proofs.Asking.{staged_from}
-use Rattle.engine.proofs.RingCounts.{run_makes}
-use Rattle.front_end.specs.declared.halt.Halt.TheVariants as halt
-use Rattle.front_end.specs.Tells.{HandsLines, TellsText}
-use Rattle.face.specs.Carrying.{LinePerforms, LineStepsMachine, halted}
 use Rattle.face.proofs.CommandLaws.{fails_by}
 use Rattle.face.proofs.Counted.{counts_as, counts_err, counts_idle, counts_told}
 use Rattle.face.proofs.Listed.{cache_line, same_step}
@@ -22,6 +11,7 @@ use Rattle.face.proofs.Pagings.{after_same, reads_still}
 use Rattle.face.proofs.Quiet.{is_told, no_change, not_told, says_nothing}
 use Rattle.face.proofs.WornRuns.{cache_work, mark_work, neither, quit_work, stat_work}
 use Rattle.face.proofs.Writings.{last_told, staged_nothing, told_synced, writes_nothing, writes_told}
+use Rattle.front_end.specs.declared.halt.Halt.TheVariants as halt
 
 quiet_always : {T : Type 0} (result : Result T Halt) (P : Type 0) → P → IfErr result (λ h. ((d : Dev) → h ≢ halt.Stop (Device d)) → P)
 quiet_always (Ok x) P p = tt

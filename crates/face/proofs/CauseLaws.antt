@@ -1,8 +1,6 @@
 -- When each status comes.
-use Rattle.face.proofs.Names.{◌≡◌, inl, inr, ◌⊎◌, IsTrue, ℕ, length, sym, ap, subst, arith, Dev, Log, Flash, Disk, Device, Memory, Worn, Foreign, Input, faults_of, Preserves, rose_then, SameDevices, IsWorn, IsLogWorn, IsSpent, Halt, status_of, HasCause, HasCauses}
-use Rattle.site.specs.State.{State}
+use Rattle.face.proofs.Names.{◌≡◌, inl, inr, ◌⊎◌, IsTrue, ℕ, length, sym, ap, subst, arith, HasCause, HasCauses, IsWornOut, IsWorn, status_of, Halt, IsLogWorn, IsSpent, rose_then, Preserves, Input, faults_of, Site as State, SameDevices, Dev, Log, Flash, Disk, Device, Memory, Worn, Foreign}
 use Rattle.front_end.specs.declared.halt.Halt.TheVariants as halt
-use Rattle.face.specs.Causes.{IsWornOut}
 
 -- a cause holds still when a line was told
 pub cause_then : (h : Halt) (a b c : State) → HasCause h a b → Preserves b c → (IsTrue a.honest → SameDevices b c) → HasCause h a c

@@ -1,12 +1,9 @@
 -- Why a command and a restart fail.
-use Rattle.face.proofs.Names.{◌≡◌, ℕ, List, IsTrue, IfErr, IsErrOf, refl, Result, Ok, Err, Dev, Log, Flash, Disk, Stop, Device, Memory, Worn, Foreign, Geometry, Site, State, Content, Engine, sizes_of, IsWorn, HasLimits, HasLengths, IsLogWorn, TransactionStore, Stands, Matches, LeavesTable, HasCause}
-use Rattle.site.specs.Calls.{FaultRose}
+use Rattle.face.proofs.Names.{◌≡◌, ℕ, List, IsTrue, IfErr, IsErrOf, refl, Result, Ok, Err, Stands, sizes_of, LeavesTable, Matches, Engine, HasCause, FailsBy, IsWorn, State, Content, IsLogWorn, KeepsNext, TransactionStore, FaultRose, HasLimits, HasLengths, Site, Geometry, Dev, Log, Flash, Disk, Stop, Device, Memory, Worn, Foreign}
 use Rattle.page_store.specs.Stopping.{MayStop}
-use Rattle.redo_undo.specs.StoreCalls.{KeepsNext}
 use Rattle.engine.specs.Restarting.{LeavesNext}
-use Rattle.front_end.specs.declared.halt.Halt.TheVariants as halt
 use Rattle.engine.specs.Calls.{Ends}
-use Rattle.face.specs.Causes.{FailsBy}
+use Rattle.front_end.specs.declared.halt.Halt.TheVariants as halt
 
 -- why a command fails
 pub fails_by : {T : Type 0} (result : Result T Stop) (engine : Engine) {after : TransactionStore} (old new : Site) → IfErr result MayStop → (IsTrue old.honest → KeepsNext result engine.store after old new) → ((d : Dev) → IsErrOf result (Device d) → FaultRose d old new)

@@ -1,21 +1,15 @@
 -- How many numbers a run gives to the rings on the log's device, line by line.
 use Rattle.std.proofs.lemmas.Grind.{common_steps}
-use Rattle.face.proofs.Names.{◌≡◌, ℕ, suc, ◌+◌, ◌≤◌, List, [], ◌∷◌, drop, refl, sym, ◌∙◌, ap, subst, arith, Result, Ok, Err, OnOk, Some, None, if◌then◌else◌, Geometry, Stop, Site, Image, IsQuiet, holds_now, in_sequence, unchanged, ok_as, EachMoment, Leaves, LeavesOnly, TellsPart, hi_of, CallsForUnits, master_shape, calls_then, CacheLine, State, Line, later_listings, next_listing, turns, Entry, LogStore, HasNumbers, TransactionStore, Engine, Matches, Invariant, sizes_of, log_under, up_to_quit, GivesNumbers, SkipsNoNumber, made_by, Run, after_lines, answered, checkpoints_of, first_lines, line_checkpoints, listing_at, state_at, step, turns_of, checkpoints_in, makes_one}
+use Rattle.face.proofs.Names.{◌≡◌, ℕ, suc, ◌+◌, ◌≤◌, List, [], ◌∷◌, drop, refl, sym, ◌∙◌, ap, subst, arith, Result, Ok, Err, OnOk, Some, None, if◌then◌else◌, count_nothing, log_under, Invariant, sizes_of, Matches, Engine, Run, after_lines, answered, checkpoints_of, first_lines, line_checkpoints, listing_at, state_at, step, turns_of, IsCounted, GivesNumbers, SkipsNoNumber, made_by, blocks_by, masters_by, checkpoints_in, makes_one, up_to_quit, master_shape, Entry, LogStore, calls_then, CallsForUnits, Line, later_listings, next_listing, turns, State, CacheLine, leaves_more, leaves_unchanged, blocks_to, HasNumbers, SkipsNone, TransactionStore, hi_of, holds_now, in_sequence, unchanged, ok_as, EachMoment, Leaves, LeavesOnly, Site, Image, IsQuiet, TellsPart, Geometry, Stop}
 use Rattle.std_lemmas.proofs.Results.{on_ok}
-use Rattle.record_model.specs.declared.words.Reply.TheVariants as reply
-use Rattle.redo_laws.specs.Holding.{blocks_to}
-use Rattle.redo_laws.specs.Numbers.{SkipsNone}
-use Rattle.redo_laws.proofs.RingNumbers.{leaves_more, leaves_unchanged}
 use Rattle.engine.specs.Numbers.{CountsOn, RestartsWithin}
-use Rattle.face.specs.RunInProgress.{IsCounted}
-use Rattle.face.specs.RunMeaning.{blocks_by, masters_by}
 use Rattle.face.proofs.Writings.{images_told}
 use Rattle.face.proofs.Pagings.{after_same}
 use Rattle.face.proofs.Runs.{state_next, turn_at, turns_next}
 use Rattle.face.proofs.LinesBeforeQuit.{count_join, count_one}
 use Rattle.face.proofs.Fronts.{lines_first}
 use Rattle.face.proofs.Turns.{left_are}
-use Rattle.engine.proofs.RingCounts.{count_nothing}
+use Rattle.record_model.specs.declared.words.Reply.TheVariants as reply
 
 -- Calls.
 

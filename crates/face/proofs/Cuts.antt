@@ -1,6 +1,5 @@
 -- The lines that were cut from the octets taken.
-use Rattle.face.proofs.Names.{◌≡◌, ◌≢◌, ℕ, suc, ◌+◌, ◌-◌, ◌≤◌, List, [], ◌∷◌, ◌++◌, length, take, drop, refl, sym, ◌∙◌, ap, subst, arith, append_assoc, length-append, Bool, true, false, map, if◌then◌else◌, AllByRecursion, list_any, append-nil, take_at, drop_at, take_all, all_append, Site, Line, is_quit, Source, line_of, commands_of, up_to_quit, answered_of, limit, pending, to_hear, IsSource, HasEnded, total, HearsLine, HasHeard}
-use Rattle.front_end.specs.Lines.{AreLines}
+use Rattle.face.proofs.Names.{◌≡◌, ◌≢◌, ℕ, suc, ◌+◌, ◌-◌, ◌≤◌, List, [], ◌∷◌, ◌++◌, length, take, drop, refl, sym, ◌∙◌, ap, subst, arith, append_assoc, length-append, Bool, true, false, map, if◌then◌else◌, append-nil, take_at, drop_at, take_all, AllByRecursion, list_any, HasHeard, commands_of, up_to_quit, answered_of, limit, pending, to_hear, IsSource, HasEnded, total, HearsLine, AreLines, Source, Line, is_quit, line_of, Site, all_append}
 use Rattle.shell_text.proofs.Lines.{lines_of-waits}
 use Rattle.face.proofs.Fronts.{up_append, none_quit, some_quit}
 

@@ -1,11 +1,10 @@
 -- What a run asks of the devices, by how it ends.
-use Rattle.face.proofs.Names.{CallsForUnits, calls_then, ◌≡◌, ℕ, ◌≤◌, List, [], length, sym, ap, subst, arith, Ok, Err, IsErrOf, Dev, Worn, Site, Image, SameReads, unsynced_in, EachMoment, TellsPart, Halt, HasDone, AsksNoMore, LeavesStaged, SkipsNoNumber, staged_by_run, Run, answered, first_lines, turns_of, fault_line, Demands, WearsFirst, WearsNone, WearsNoneBefore}
-use Rattle.front_end.specs.declared.halt.Halt.TheVariants as halt
-use Rattle.face.specs.Headline.{Resources}
+use Rattle.face.proofs.Names.{◌≡◌, ℕ, ◌≤◌, List, [], length, sym, ap, subst, arith, Ok, Err, IsErrOf, HasDone, Resources, Run, answered, first_lines, turns_of, AsksNoMore, LeavesStaged, SkipsNoNumber, staged_by_run, Demands, WearsFirst, WearsNone, WearsNoneBefore, fault_line, Halt, calls_then, CallsForUnits, unsynced_in, SameReads, EachMoment, Site, Image, TellsPart, Dev, Worn}
 use Rattle.face.proofs.Counted.{skips_still}
 use Rattle.face.proofs.Writings.{last_told}
 use Rattle.face.proofs.Pagings.{few_told, leaves_its_queue, leaves_staged, leaves_versions}
 use Rattle.face.proofs.WornRuns.{leaves_its_rings, wears_none}
+use Rattle.front_end.specs.declared.halt.Halt.TheVariants as halt
 
 no_error : {T : Type 0} (x : T) (h : Halt) → IsErrOf {T = T} (Ok x) h → ⊥
 no_error x h is = cc

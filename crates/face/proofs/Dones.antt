@@ -1,5 +1,5 @@
 -- What is done when something is told, one line after the other.
-use Rattle.face.proofs.Names.{◌≡◌, ◌⊎◌, inl, inr, ⊎_elim, ℕ, zero, suc, ◌+◌, ◌≤◌, List, [], ◌∷◌, ◌++◌, take, drop, refl, sym, ◌∙◌, ap, subst, arith, add-one, append-nil, take-take, Site, Moment, EachMoment, LeavesOnly, each_both, each_weaker, in_sequence, HandsLine, HandsRest, TellsPart, Line, Engine, LeavesTable, QueueIsOnFlash, WhereItFits, open_text, reply_lines, hands_as, HandsReply, HasDone, TellsDone, lines_at, Run, answered, first_lines, listing_at, state_at, step, HasServed, first_texts}
+use Rattle.face.proofs.Names.{◌≡◌, ◌⊎◌, inl, inr, ⊎_elim, ℕ, zero, suc, ◌+◌, ◌≤◌, List, [], ◌∷◌, ◌++◌, take, drop, refl, sym, ◌∙◌, ap, subst, arith, add-one, append-nil, take-take, LeavesTable, QueueIsOnFlash, WhereItFits, Engine, HandsReply, HasDone, TellsDone, lines_at, Run, answered, first_lines, listing_at, state_at, step, HasServed, first_texts, hands_as, Line, open_text, reply_lines, each_both, each_weaker, in_sequence, EachMoment, LeavesOnly, Site, Moment, HandsLine, HandsRest, TellsPart}
 use Rattle.face.proofs.Fronts.{first_same, other, told_same}
 use Rattle.face.proofs.Quiet.{says_nothing}
 use Rattle.face.proofs.Runs.{lines_next}

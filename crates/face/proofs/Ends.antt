@@ -1,9 +1,6 @@
 -- How a run comes to its end.
-use Rattle.face.proofs.Names.{◌≡◌, ◌≢◌, ◌⊎◌, inl, inr, ⊎_elim, IsTrue, ℕ, ◌≤◌, List, [], ◌∷◌, ◌++◌, length, drop, suc, refl, sym, ◌∙◌, ap, subst, arith, Ok, Err, true, false, Bool, append-nil, Input, Site, Image, faults_of, Geometry, Preserves, Rose, EachMoment, holds_now, rose_since, stays_honest, Device, Memory, Worn, Foreign, Content, State, Stands, Matches, sizes_of, IsWorn, HasLimits, HasLengths, IsLogWorn, IsSpent, AreNext, Line, is_quit, Halt, Source, Engine, HasCause, AnswerFailsBy, HasEnded, to_hear, total, IsSource, HearsLine, IsCutOff, Log, Flash, Disk, CacheLine, QueueIsOnFlash, listing_of, WhereItFits, HeardAll, answered_of, status_of, reply_lines, CarriesOut, HandsReply, TellsAnswer, IsLeft, ListsTheMachine, Run, answered, first_lines, listing_at, state_at, step, HasHeard, RunOutcome, StopsTaking, TakingFails, HasAnswered, NeverOpens, Dev}
-use Rattle.front_end.specs.declared.halt.Halt.TheVariants as halt
+use Rattle.face.proofs.Names.{◌≡◌, ◌≢◌, ◌⊎◌, inl, inr, ⊎_elim, IsTrue, ℕ, ◌≤◌, List, [], ◌∷◌, ◌++◌, length, drop, suc, refl, sym, ◌∙◌, ap, subst, arith, Ok, Err, true, false, Bool, append-nil, Stands, sizes_of, QueueIsOnFlash, listing_of, Matches, WhereItFits, Engine, CarriesOut, HandsReply, TellsAnswer, HasCause, AnswerFailsBy, Run, answered, first_lines, listing_at, state_at, step, HasAnswered, NeverOpens, IsLeft, ListsTheMachine, HasHeard, RunOutcome, StopsTaking, TakingFails, IsWorn, HasEnded, to_hear, total, IsSource, HearsLine, IsCutOff, HeardAll, answered_of, Hears, status_of, Halt, Source, Line, is_quit, Content, State, CacheLine, IsLogWorn, IsSpent, AreNext, reply_lines, holds_now, rose_since, stays_honest, Preserves, Rose, HasLimits, HasLengths, EachMoment, Input, Site, Image, faults_of, Geometry, Dev, Log, Flash, Disk, Device, Memory, Worn, Foreign}
 use Rattle.front_end.specs.declared.source.Heard.{Heard}
-use Rattle.front_end.specs.declared.source.Heard.TheVariants as heard
-use Rattle.front_end.specs.Lines.{Hears}
 use Rattle.face.proofs.Cuts.{Cut, has_heard_all, input_failed, over_limit, taken_by, heard_line, quit_is_last}
 use Rattle.face.proofs.RunsSoFar.{begun_after, begun_before, cut_short, ended as is_whole, stopped}
 use Rattle.face.proofs.Demanded.{demands_as}
@@ -13,6 +10,8 @@ use Rattle.face.proofs.Lefts.{left_first}
 use Rattle.face.proofs.Listed.{asked, listed_next, no_turn}
 use Rattle.face.proofs.Waits.{answers_more, answers_none, answers_still}
 use Rattle.face.proofs.Written.{written_answered, written_opened}
+use Rattle.front_end.specs.declared.halt.Halt.TheVariants as halt
+use Rattle.front_end.specs.declared.source.Heard.TheVariants as heard
 
 -- taking wasn't what failed
 pub not_taking : (h : Halt) (run : Run) (i : ℕ) (octets : List ℕ) (old new : Site) → (h ≢ halt.Input) × (h ≢ halt.Limit) → StopsTaking h run i octets old new

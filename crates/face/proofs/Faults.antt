@@ -1,14 +1,9 @@
 -- A run that halts, and its fault line.
-use Rattle.face.proofs.Names.{◌≡◌, ◌≢◌, ◌⊎◌, inl, inr, ⊎_elim, ℕ, suc, ◌+◌, ◌≤◌, Bool, true, false, List, [], ◌++◌, length, take, drop, refl, sym, ◌∙◌, ap, subst, arith, append_assoc, length-append, take-append-drop, Err, Ok, Result, IsTrue, append-nil, take_all, take_at, take-take, Input, Site, Snapshot, Preserves, Leaves, LeavesOnly, EachMoment, in_sequence, leaves_weaker, stays_honest, told_is, tell_leaves, TellsPart, Failed, Geometry, CacheLine, State, Line, is_quit, Serial, list_any, Halt, fault_line, status_of, Stands, HasCause, HasCauses, NoFaultRose, commands_of, answered_of, limit, Run, answered, first_lines, Begins, Demands, HasHeard, StandsNear, StopsTaking, TakingFails, RunOutcome, IsLeft, IsWhole, ListsTheMachine, WearsFirst, WearsNone, first_texts, run_of, run_text, texts, EndsBehind, Tells, ends_whole, ends_with, RunContract, Durability, IsGood, Headline, TellsFault, Dev}
-use Rattle.std.proofs.lemmas.List.{length-take}
 use Rattle.std.proofs.lemmas.Grind.{common_steps}
-use Rattle.front_end.specs.declared.halt.Halt.TheVariants as halt
-use Rattle.face.specs.Causes.{EndsInTime}
+use Rattle.face.proofs.Names.{◌≡◌, ◌≢◌, ◌⊎◌, inl, inr, ⊎_elim, ℕ, suc, ◌+◌, ◌≤◌, Bool, true, false, List, [], ◌++◌, length, take, drop, refl, sym, ◌∙◌, ap, subst, arith, append_assoc, length-append, take-append-drop, Err, Ok, Result, IsTrue, append-nil, take_all, take_at, take-take, length-take, list_any, Stands, HasCause, HasCauses, EndsInTime, Durability, IsGood, Headline, TellsFault, IsToldWhole, Run, answered, first_lines, Begins, IsLeft, IsWhole, ListsTheMachine, first_texts, run_of, run_text, texts, RunContract, Demands, HasHeard, StandsNear, StopsTaking, TakingFails, RunOutcome, HasTakenAll, IsBetween, WearsFirst, WearsNone, ends_whole, ends_with, NoFaultRose, commands_of, answered_of, limit, EndsBehind, Tells, fault_line, status_of, Halt, Line, is_quit, Serial, State, CacheLine, in_sequence, leaves_weaker, stays_honest, told_is, tell_leaves, Preserves, Leaves, LeavesOnly, EachMoment, Input, Site, Snapshot, TellsPart, Geometry, Dev, Failed}
 use Rattle.face.proofs.WornFronts.{earlier_same, never_worn}
-use Rattle.face.specs.Working.{HasTakenAll, IsBetween}
 use Rattle.face.proofs.Waits.{answers_still}
 use Rattle.face.proofs.Demanded.{asked_done, asked_halted, demands_failed}
-use Rattle.face.specs.Headline.{IsToldWhole}
 use Rattle.face.proofs.Fronts.{begun_same, first_commands, first_same, lines_first, no_quits, told_first, told_same, waits_same, whole_turns}
 use Rattle.face.proofs.LinesBeforeQuit.{all_answered}
 use Rattle.face.proofs.Lefts.{left_whole}
@@ -19,6 +14,7 @@ use Rattle.face.proofs.Statuses.{not_zero, of_five, of_seven, output_or_not, wor
 use Rattle.face.proofs.SerialRuns.{run_is_serial, told_is_serial}
 use Rattle.face.proofs.Ranges.{IsFault, is_left, all_text}
 use Rattle.face.proofs.Written.{written_same, written_told}
+use Rattle.front_end.specs.declared.halt.Halt.TheVariants as halt
 
 -- no part of a fault line is a part of any
 no_fault : (run : Run) (so_far fault : List ℕ) (s : Snapshot) → IsLeft run so_far [] s → IsLeft run so_far fault s

@@ -1,9 +1,6 @@
 -- Two runs whose first lines are the same.
-use Rattle.face.proofs.Names.{◌≡◌, ℕ, suc, ◌+◌, ◌≤◌, Bool, true, false, List, [], ◌∷◌, ◌++◌, length, take, get_or, refl, sym, ◌∙◌, ap, subst, arith, append_assoc, flat_map, map, if◌then◌else◌, ◌||◌, ◌==◌, AllByRecursion, list_any, append-nil, take_all, take-take, Site, Take, Line, is_quit, left_by, line_of, answered_of, commands_of, up_to_quit, HasBegun, first_texts, text_at, texts, Run, answered, after_lines, first_lines, state_at, turns_of, IsAnswered, AnswersFirst, IsEarly}
-use Rattle.std.proofs.lemmas.Bool.{or_right}
-use Rattle.std.proofs.lemmas.List.{take-map, get_or-take}
+use Rattle.face.proofs.Names.{◌≡◌, ℕ, suc, ◌+◌, ◌≤◌, Bool, true, false, List, [], ◌∷◌, ◌++◌, length, take, get_or, refl, sym, ◌∙◌, ap, subst, arith, append_assoc, flat_map, map, if◌then◌else◌, ◌||◌, ◌==◌, or_right, append-nil, take_all, take-take, take-map, get_or-take, AllByRecursion, list_any, Run, answered, after_lines, first_lines, state_at, turns_of, HasBegun, first_texts, text_at, texts, IsAnswered, NobodyWaits, AnswersFirst, IsEarly, answered_of, commands_of, up_to_quit, Line, is_quit, left_by, line_of, Site, Take}
 use Rattle.shell_text.specs.Runs.{lines_of, in_front}
-use Rattle.face.specs.Waiting.{NobodyWaits}
 use Rattle.face.proofs.Turns.{first_answered, first_turns, left_are, turns_count}
 
 -- A run, and the run over its first lines.

@@ -1,13 +1,9 @@
 -- What was opened goes on, on every site.
-use Rattle.std.proofs.Common.{arith}
-use Rattle.face.proofs.Names.{◌≡◌, IsTrue, ◌∙◌, ap, Ok, Err, ⊤, Site, Preserves, Rose, faults_in, with_output_fault, goes_in_sequence, rose_since, stays_honest, Line, Engine, Halt, RunFaults, HearsOnly, CarriesOut}
-use Rattle.front_end.specs.declared.halt.Halt.TheVariants as halt
-use Rattle.front_end.specs.Faults.{SameFaults, after_halt}
-use Rattle.face.specs.Causes.{WorkEnds}
-use Rattle.face.specs.RunInProgress.{GoesOn}
+use Rattle.face.proofs.Names.{arith, ◌≡◌, IsTrue, ◌∙◌, ap, Ok, Err, ⊤, Engine, CarriesOut, WorkEnds, GoesOn, RunFaults, SameFaults, after_halt, HearsOnly, Halt, Line, goes_in_sequence, rose_since, stays_honest, Preserves, Rose, faults_in, with_output_fault, Site}
 use Rattle.face.proofs.Ends.{answer_cause}
 use Rattle.face.proofs.Logs.{goes_on, still_fits}
 use Rattle.face.proofs.NextUnits.{next_later}
+use Rattle.front_end.specs.declared.halt.Halt.TheVariants as halt
 
 -- a first failed call of later work is the first of all
 pub faults_since : (h : Halt) (old mid new : Site) → SameFaults old mid → RunFaults {T = ⊤} (Err h) mid new → RunFaults {T = ⊤} (Err h) old new

@@ -1,11 +1,11 @@
 -- What was heard of the input when a run ends.
-use Rattle.face.proofs.Names.{◌≡◌, ◌≢◌, ◌⊎◌, ⊎_elim, ℕ, suc, ◌+◌, ◌≤◌, Bool, true, false, List, [], ◌++◌, length, refl, sym, ◌∙◌, ap, subst, arith, Ok, Err, Site, Input, Line, is_quit, Halt, Source, HasEnded, HearsLine, IsCutOff, IsSource, limit, to_hear, total, status_of, HasHeard}
+use Rattle.face.proofs.Names.{◌≡◌, ◌≢◌, ◌⊎◌, ⊎_elim, ℕ, suc, ◌+◌, ◌≤◌, Bool, true, false, List, [], ◌++◌, length, refl, sym, ◌∙◌, ap, subst, arith, Ok, Err, HasHeard, HasEnded, HearsLine, IsCutOff, IsSource, limit, to_hear, total, status_of, Halt, Source, Line, is_quit, Site, Input}
 use Rattle.std.proofs.lemmas.List.{length-append}
 use Rattle.std.proofs.lemmas.Grind.{common_steps}
-use Rattle.front_end.specs.declared.halt.Halt.TheVariants as halt
 use Rattle.face.specs.Hearing.{EndsHearing, HasTaken, HearsInTime, IsTooLong, WorkHears}
 use Rattle.face.proofs.Statuses.{not_zero, of_seven}
 use Rattle.face.proofs.Cuts.{Cut, has_heard_all, heard_line, input_failed, over_limit, quit_is_last, taken_by}
+use Rattle.front_end.specs.declared.halt.Halt.TheVariants as halt
 
 -- where a run halts for another reason no more octets were taken than it may take
 ends_hearing : (h : Halt) (octets : List ℕ) → h ≢ halt.Limit → length octets ≤ limit → EndsHearing h octets

@@ -1,5 +1,5 @@
 -- What a crash may leave of the first lines of a run, one line after the other.
-use Rattle.face.proofs.Names.{◌≡◌, inl, inr, ⊎_elim, ℕ, zero, suc, ◌+◌, ◌≤◌, List, [], ◌∷◌, ◌++◌, length, take, drop, refl, sym, ◌∙◌, ap, subst, arith, append_assoc, take-append-drop, append-nil, length-take-le, take_all, take-take, cases_lt, Site, Image, Snapshot, Leaves, LeavesOnly, in_sequence, leaves_weaker, Geometry, CacheLine, State, Line, commits_among, whole_texts, open_text, reply_text, IsLeft, IsToldOf, first_texts, text_at, texts, Run, answered, first_lines, step, state_at, listing_at, IsFront, LeavesAnswer, StandsAt, StandsFor, StandsNear}
+use Rattle.face.proofs.Names.{◌≡◌, inl, inr, ⊎_elim, ℕ, zero, suc, ◌+◌, ◌≤◌, List, [], ◌∷◌, ◌++◌, length, take, drop, refl, sym, ◌∙◌, ap, subst, arith, append_assoc, take-append-drop, cases_lt, append-nil, length-take-le, take_all, take-take, Run, answered, first_lines, step, state_at, listing_at, IsFront, LeavesAnswer, StandsAt, StandsFor, IsLeft, IsToldOf, first_texts, text_at, texts, StandsNear, Line, commits_among, whole_texts, State, CacheLine, open_text, reply_text, in_sequence, leaves_weaker, Leaves, LeavesOnly, Site, Image, Snapshot, Geometry}
 use Rattle.face.proofs.Fronts.{lines_first, state_first, text_first, told_first}
 use Rattle.face.proofs.Longer.{left_all, run_with}
 use Rattle.face.proofs.Ranges.{IsFault, IsPart, is_left, near_after, near_before}

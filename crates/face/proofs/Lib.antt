@@ -1,48 +1,48 @@
 mod Names
 mod Answered
-mod CallCounts
-mod Carrying
-mod CauseLaws
-mod CommandLaws
-mod Counted
+pub mod CallCounts
+pub mod Carrying
+pub mod CauseLaws
+pub mod CommandLaws
+pub mod Counted
 mod Cuts
-mod Demanded
+pub mod Demanded
 mod Dones
 mod Ends
 mod Faults
 mod Fronts
-mod Going
+pub mod Going
 mod Hearings
-mod Lefts
-mod LinesBeforeQuit
+pub mod Lefts
+pub mod LinesBeforeQuit
 mod Listed
 mod Lives
 mod Livings
 mod LoadCounts
 mod LoadFaults
 mod Loadings
-mod Logs
+pub mod Logs
 mod Longer
-mod Meanings
+pub mod Meanings
 mod MemoryLaws
-mod NextUnits
+pub mod NextUnits
 mod Openings
-mod Pagings
-mod Quiet
-mod Ranges
+pub mod Pagings
+pub mod Quiet
+pub mod Ranges
 mod RestartGroups
 mod RingCounts
 mod RingLives
-mod Runs
-mod RunsSoFar
+pub mod Runs
+pub mod RunsSoFar
 mod SerialRuns
-mod Serving
+pub mod Serving
 mod Statuses
 mod ToldFaults
 mod Trials
-mod Turns
+pub mod Turns
 mod Waits
 mod WornFronts
-mod WornRuns
+pub mod WornRuns
 mod Writings
-mod Written
+pub mod Written

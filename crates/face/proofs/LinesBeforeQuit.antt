@@ -1,6 +1,6 @@
 -- Lines that are carried out one after the other, none of which quits: their turns, states and work.
-use Rattle.face.proofs.Names.{◌≡◌, ⊎_elim, ℕ, zero, suc, ◌+◌, ◌≤◌, Bool, true, false, List, [], ◌∷◌, ◌++◌, map, drop, refl, sym, ◌∙◌, ap, arith, append_assoc, cond, count_by, if◌then◌else◌, AllByRecursion, append-nil, map-append, cases_lt, CacheLine, State, Line, is_quit, is_cache, later_listings, up_to_quit, step, after_lines, numbers_of, generated}
-use Rattle.std.proofs.lemmas.List.Sums.{sum_by-append, sum_by_push}
+use Rattle.face.proofs.Names.{◌≡◌, ⊎_elim, ℕ, zero, suc, ◌+◌, ◌≤◌, Bool, true, false, List, [], ◌∷◌, ◌++◌, map, drop, refl, sym, ◌∙◌, ap, arith, append_assoc, cond, count_by, if◌then◌else◌, cases_lt, append-nil, map-append, sum_by-append, sum_by_push, AllByRecursion, step, after_lines, up_to_quit, Line, is_quit, is_cache, later_listings, State, CacheLine, generated}
+use Rattle.face.specs.Workload.{numbers_of}
 
 -- none of them quits
 abbrev pub NoneQuits : List Line → Type 0

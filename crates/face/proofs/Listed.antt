@@ -1,7 +1,6 @@
 -- Lines that ask for the listing of the cache, and lines that don't.
-use Rattle.face.proofs.Names.{◌≡◌, ◌⊎◌, inl, inr, ⊎_elim, ℕ, suc, true, false, List, [], ◌∷◌, ◌++◌, drop, Option, None, Some, refl, sym, ap, ◌∙◌, if◌then◌else◌, Site, Command, Cache, Reply, Listing, CacheLine, State, carried_through, outcome, refusal, Line, Turn, is_cache, next_listing, later_listings, Engine, listing_of, ListsTheMachine, cache_by, Run, IsAsked, step, answered, first_lines, listings_left, listing_at, state_at, turns_of, HasAnswered}
-use Rattle.std.proofs.Common.{true≢false, arith}
-use Rattle.second_chance.specs.Machine.{listing}
+use Rattle.face.proofs.Names.{◌≡◌, ◌⊎◌, inl, inr, ⊎_elim, ℕ, suc, true, false, List, [], ◌∷◌, ◌++◌, drop, Option, None, Some, refl, sym, ap, ◌∙◌, if◌then◌else◌, true≢false, arith, listing_of, Engine, Run, IsAsked, step, answered, first_lines, listings_left, listing_at, state_at, turns_of, HasAnswered, ListsTheMachine, cache_by, Line, Turn, is_cache, next_listing, later_listings, State, carried_through, outcome, refusal, CacheLine, Command, Reply, Listing, listing, Site}
+use Rattle.record_model.specs.declared.words.Command.TheVariants.{Cache}
 use Rattle.face.proofs.Runs.{left_next, turn_at, turns_next}
 
 -- Which lines ask for it.

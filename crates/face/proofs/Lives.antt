@@ -1,6 +1,5 @@
 -- What a run or a load leaves opens again.
-use Rattle.face.proofs.Names.{ℕ, List, sym, subst, Image, Snapshot, holds_now, leaves_weaker, after_commits, Opens, ran, LawOfLives, OpensAgain, IsLeftOf, IsLeft, StandsAfter, Run, turns_of, load_run, summary_text}
-use Rattle.face.specs.Lives.{LawOfLoads, LoadOpensAgain, OpensAfter}
+use Rattle.face.proofs.Names.{ℕ, List, sym, subst, Opens, ran, LawOfLives, OpensAgain, LawOfLoads, LoadOpensAgain, OpensAfter, IsLeftOf, Run, turns_of, IsLeft, StandsAfter, load_run, summary_text, after_commits, holds_now, leaves_weaker, Image, Snapshot}
 use Rattle.face.proofs.Meanings.{opens_where_it_stands}
 
 opens_after : (run : Run) (k : ℕ) (image : Image) → StandsAfter run k image → OpensAfter run k image

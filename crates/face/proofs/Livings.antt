@@ -1,12 +1,6 @@
 -- One life, and the lives of a script under way.
-use Rattle.std.proofs.Common.{arith}
-use Rattle.face.proofs.Names.{◌≡◌, inl, inr, ⊎_elim, ℕ, ◌-◌, true, List, [], ◌∷◌, ◌++◌, sym, ◌∙◌, ap, subst, Option, Some, None, Site, Image, MayLeave, now_of, started, lives_of, state_of, MemSite, holds_now, Geometry, State, opened, IsInRange, Line, after_commits, commit_marks, Opens, Durability, ran, commands_of, LawOfLives, OpensAgain, Finds, HasLivedOne, IsLeft, IsToldOf, run_text, texts, Run, turns_of, Between}
-use Rattle.std.specs.Prelude.{IfSome}
-use Rattle.site.specs.State.{no_input, snapshot_of}
-use Rattle.mem_site.specs.MemState.{fed}
-use Rattle.face.specs.Living.{IsFoundAfter}
-use Rattle.front_end.specs.Texts.{IsLineOf}
-use Rattle.face.specs.Trial.{IsTextOf, kept_by, life_run}
+use Rattle.face.proofs.Names.{arith, ◌≡◌, inl, inr, ⊎_elim, ℕ, ◌-◌, true, List, [], ◌∷◌, ◌++◌, sym, ◌∙◌, ap, subst, Option, Some, None, IfSome, Opens, Durability, ran, LawOfLives, OpensAgain, Finds, HasLivedOne, IsFoundAfter, Run, turns_of, IsLeft, IsToldOf, run_text, texts, Between, IsTextOf, life_run, commands_of, IsLineOf, started, lives_of, state_of, fed, MemSite, IsInRange, Line, after_commits, commit_marks, State, opened, holds_now, Site, Image, MayLeave, now_of, no_input, snapshot_of, Geometry}
+use Rattle.face.specs.Trial.{kept_by}
 use Rattle.face.proofs.Longer.{all_heard, lines_longer, range_all, run_with, table_all, told_all}
 use Rattle.face.proofs.Ranges.{IsFault}
 

@@ -1,17 +1,10 @@
 -- What is counted of a load.
-use Rattle.face.proofs.Names.{◌≡◌, ℕ, suc, ◌+◌, ◌≤◌, Bool, true, false, List, [], ◌∷◌, drop, length, refl, ◌∙◌, ap, arith, Option, Some, None, nat_lt, option_map, count_by, if◌then◌else◌, AllByRecursion, Command, Reply, State, Outcome, carried_through, full, outcome, ready, refusal, lacks_room, Line, Turn, is_committed, Run, answered, first_lines, listing_at, state_at, step, turns_of, makes_one}
-use Rattle.std.proofs.Common.{◌&&◌}
-use Rattle.std.specs.Prelude.{is_none}
+use Rattle.face.proofs.Names.{◌≡◌, ℕ, suc, ◌+◌, ◌≤◌, Bool, true, false, List, [], ◌∷◌, drop, length, refl, ◌∙◌, ap, arith, Option, Some, None, nat_lt, option_map, count_by, if◌then◌else◌, ◌&&◌, AllByRecursion, is_none, HasCounted, Run, answered, first_lines, listing_at, state_at, step, turns_of, makes_one, has_passed, is_value, Line, Turn, is_committed, State, busy_read, busy_write, content_at, is_due, need, page_of, page_room, Outcome, carried_through, full, outcome, ready, refusal, lacks_room, carried_out, first_refusal, found, may_read, may_write, refuse_if, wants_record, wants_short, Command, Reply, TooLong}
 use Rattle.byte_fields.specs.declared.TheConstants.{VALUE_MAX}
 use Rattle.record_model.specs.declared.words.Command.TheVariants.{Get, Set}
-use Rattle.record_model.specs.declared.words.Why.TheVariants.{TooLong}
-use Rattle.record_model.specs.declared.words.Reply.TheVariants as reply
-use Rattle.record_model.specs.State.{busy_read, busy_write, content_at, is_due, need, page_of, page_room}
-use Rattle.record_model.specs.Step.{carried_out, first_refusal, found, may_read, may_write, refuse_if, wants_record, wants_short}
-use Rattle.face.specs.Loads.{HasCounted}
-use Rattle.face.specs.Workload.{has_passed, is_value}
 use Rattle.face.proofs.LinesBeforeQuit.{count_join, count_one}
 use Rattle.face.proofs.Runs.{turn_at, turns_next}
+use Rattle.record_model.specs.declared.words.Reply.TheVariants as reply
 
 -- Whether a checkpoint was made is told by the reply, where one was due.
 

@@ -1,16 +1,13 @@
 -- A load that halts with its fault line, and one that is summed up.
-use Rattle.face.proofs.Names.{◌≡◌, ◌≢◌, ◌⊎◌, inl, inr, ⊎_elim, ℕ, ◌≤◌, List, [], ◌∷◌, ◌++◌, length, take, drop, refl, sym, ◌∙◌, ap, subst, arith, append_assoc, Ok, Err, Result, IsTrue, flat_map, append-nil, take_all, Geometry, Dev, Site, Moment, Snapshot, now_of, Preserves, SameReads, EachMoment, Leaves, LeavesOnly, each_both, each_weaker, image_is, in_sequence, leaves_weaker, no_call, stays_honest, tell_leaves, told_is, HandsLine, HandsRest, SameDevices, TellsOnly, TellsPart, Failed, State, Halt, Load, HasCause, HasCauses, NoFaultRose, LoadContract, IsGood, TellsFault, HasDone, HasBegunLoad, HasMadeBefore, IsLeftOf, IsOpened, IsUntold, LoadHeadline, LoadStops, LoadTellsDone, LoadWorks, TellsOpening, StandsAfter, WritesAsBegun, all_commits, WearsFirst, WearsNone, IsFront, Run, first_lines, fault_line, status_of, EndsBehind, Tells, load_run, opening_text, summary_text, ends_whole, ends_with}
-use Rattle.front_end.specs.declared.halt.Halt.TheVariants as halt
+use Rattle.face.proofs.Names.{◌≡◌, ◌≢◌, ◌⊎◌, inl, inr, ⊎_elim, ℕ, ◌≤◌, List, [], ◌∷◌, ◌++◌, length, take, drop, refl, sym, ◌∙◌, ap, subst, arith, append_assoc, Ok, Err, Result, IsTrue, flat_map, append-nil, take_all, Load, HasCause, HasCauses, HasDone, IsGood, TellsFault, HasBegunLoad, HasMadeBefore, IsLeftOf, IsOpened, IsUntold, LoadHeadline, LoadStops, LoadTellsDone, LoadWorks, TellsOpening, Allows, IsFront, Run, first_lines, StandsAfter, WritesAsBegun, all_commits, LoadContract, load_run, opening_text, summary_text, load_texts, WearsFirst, WearsNone, ends_whole, ends_with, NoFaultRose, EndsBehind, Tells, fault_line, status_of, Halt, unsynced_told, State, each_both, each_weaker, image_is, in_sequence, leaves_weaker, no_call, stays_honest, tell_leaves, told_is, Preserves, SameReads, EachMoment, Leaves, LeavesOnly, Site, Moment, Snapshot, now_of, HandsLine, HandsRest, SameDevices, TellsOnly, TellsPart, Geometry, Dev, Failed}
 use Rattle.face.proofs.WornFronts.{never_worn_within}
-use Rattle.face.specs.Loads.{Allows}
-use Rattle.face.specs.Workload.{load_texts}
-use Rattle.page_store.proofs.Counting.{unsynced_told}
 use Rattle.face.proofs.CallCounts.{calls_told}
 use Rattle.face.proofs.Dones.{none_behind}
 use Rattle.face.proofs.Demanded.{asked_done, asked_halted, done_whole, demands_done, demands_err, demands_failed, demands_lost}
 use Rattle.face.proofs.Statuses.{not_zero, of_five, of_seven, output_or_not, worn_by}
 use Rattle.face.proofs.Meanings.{stands_by}
 use Rattle.face.proofs.Written.{leaves_told, made_behind, written_behind}
+use Rattle.front_end.specs.declared.halt.Halt.TheVariants as halt
 
 no_text : (rest text : List ℕ) → IsFront rest [] → IsFront rest text
 no_text rest text front = (0, front.1 ∙ take_all front.0 [] (omega arith))

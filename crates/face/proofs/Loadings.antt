@@ -1,9 +1,7 @@
 -- What a load leaves: while it opens, while its lines are carried out, and when they are done.
 use Rattle.std.proofs.lemmas.Grind.{common_steps}
-use Rattle.face.proofs.Names.{◌≡◌, ◌⊎◌, inl, inr, ⊎_elim, ℕ, zero, suc, ◌+◌, ◌-◌, ◌*◌, ◌<◌, ◌≤◌, Bool, List, [], ◌∷◌, ◌++◌, length, map, take, drop, refl, sym, ◌∙◌, ap, subst, arith, append_assoc, take-append-drop, length-append, Result, Ok, Err, count_by, append-nil, drop_at, length-map, take-take, all_append, Geometry, Site, Image, Moment, Snapshot, MayLeave, now_of, EachMoment, Leaves, LeavesOnly, each_weaker, holds_now, image_is, in_sequence, leaves_weaker, told_is, Reply, State, Line, commit_marks, commits_among, generated, Engine, sizes_of, LeavesEither, QueueIsOnFlash, WhereItFits, Halt, status_of, Load, CarriesUntold, NeverOpens, RunInProgress, TellsDone, lines_at, HasBegunLoad, HasMadeBefore, IsLeftOf, IsOpened, IsUntold, LoadStops, LoadWorks, TellsOpening, AsksNoMore, IsLeft, StandsAfter, WritesAsBegun, first_texts, texts, Run, StandsFor, answered, first_lines, listing_at, state_at, step, turns_of, StandsNear, Stops, load_run, numbers_of, opening_text}
-use Rattle.face.specs.Done.{TellsWhenDone}
-use Rattle.face.specs.Loads.{LoadInProgress}
-use Rattle.face.specs.Workload.{get_line, get_lines, set_line, set_lines}
+use Rattle.face.proofs.Names.{◌≡◌, ◌⊎◌, inl, inr, ⊎_elim, ℕ, zero, suc, ◌+◌, ◌-◌, ◌*◌, ◌<◌, ◌≤◌, Bool, List, [], ◌∷◌, ◌++◌, length, map, take, drop, refl, sym, ◌∙◌, ap, subst, arith, append_assoc, take-append-drop, length-append, Result, Ok, Err, count_by, append-nil, drop_at, length-map, take-take, Load, sizes_of, LeavesEither, QueueIsOnFlash, WhereItFits, Engine, CarriesUntold, TellsDone, lines_at, TellsWhenDone, HasBegunLoad, HasMadeBefore, IsLeftOf, IsOpened, IsUntold, LoadStops, LoadWorks, TellsOpening, LoadInProgress, Run, StandsFor, answered, first_lines, listing_at, state_at, step, turns_of, NeverOpens, RunInProgress, AsksNoMore, IsLeft, StandsAfter, WritesAsBegun, first_texts, texts, StandsNear, Stops, load_run, opening_text, get_line, get_lines, set_line, set_lines, status_of, Halt, Line, commit_marks, commits_among, State, Reply, each_weaker, holds_now, image_is, in_sequence, leaves_weaker, told_is, EachMoment, Leaves, LeavesOnly, Site, Image, Moment, Snapshot, MayLeave, now_of, Geometry, all_append, generated}
+use Rattle.face.specs.Workload.{numbers_of}
 use Rattle.face.proofs.Demanded.{demands_as}
 use Rattle.face.proofs.Dones.{none_behind}
 use Rattle.face.proofs.Quiet.{says_nothing}

@@ -1,18 +1,14 @@
 -- The database of a site of which only counts, told and heard octets change.
-use Rattle.std.proofs.Common.{arith}
-use Rattle.face.proofs.Names.{◌≡◌, ℕ, List, Option, sym, subst, Geometry, Site, Image, Preserves, stays_honest, hi_of, log_shape, State, Content, Entry, LogStore, Master, PageStore, kept_by, logical_image_under, Engine, Invariant, sizes_of, Matches, StandsFor}
-use Rattle.site.specs.State.{content_of}
+use Rattle.face.proofs.Names.{arith, ◌≡◌, ℕ, List, Option, sym, subst, Master, Invariant, sizes_of, Matches, Engine, StandsFor, log_shape, kept_by, logical_image_under, Entry, LogStore, PageStore, State, Content, RepresentsLog, RepresentsIn, hi_of, IsRing, stays_honest, Preserves, Site, Image, content_of, Geometry}
 use Rattle.sealed_ring.specs.declared.ring.Ring.{Ring}
-use Rattle.sealed_ring.specs.Ring.{IsRing}
 use Rattle.sealed_ring.specs.Ready.{Finds}
 use Rattle.sealed_ring.proofs.Stays.{usable_later}
-use Rattle.log_store.specs.Representation as log_store
-use Rattle.page_store.specs.Representation as page_store
 use Rattle.page_store.specs.Ahead.{IsAhead}
 use Rattle.image_meaning.specs.Beside.{AreRingsSoundUnder}
 use Rattle.redo_laws.proofs.CallsInSequence.{going_still, stands_there}
 use Rattle.redo_laws.specs.Running.{RunsOn}
-use Rattle.redo_laws.specs.Holding.{RepresentsLog, RepresentsIn}
+use Rattle.log_store.specs.Representation as log_store
+use Rattle.page_store.specs.Representation as page_store
 
 -- it goes on after calls that keep the lengths
 pub goes_on : (engine : Engine) (a b : Site) → Invariant engine a → Preserves a b → Invariant engine b

@@ -1,10 +1,7 @@
 -- A run over the first lines, beside the run over all of them.
-use Rattle.face.proofs.Names.{◌≡◌, ◌⊎◌, inl, inr, ⊎_elim, ℕ, zero, suc, ◌+◌, ◌-◌, ◌≤◌, ◌<◌, Bool, true, false, List, [], ◌∷◌, ◌++◌, length, map, take, drop, get_or, refl, sym, ◌∙◌, ap, subst, arith, append_assoc, length-append, take-append-drop, flat_map, nat_eq, if◌then◌else◌, ◌||◌, list_any, starts_with, append-nil, length-map, length-take-le, map-append, take_all, take_at, flat_map-append, cases_lt, Snapshot, Geometry, CacheLine, Content, State, IsInRange, Line, Turn, after_commits, commit_marks, commits_among, is_committed, is_quit, later_listings, next_listing, replies, turn, turns, whole_texts, Stands, open_text, reply_text, HeardAll, commands_of, IsLeft, IsToldOf, first_texts, run_of, run_text, texts, IsFront, Run, turns_of}
-use Rattle.std.specs.Prelude.{filter}
-use Rattle.std.proofs.lemmas.List.{get_or_append_left, get_or-append_right, take-append-le}
+use Rattle.std.proofs.lemmas.Grind.{flat_map-append}
+use Rattle.face.proofs.Names.{◌≡◌, ◌⊎◌, inl, inr, ⊎_elim, ℕ, zero, suc, ◌+◌, ◌-◌, ◌≤◌, ◌<◌, Bool, true, false, List, [], ◌∷◌, ◌++◌, length, map, take, drop, get_or, refl, sym, ◌∙◌, ap, subst, arith, append_assoc, length-append, take-append-drop, flat_map, nat_eq, if◌then◌else◌, ◌||◌, cases_lt, append-nil, length-map, length-take-le, map-append, take_all, take_at, get_or_append_left, get_or-append_right, take-append-le, length-filter, list_any, starts_with, filter, Stands, IsFront, Run, turns_of, IsLeft, IsToldOf, first_texts, run_of, run_text, texts, HeardAll, commands_of, IsInRange, Line, Turn, after_commits, commit_marks, commits_among, is_committed, is_quit, later_listings, next_listing, replies, turn, turns, whole_texts, committed_tables, Content, State, CacheLine, open_text, reply_text, Snapshot, Geometry}
 use Rattle.std.proofs.lemmas.List.Elements.{filter-append}
-use Rattle.std.proofs.lemmas.List.Sums.{length-filter}
-use Rattle.record_model.specs.Run.{committed_tables}
 use Rattle.face.proofs.Fronts.{first_commands}
 use Rattle.face.proofs.Ranges.{IsFault, IsPart, Plain, begins_not, counts, not_in_fault, plain_replies, plain_texts}
 

@@ -1,8 +1,6 @@
 -- What an image stands for.
-use Rattle.std.proofs.Common.{arith}
-use Rattle.face.proofs.Names.{◌-◌, refl, sym, ◌∙◌, Geometry, Image, State, opened, Stands, Opens, BlankLaw}
+use Rattle.face.proofs.Names.{arith, ◌-◌, refl, sym, ◌∙◌, Stands, Opens, BlankLaw, OneMeaning, OneOpening, OpensWhereItStands, State, opened, Image, Geometry}
 use Rattle.image_meaning.specs.Laws.{BlankStands}
-use Rattle.face.specs.Image.{OneMeaning, OneOpening, OpensWhereItStands}
 
 -- where a run opens the image stands for its table
 pub stands_by : (g : Geometry) (image : Image) (s : State) → Opens g image s → Stands g image s.table s.commits

@@ -1,10 +1,7 @@
 -- Where memory is wanted before anything is done.
-use Rattle.face.proofs.Names.{inl, ℕ, [], refl, sym, subst, arith, true, Err, Result, Memory, Geometry, Site, Leaves, LeavesOnly, Failed, State, Serial, Halt, LoadContract, RunContract, IsGood, Headline, Tells, Run, first_lines, RunOutcome, numbers_rise, NeverOpens, run_of, Load, LoadHeadline, LoadTellsDone, LoadWorks, load_run, summary_text, Stands, LeavesTable, goes_nowhere, no_call, told_is, image_is, Image, now_of}
-use Rattle.front_end.specs.declared.halt.Halt.TheVariants as halt
-use Rattle.face.specs.TopCall.{NewContract}
+use Rattle.face.proofs.Names.{inl, ℕ, [], refl, sym, subst, arith, true, Err, Result, Load, Stands, LeavesTable, IsGood, Headline, LoadHeadline, LoadTellsDone, LoadWorks, Run, first_lines, NeverOpens, run_of, LoadContract, RunContract, NewContract, RunOutcome, load_run, summary_text, LacksMemory, memory_fault, Tells, Halt, Serial, State, numbers_rise, goes_nowhere, no_call, told_is, image_is, Leaves, LeavesOnly, Site, Image, now_of, Geometry, Failed, Memory}
 use Rattle.face.proofs.Pagings.{none_read}
 use Rattle.front_end.specs.New.{New, NewCauses}
-use Rattle.front_end.specs.Refusals.{LacksMemory, memory_fault}
 use Rattle.face.proofs.Counted.{counts_nothing}
 use Rattle.face.proofs.Demanded.{demands_err}
 use Rattle.face.proofs.Dones.{silent_start}
@@ -16,6 +13,7 @@ use Rattle.face.proofs.Ends.{never_opened}
 use Rattle.face.proofs.RunsSoFar.{not_opened}
 use Rattle.face.proofs.Faults.{halted, run_contract}
 use Rattle.face.proofs.Meanings.{stands_by}
+use Rattle.front_end.specs.declared.halt.Halt.TheVariants as halt
 
 abbrev lacks : Halt
 lacks = halt.Stop Memory

@@ -1,6 +1,5 @@
 -- A run opens exactly where all rules hold.
-use Rattle.face.proofs.Names.{refl, sym, ◌∙◌, ap, count_by, is_some}
-use Rattle.log_records.specs.Log.{table_of}
+use Rattle.face.proofs.Names.{refl, sym, ◌∙◌, ap, count_by, is_some, table_of}
 use Rattle.image_form.specs.Verdict.{logical_image_of}
 use Rattle.image_check.specs.Laws.{SoundStands, StandingIsSound}
 use Rattle.face.specs.Openings.{OpeningIsSound, SoundOpens}

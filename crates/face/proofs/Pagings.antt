@@ -1,15 +1,9 @@
 -- What a run asks of the page cache, line by line.
-use Rattle.engine.specs.LogReads.{restart_log_reads}
-use Rattle.face.proofs.Names.{start_reads, ◌≡◌, ℕ, suc, ◌+◌, ◌≤◌, Bool, true, false, List, [], ◌∷◌, ◌++◌, length, drop, arith, refl, sym, ap, subst, ◌∙◌, append_assoc, ◌-◌, Result, Ok, Option, if◌then◌else◌, append-nil, SameReads, Flash, Disk, Log, Stop, Site, Image, State, Line, Turn, is_quit, left_by, turns, next_listing, later_listings, CacheLine, CacheOp, line_touches, run_touches, LogRecord, Master, logical_image_under, Rules, rules_of, after_works, PageStore, EachMoment, TellsPart, unchanged, IsQuiet, HearsOnly, ReadsFor, Engine, Matches, sizes_of, QueueIsOnFlash, WhereItFits, WritesFrom, restart_works, cache_on, commands_of, up_to_quit, Geometry, IsPaged, cache_by, LeavesStaged, Run, answered, first_lines, step, after_lines, state_at, works_of, AsksFew, turns_of, line_log_reads, asked_after, log_reads_after}
-use Rattle.second_chance.specs.Machine.{Cache, opened}
-use Rattle.engine.proofs.Asking.{still_writes}
+use Rattle.face.proofs.Names.{◌≡◌, ℕ, suc, ◌+◌, ◌≤◌, Bool, true, false, List, [], ◌∷◌, ◌++◌, length, drop, arith, refl, sym, ap, subst, ◌∙◌, append_assoc, ◌-◌, Result, Ok, Option, if◌then◌else◌, append-nil, Master, still_writes, sizes_of, QueueIsOnFlash, restart_log_reads, WritesFrom, restart_works, cache_on, AsksFrom, Matches, WhereItFits, VersionsAreSeen, Engine, Run, answered, first_lines, step, after_lines, state_at, works_of, AsksFew, turns_of, line_log_reads, IsPaged, cache_by, LeavesStaged, LeavesItsQueue, LeavesVersions, log_reads_in, asked_after, log_reads_after, start_reads, HearsOnly, commands_of, up_to_quit, logical_image_under, LogRecord, PageStore, Line, Turn, is_quit, left_by, turns, next_listing, later_listings, State, CacheOp, line_touches, run_touches, CacheLine, ReadsFor, NumbersRise, Rules, rules_of, after_works, Cache, unchanged, SameReads, EachMoment, Site, Image, IsQuiet, TellsPart, Geometry, Flash, Disk, Log, Stop}
+use Rattle.second_chance.specs.Machine.{opened}
 use Rattle.face.proofs.Writings.{writes_told, writes_heard}
-use Rattle.redo_laws.specs.MachineSteps.{NumbersRise}
-use Rattle.engine.specs.SeenVersions.{VersionsAreSeen}
-use Rattle.engine.specs.Paging.{AsksFrom}
 use Rattle.face.proofs.Fronts.{first_commands, state_by_turns, whole_turns}
 use Rattle.face.proofs.Runs.{turn_at, turns_next}
-use Rattle.face.specs.RunMeaning.{LeavesItsQueue, LeavesVersions, log_reads_in}
 
 -- Lines. What they ask doesn't depend on what the cache lists.
 

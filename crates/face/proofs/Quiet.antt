@@ -1,6 +1,5 @@
 -- A command that makes no call, and one that is told.
-use Rattle.face.proofs.Names.{◌≡◌, inl, inr, ⊎_elim, ℕ, List, [], ◌++◌, length, length-append, take, refl, sym, ◌∙◌, ap, subst, arith, append-nil, take_all, Site, Image, MayLeave, Moment, Snapshot, now_of, no_loose, Leaves, LeavesOnly, EachMoment, each_weaker, no_call, image_is, told_is, in_sequence, leaves_weaker, holds_now, tell_leaves, TellsPart, Geometry, State, LeavesEither, StandsFor, LeavesAnswer}
-use Rattle.std.proofs.lemmas.List.{nil_from_length}
+use Rattle.face.proofs.Names.{◌≡◌, inl, inr, ⊎_elim, ℕ, List, [], ◌++◌, length, length-append, take, refl, sym, ◌∙◌, ap, subst, arith, append-nil, take_all, nil_from_length, LeavesEither, StandsFor, LeavesAnswer, State, each_weaker, no_call, image_is, told_is, in_sequence, leaves_weaker, holds_now, tell_leaves, Leaves, LeavesOnly, EachMoment, Site, Image, MayLeave, Moment, Snapshot, now_of, no_loose, TellsPart, Geometry}
 
 -- where each snapshot has told the same nothing is being told
 left_at : (m : Moment) (k : ℕ) → MayLeave m (record { told = m.told ++ take k m.telling; image = m.image })

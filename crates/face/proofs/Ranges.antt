@@ -1,16 +1,14 @@
 -- What was told whole, counted; and the commits that it allows.
-use Rattle.face.proofs.Names.{◌≡◌, ◌⊎◌, inl, inr, ⊎_elim, ℕ, zero, suc, ◌+◌, ◌-◌, ◌≤◌, ◌<◌, Bool, true, false, List, [], ◌∷◌, ◌++◌, length, take, drop, get_or, refl, sym, ◌∙◌, ap, arith, append_assoc, length-append, take-append-drop, flat_map, map, count_by, nat_eq, starts_with, drop_at, length-take-le, take_all, take_at, Snapshot, Image, State, Outcome, Line, Turn, replies, next_listing, later_listings, whole_texts, is_committed, commit_marks, commits_among, after_commits, CacheLine, Reply, Halt, open_text, reply_text, fault_line, Run, answered, step, after_lines, state_at, StandsAt, IsFront, turns_of, texts, text_at, first_texts, run_text, all_commits, StandsAfter, IsToldOf, IsLeft, StandsNear}
+use Rattle.face.proofs.Names.{◌≡◌, ◌⊎◌, inl, inr, ⊎_elim, ℕ, zero, suc, ◌+◌, ◌-◌, ◌≤◌, ◌<◌, Bool, true, false, List, [], ◌∷◌, ◌++◌, length, take, drop, get_or, refl, sym, ◌∙◌, ap, arith, append_assoc, length-append, take-append-drop, flat_map, map, count_by, nat_eq, false_from_ne_true, Decides-eqb, drop_at, length-take-le, take_all, take_at, starts_with, Run, answered, step, after_lines, state_at, StandsAt, IsFront, turns_of, texts, text_at, first_texts, run_text, all_commits, StandsAfter, IsToldOf, IsLeft, StandsNear, fault_line, Halt, Line, Turn, replies, next_listing, later_listings, whole_texts, is_committed, commit_marks, commits_among, after_commits, State, Outcome, CacheLine, Reply, open_text, reply_text, Snapshot, Image}
 use Rattle.std.proofs.lemmas.Slice.Eq.{starts_is}
 use Rattle.std.proofs.lemmas.Grind.{common_steps}
-use Rattle.std.proofs.lemmas.Bool.Decides.{Decides-eqb}
-use Rattle.std.proofs.lemmas.Bool.{false_from_ne_true}
 use Rattle.record_model.specs.Laws.{IsCountedIn, IsCountedAt}
 use Rattle.record_model.proofs.StepLaws.{commits_once}
 use Rattle.record_model.proofs.RunLaws.{commits_make_the_table}
-use Rattle.record_model.specs.declared.words.Reply.TheVariants as reply
 use Rattle.record_model.specs.declared.words.CacheLine.TheVariants.{Frame, Pool}
 use Rattle.face.proofs.Turns.{states_are, turns_count}
 use Rattle.face.proofs.Runs.{texts_count}
+use Rattle.record_model.specs.declared.words.Reply.TheVariants as reply
 
 -- not all of a text
 abbrev pub IsPart : List ℕ → List ℕ → Type 0

@@ -1,18 +1,12 @@
 -- How many groups a restart pushes at most.
-use Rattle.face.proofs.Names.{◌≡◌, ℕ, ◌+◌, ◌-◌, ◌*◌, ◌≤◌, List, [], ◌∷◌, ◌++◌, length, Option, refl, arith, AllByRecursion, Image, Geometry, LogRecord, Entry, Master, kept_by, logical_image_under, groups_add_up, IsSound, restart_works}
-use Rattle.std.proofs.Common.{reverse}
-use Rattle.std.specs.Prelude.{filter_map}
-use Rattle.std.proofs.lemmas.List.{length-reverse}
-use Rattle.log_records.specs.Log.{log_from}
+use Rattle.face.proofs.Names.{◌≡◌, ℕ, ◌+◌, ◌-◌, ◌*◌, ◌≤◌, List, [], ◌∷◌, ◌++◌, length, Option, refl, arith, reverse, length-reverse, AllByRecursion, filter_map, Master, IsSound, restart_works, kept_by, logical_image_under, Entry, log_from, LogRecord, checkpoint_works, groups_add_up, groups_for_all, Image, Geometry}
 use Rattle.log_records.specs.Restart.{redo_touch, undo_touch}
 use Rattle.log_records.specs.Sound.{LogicalImage, from_block}
-use Rattle.log_records.specs.Sound as lists
 use Rattle.log_records.specs.Spelling.{AreBlock}
 use Rattle.log_records.specs.Unfinished.{pending}
 use Rattle.log_records.proofs.ChangeCounts.{changes_few, changes_filter, changes_in}
 use Rattle.log_laws.proofs.PendingCounts.{pending_few}
-use Rattle.second_chance.specs.Groups.{groups_for_all}
-use Rattle.redo_laws.specs.MachineSteps.{checkpoint_works}
+use Rattle.log_records.specs.Sound as lists
 
 redo_few : (p : LogicalImage) (log : List Entry) → groups_for_all (filter_map (redo_touch p) log) ≤ 2 * changes_in log
 redo_few p [] = grind arith

@@ -1,12 +1,10 @@
 -- Where the rings have numbers for so many records, checkpoints and groups, no run appends to one that stands at its end.
-use Rattle.face.proofs.Names.{◌≡◌, ℕ, ◌+◌, ◌≤◌, List, [], ◌∷◌, ◌++◌, Option, Some, None, refl, sym, ap, ◌∙◌, arith, Image, hi_of, log_shape, master_shape, State, Line, CacheOp, line_touches, LogRecord, Master, logical_image_under, Rules, after_works, rules_of, Machine, RingOp, after_all, line_work, restart_work, next_group, ops_compose, IsSound, log_under, cache_on, restart_works, machine_on, cache_by, made_by, Run, after_lines, answered, checkpoints_of, line_checkpoints, step, turns_of, works_of, checkpoints_in, rings_of, worn_by}
-use Rattle.std.proofs.Common.{◌^◌}
+use Rattle.face.proofs.Names.{◌≡◌, ℕ, ◌+◌, ◌≤◌, List, [], ◌∷◌, ◌++◌, Option, Some, None, refl, sym, ap, ◌∙◌, arith, ◌^◌, Master, IsSound, log_under, cache_on, restart_works, machine_on, Run, after_lines, answered, checkpoints_of, line_checkpoints, step, turns_of, works_of, cache_by, made_by, checkpoints_in, rings_of, worn_by, log_shape, master_shape, logical_image_under, LogRecord, Line, State, CacheOp, line_touches, ops_compose, next_group, ring_ops_compose, line_work, Machine, RingOp, after_all, restart_work, hi_of, Rules, after_works, rules_of, Image}
 use Rattle.log_records.specs.Unfinished.{owed}
 use Rattle.ring_machine.specs.Counts.{records_in, saved_by, saves_in}
 use Rattle.ring_machine.proofs.Agreeing.{commands_agree, restarts_agree}
 use Rattle.ring_machine.proofs.Counts.{commands_log_few, few_are_enough, records_join, saves_join}
 use Rattle.ring_machine.proofs.RestartCounts.{restarts_log_few}
-use Rattle.ring_machine.proofs.Works.{ring_ops_compose}
 use Rattle.face.proofs.Counted.{made_all, turns_make}
 use Rattle.face.proofs.LinesBeforeQuit.{after_cons}
 use Rattle.face.proofs.Pagings.{same_after, turns_ask}

@@ -1,12 +1,9 @@
 -- The numbers of the rings, life after life.
-use Rattle.face.proofs.Names.{◌≡◌, ℕ, zero, suc, ◌+◌, ◌*◌, ◌≤◌, List, [], true, refl, sym, ap, subst, arith, Option, Site, Image, Snapshot, HasLimits, LeavesOnly, Geometry, hi_of, group_shape, log_shape, master_shape, CacheLine, State, Line, LogRecord, Master, groups_add_up, IsSound, log_under, next_group, HasNumbers, WritesOnly, IsGood, AsksNoMore, GivesNumbers, SkipsNoNumber, cache_by, made_by, run_of, staged_by_run, Run, turns_of, load_run, WearsNone}
 use Rattle.std.proofs.lemmas.Grind.{common_steps}
+use Rattle.face.proofs.Names.{◌≡◌, ℕ, zero, suc, ◌+◌, ◌*◌, ◌≤◌, List, [], true, refl, sym, ap, subst, arith, Option, Master, IsSound, log_under, IsGood, Run, turns_of, AsksNoMore, GivesNumbers, SkipsNoNumber, cache_by, made_by, run_of, staged_by_run, load_run, WearsNone, group_shape, log_shape, master_shape, Blocks, Groups, Masters, LogRecord, WritesOnly, Line, State, CacheLine, next_group, HasNumbers, hi_of, groups_add_up, LinesPushFew, WorkPushesFew, reads_in, HasLimits, blank_image, LeavesOnly, Site, Image, Snapshot, Geometry}
 use Rattle.std.proofs.Math.Nat.{suc-mul}
-use Rattle.site.specs.Geometry.{blank_image}
 use Rattle.sealed_ring.specs.Laws.{BlankIsRing}
-use Rattle.image_changes.specs.Rings.{Blocks, Groups, Masters}
 use Rattle.image_meaning.proofs.Blanks.{unused}
-use Rattle.second_chance.specs.Groups.{LinesPushFew, WorkPushesFew, reads_in}
 use Rattle.face.specs.RingNumbers.{Call, of_load, of_run, HasGiven, HaveLives, IsLifeOf, LivesHaveRoom, LoadsAreComplete, MayBeLeft, NumbersOfLives, RingsSuffice, RunsAreComplete, Work, begun_by, both, no_work, work_of}
 use Rattle.face.proofs.RestartGroups.{restart_few}
 use Rattle.face.proofs.WornRuns.{number_at_entry}

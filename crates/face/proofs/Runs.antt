@@ -1,5 +1,5 @@
 -- One line more of a run.
-use Rattle.face.proofs.Names.{◌≡◌, ℕ, zero, suc, ◌<◌, List, [], ◌∷◌, ◌++◌, length, take, drop, get_or, refl, sym, ◌∙◌, ap, arith, append_assoc, flat_map, map, append-nil, length-map, length-take-le, CacheLine, State, Line, Turn, turn, replies, next_listing, later_listings, listings_after, Reply, reply_lines, reply_text, lines_at, first_texts, text_at, texts, Run, answered, step, after_lines, first_lines, state_at, listings_left, listing_at, turns_of}
+use Rattle.face.proofs.Names.{◌≡◌, ℕ, zero, suc, ◌<◌, List, [], ◌∷◌, ◌++◌, length, take, drop, get_or, refl, sym, ◌∙◌, ap, arith, append_assoc, flat_map, map, append-nil, length-map, length-take-le, lines_at, Run, answered, step, after_lines, first_lines, state_at, listings_left, listing_at, turns_of, first_texts, text_at, texts, Line, Turn, turn, replies, next_listing, later_listings, listings_after, State, CacheLine, Reply, reply_lines, reply_text}
 use Rattle.face.proofs.Fronts.{lines_first, text_first}
 use Rattle.face.proofs.Turns.{next_turn, turns_count}
 

@@ -1,5 +1,5 @@
 -- A run from its restart to its end.
-use Rattle.face.proofs.Names.{◌≡◌, ◌≢◌, ⊎_elim, ℕ, suc, ◌+◌, ◌≤◌, List, [], ◌∷◌, ◌++◌, length, take, drop, refl, sym, ◌∙◌, ap, subst, arith, append_assoc, add-one, append-nil, length-take-le, take_all, Site, Image, Snapshot, MayLeave, now_of, no_loose, IsQuiet, Preserves, Leaves, LeavesOnly, EachMoment, in_sequence, leaves_weaker, image_is, calm, now_same, holds_now, tell_leaves, TellsPart, State, Line, Engine, Stands, LeavesTable, sizes_of, open_text, reply_text, Halt, status_of, HearsOnly, TellsDone, HasBegun, IsLeft, IsWhole, StandsAfter, first_texts, text_at, Run, answered, first_lines, step, state_at, listing_at, StandsFor, StandsAt, LeavesAnswer, StandsNear, Stops, RunInProgress, HasServed}
+use Rattle.face.proofs.Names.{◌≡◌, ◌≢◌, ⊎_elim, ℕ, suc, ◌+◌, ◌≤◌, List, [], ◌∷◌, ◌++◌, length, take, drop, refl, sym, ◌∙◌, ap, subst, arith, append_assoc, add-one, append-nil, length-take-le, take_all, Stands, sizes_of, LeavesTable, Engine, TellsDone, Run, answered, first_lines, step, state_at, listing_at, StandsFor, StandsAt, LeavesAnswer, RunInProgress, HasServed, HasBegun, IsLeft, IsWhole, StandsAfter, first_texts, text_at, StandsNear, Stops, HearsOnly, status_of, Halt, Line, State, open_text, reply_text, in_sequence, leaves_weaker, image_is, calm, now_same, holds_now, tell_leaves, Preserves, Leaves, LeavesOnly, EachMoment, Site, Image, Snapshot, MayLeave, now_of, no_loose, IsQuiet, TellsPart}
 use Rattle.front_end.specs.declared.halt.Halt.TheVariants.{Output}
 use Rattle.face.proofs.Logs.{fits_stands}
 use Rattle.face.proofs.Fronts.{lines_first, told_first}

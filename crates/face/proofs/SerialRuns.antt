@@ -1,9 +1,8 @@
 -- A run is one of the record model's, so serial order holds of it.
-use Rattle.face.proofs.Names.{◌≡◌, ℕ, ◌-◌, Bool, List, ◌∷◌, ◌++◌, sym, subst, Site, Geometry, CacheLine, State, turns, Serial, commands_of, run_of, IsGood}
+use Rattle.face.proofs.Names.{◌≡◌, ℕ, ◌-◌, Bool, List, ◌∷◌, ◌++◌, sym, subst, IsGood, IsSerialRun, IsSerialTold, run_of, commands_of, turns, Serial, State, CacheLine, Site, Geometry}
 use Rattle.shell_text.specs.Runs.{texts}
 use Rattle.shell_text.specs.Serial.{IsToldSerial}
 use Rattle.shell_text.proofs.Serial.{serial_is_told}
-use Rattle.face.specs.Headline.{IsSerialRun, IsSerialTold}
 
 pub run_is_serial : Serial → (g : Geometry) (opening : State) (site : Site) → IsGood g opening site → (ended : Bool) (octets : List ℕ) (listings : List (List CacheLine)) →
     IsSerialRun (run_of g opening ended octets listings)

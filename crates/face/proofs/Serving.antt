@@ -1,10 +1,5 @@
 -- What a run asks of the devices, one line after the other.
-use Rattle.face.proofs.Names.{◌≡◌, ℕ, suc, ◌+◌, ◌≤◌, List, [], ◌∷◌, ◌++◌, drop, IsErrOf, OnOk, refl, sym, ◌∙◌, ap, subst, arith, Option, Result, Ok, Err, Some, ⊤, Dev, Worn, Geometry, Site, Image, Preserves, ok_as, State, Line, CacheOp, line_touches, LogRecord, Master, calls_then, Rules, after_works, rules_of, start_reads, cache_of, rules, HasQueueOn, ReadsFor, ops_compose, MirrorsStore, line_work, RingOp, after_all, first_worn, Performs, performs_as, Engine, IsSound, log_under, QueueIsOnFlash, Invariant, sizes_of, Matches, HasStagedFrom, WritesFrom, cache_on, machine_on, WhereItFits, Halt, HearsOnly, CarriesOut, DoesLine, AsksFew, Run, answered, first_lines, listing_at, state_at, turns_of, HasDone, HasServed, IsPaged, AsksNoMore, GivesNumbers, Demands, asked_after, log_reads_after, IsMirrored, WearsNone, WearsNoneBefore, rings_by, worn_by}
-use Rattle.second_chance.specs.Machine.{Cache}
-use Rattle.redo_laws.proofs.Costs.{reads_add_up}
-use Rattle.ring_machine.proofs.Performing.{performs_by, performs_then}
-use Rattle.ring_machine.proofs.Works.{first_then}
-use Rattle.front_end.specs.declared.halt.Halt.TheVariants as halt
+use Rattle.face.proofs.Names.{◌≡◌, ℕ, suc, ◌+◌, ◌≤◌, List, [], ◌∷◌, ◌++◌, drop, IsErrOf, OnOk, refl, sym, ◌∙◌, ap, subst, arith, Option, Result, Ok, Err, Some, ⊤, Master, IsSound, log_under, Invariant, sizes_of, QueueIsOnFlash, HasStagedFrom, WritesFrom, cache_on, Matches, machine_on, WhereItFits, Engine, CarriesOut, DoesLine, HasDone, AsksFew, Run, answered, first_lines, listing_at, state_at, turns_of, HasServed, IsPaged, AsksNoMore, GivesNumbers, Demands, asked_after, log_reads_after, IsMirrored, WearsNone, WearsNoneBefore, rings_by, worn_by, start_reads, HearsOnly, Halt, LogRecord, calls_then, cache_of, rules, HasQueueOn, Line, State, CacheOp, line_touches, ops_compose, reads_add_up, ReadsFor, MirrorsStore, performs_as, performs_by, performs_then, first_then, line_work, RingOp, after_all, first_worn, Performs, Rules, after_works, rules_of, Cache, ok_as, Preserves, Site, Image, Geometry, Dev, Worn}
 use Rattle.face.proofs.CallCounts.{calls_heard}
 use Rattle.face.proofs.Counted.{counts_next, next_counted}
 use Rattle.face.proofs.Demanded.{demands_err, demands_ok}
@@ -14,6 +9,7 @@ use Rattle.face.proofs.Runs.{below, state_next}
 use Rattle.face.proofs.WornFronts.{none_first}
 use Rattle.face.proofs.WornRuns.{none_mirrored, rings_left, rings_next}
 use Rattle.face.proofs.Writings.{engine_queue, images_heard, last_heard, last_works, writes_then}
+use Rattle.front_end.specs.declared.halt.Halt.TheVariants as halt
 
 -- where the page cache and the machine of the rings have done the work of so many lines, the devices have it
 pub done_by : (pool : ℕ) (run : Run) (entry mid : Site) (engine : Engine) (i : ℕ) → QueueIsOnFlash → WhereItFits → Matches engine mid (state_at run i) → Invariant engine mid → sizes_of engine.store ≡ run.geometry

@@ -1,5 +1,5 @@
 -- The statuses of halts.
-use Rattle.face.proofs.Names.{◌≡◌, ◌≢◌, ◌⊎◌, inl, inr, refl, arith, Dev, Worn, Halt, status_of}
+use Rattle.face.proofs.Names.{◌≡◌, ◌≢◌, ◌⊎◌, inl, inr, refl, arith, status_of, Halt, Dev, Worn}
 use Rattle.front_end.specs.declared.halt.Halt.TheVariants as halt
 
 pub output_or_not : (h : Halt) → (h ≡ halt.Output) ⊎ (h ≢ halt.Output)

@@ -1,7 +1,5 @@
 -- The line of a halt is told last.
-use Rattle.face.proofs.Names.{◌≡◌, inl, inr, ℕ, [], refl, IsTrue, Result, Preserves, Failed, Halt, HasCause, TellsFault, Tells, fault_line, status_of, ends_with}
-use Rattle.site.specs.State.{State}
-use Rattle.front_end.proofs.Endings.{ends_done}
+use Rattle.face.proofs.Names.{◌≡◌, inl, inr, ℕ, [], refl, IsTrue, Result, HasCause, TellsFault, ends_with, ends_done, Tells, fault_line, status_of, Halt, Preserves, Site as State, Failed}
 
 -- the line of a halt, over every honest site
 pub tells_fault : {T : Type 0} (h : Halt) (status : ℕ) (old mid new : State) (result : Result T Failed) → status ≡ status_of h → HasCause h old new → Preserves old mid → IsTrue mid.honest → Tells (fault_line h) mid new result → TellsFault status old new

@@ -1,17 +1,10 @@
 -- The lives of a script, one after the other.
-use Rattle.face.proofs.Names.{◌≡◌, ◌≢◌, ◌⊎◌, inl, ⊎_elim, ℕ, zero, suc, ◌+◌, ◌-◌, ◌≤◌, ◌<◌, List, [], ◌∷◌, ◌++◌, length, take, drop, refl, sym, ◌∙◌, ap, subst, arith, add-one, append_assoc, length-append, take-append-drop, IsTrue, Option, Some, None, Result, Ok, Err, append-nil, take_all, take_at, Input, Site, Image, MayLeave, no_loose, now_of, Preserves, Rose, SameReads, calm, each_weaker, goes_in_sequence, goes_nowhere, in_sequence, no_call, now_same, rose_then, stays_honest, EachMoment, TellsPart, Geometry, Failed, Memory, started, lives_of, state_of, MemSite, Halt, BlankLaw, HearsOnly, Finds, HasLivedOne, IsFront, Tells, fault_line, status_of, Between, ends_with}
-use Rattle.std.specs.Prelude.{OnErr, slice_get, slice_range}
 use Rattle.std.proofs.lemmas.Grind.{common_steps}
-use Rattle.site.proofs.Laws.{now_leaves}
-use Rattle.mem_site.specs.Crash.{image_left}
-use Rattle.mem_site.specs.MemState.{IsFresh, limits_of}
+use Rattle.face.proofs.Names.{◌≡◌, ◌≢◌, ◌⊎◌, inl, ⊎_elim, ℕ, zero, suc, ◌+◌, ◌-◌, ◌≤◌, ◌<◌, List, [], ◌∷◌, ◌++◌, length, take, drop, refl, sym, ◌∙◌, ap, subst, arith, add-one, append_assoc, length-append, take-append-drop, IsTrue, Option, Some, None, Result, Ok, Err, append-nil, take_all, take_at, OnErr, slice_get, slice_range, BlankLaw, Finds, HasLivedOne, Ends, IsGivenUp, IsHaltOfTrial, IsReady, KeepsDevices, IsFront, Between, HaveLived, IsCut, IsLife, IsLived, IsNewSite, IsStatus, Lives, TellsAll, TellsSome, TrialCauses, TrialContract, at_first, is_within, life_line, numbers_of, script_limit, ends_with, HearsOnly, Tells, fault_line, status_of, Halt, started, image_left, lives_of, state_of, IsFresh, limits_of, MemSite, calm, each_weaker, goes_in_sequence, goes_nowhere, in_sequence, no_call, now_same, rose_then, stays_honest, now_leaves, Preserves, Rose, SameReads, EachMoment, Input, Site, Image, MayLeave, no_loose, now_of, TellsPart, Geometry, Failed, Memory, lives_between, lives_in, stops_from}
 use Rattle.workload.specs.declared.scripts.Life.{Life}
 use Rattle.workload.specs.declared.scripts.StopLine.{StopLine}
-use Rattle.workload.specs.Scripts.{lives_between, lives_of as lives_in, stops_from}
-use Rattle.front_end.specs.declared.halt.Halt.TheVariants as halt
-use Rattle.face.specs.Living.{Ends, IsGivenUp, IsHaltOfTrial, IsReady, KeepsDevices}
-use Rattle.face.specs.Trial.{HaveLived, IsCut, IsLife, IsLived, IsNewSite, IsStatus, Lives, TellsAll, TellsSome, TrialCauses, TrialContract, at_first, is_within, life_line, numbers_of, script_limit}
 use Rattle.face.proofs.Longer.{front_more}
+use Rattle.front_end.specs.declared.halt.Halt.TheVariants as halt
 
 -- How many lives a script has.
 

@@ -1,7 +1,6 @@
 -- What the record model makes of lines.
-use Rattle.face.proofs.Names.{◌≡◌, ℕ, zero, suc, Bool, true, false, List, [], ◌∷◌, ◌++◌, length, take, drop, refl, ◌∙◌, ap, arith, Some, None, if◌then◌else◌, take_all, CacheLine, State, Line, Turn, turn, turns, is_quit, left_by, listings_after, next_listing, later_listings, up_to_quit, step, after_lines}
+use Rattle.face.proofs.Names.{◌≡◌, ℕ, zero, suc, Bool, true, false, List, [], ◌∷◌, ◌++◌, length, take, drop, refl, ◌∙◌, ap, arith, Some, None, if◌then◌else◌, take_all, step, after_lines, up_to_quit, Line, Turn, turn, turns, is_quit, left_by, listings_after, next_listing, later_listings, model_state, State, CacheLine}
 use Rattle.record_model.specs.declared.words.Command.TheVariants as command
-use Rattle.record_model.specs.Run.{state_at as model_state}
 
 -- the states between the turns
 pub states_are : (s : State) (lines : List Line) (listings : List (List CacheLine)) (i : ℕ) → model_state (turns s lines listings) s i ≡ after_lines s (take i (up_to_quit lines)) listings

@@ -1,7 +1,5 @@
 -- When input is asked for.
-use Rattle.face.proofs.Names.{◌≡◌, ℕ, ◌+◌, ◌≤◌, false, List, [], ◌++◌, length, take, sym, ◌∙◌, ap, subst, arith, append_assoc, length-append, list_any, append-nil, all_append, Input, Site, Take, Source, is_quit, answered_of, commands_of, pending, to_hear, IsSource, TakesWithin, first_texts, Run, IsAnswered, AnswersFirst, IsEarly}
-use Rattle.std_lemmas.proofs.AllOf.{all_weaker}
-use Rattle.front_end.specs.Lines.{TookWithin}
+use Rattle.face.proofs.Names.{◌≡◌, ℕ, ◌+◌, ◌≤◌, false, List, [], ◌++◌, length, take, sym, ◌∙◌, ap, subst, arith, append_assoc, length-append, append-nil, list_any, Run, first_texts, IsAnswered, AnswersFirst, IsEarly, answered_of, commands_of, pending, to_hear, IsSource, TakesWithin, TookWithin, Source, is_quit, Input, Site, Take, all_append, all_weaker}
 use Rattle.face.proofs.Cuts.{Cut, whole_before}
 
 -- none yet

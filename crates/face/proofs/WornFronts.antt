@@ -1,5 +1,5 @@
 -- Where the first lines of a run append to a ring that stands at its end, so does all of it.
-use Rattle.face.proofs.Names.{◌≡◌, ℕ, ◌≤◌, Bool, true, List, [], ◌++◌, take, drop, Option, Some, None, sym, ap, subst, ◌∙◌, arith, append_assoc, take-append-drop, take-take, Image, Geometry, Dev, CacheLine, State, Line, Master, LogRecord, logical_image_under, rules_of, RingOp, first_worn, restart_work, first_stopped, IsSound, machine_on, run_of, Run, after_lines, answered, first_lines, turns_of, WearsFirst, WearsNone, WearsNoneBefore, rings_of, worn_by}
+use Rattle.face.proofs.Names.{◌≡◌, ℕ, ◌≤◌, Bool, true, List, [], ◌++◌, take, drop, Option, Some, None, sym, ap, subst, ◌∙◌, arith, append_assoc, take-append-drop, take-take, Master, IsSound, machine_on, Run, after_lines, answered, first_lines, turns_of, run_of, WearsFirst, WearsNone, WearsNoneBefore, rings_of, worn_by, logical_image_under, LogRecord, Line, State, CacheLine, first_stopped, RingOp, first_worn, restart_work, rules_of, Image, Geometry, Dev}
 use Rattle.face.proofs.Fronts.{first_same}
 use Rattle.face.proofs.Pagings.{taken_first}
 use Rattle.face.proofs.WornRuns.{none_prefix, rings_are, rings_join, turns_work}

@@ -1,17 +1,12 @@
 -- Runs as work of the machine of the rings.
-use Rattle.face.proofs.Names.{◌≡◌, ℕ, suc, ◌+◌, ◌-◌, ◌*◌, ◌==◌, ◌≤◌, arith, Bool, true, false, List, [], ◌∷◌, ◌++◌, length, drop, take, append_assoc, Option, Some, None, refl, sym, ap, subst, ◌∙◌, Ok, if◌then◌else◌, ⊤, flat_map-append, length-map, Site, Image, Snapshot, holds_now, CacheLine, Line, Turn, turns, next_listing, later_listings, State, Stat, Quit, Cache, Mark, is_accepted, is_page_full, LogRecord, Master, group_shape, segment_shape, logical_image_under, Rules, Staged, rules_of, after_works, staged_by_works, WritesOnly, numbers_rise, hi_of, Matches, Invariant, sizes_of, Geometry, Machine, RingOp, first_worn, first_stopped, line_work, restart_work, Performs, performs_as, performs_answered, MirrorsStore, Engine, IsSound, cache_on, machine_on, up_to_quit, Run, after_lines, answered, first_lines, state_at, step, turns_of, IsPaged, AsksNoMore, IsMirrored, WearsNone, rings_by, rings_of, worn_by}
-use Rattle.std.proofs.Common.{◌/◌, append-nil}
-use Rattle.std.proofs.lemmas.Bool.Decides.{eqb_tells}
-use Rattle.image_meaning.specs.Meaning.{AreSegments}
+use Rattle.std.proofs.lemmas.Grind.{flat_map-append}
+use Rattle.face.proofs.Names.{◌≡◌, ℕ, suc, ◌+◌, ◌-◌, ◌*◌, ◌==◌, ◌≤◌, arith, Bool, true, false, List, [], ◌∷◌, ◌++◌, length, drop, take, append_assoc, Option, Some, None, refl, sym, ap, subst, ◌∙◌, Ok, if◌then◌else◌, ◌/◌, eqb_tells, length-map, ⊤, Master, IsSound, Invariant, sizes_of, cache_on, Matches, machine_on, Engine, Run, after_lines, answered, first_lines, state_at, step, turns_of, IsPaged, AsksNoMore, works_by, IsMirrored, WearsNone, rings_by, rings_of, worn_by, HasRings, LeavesItsRings, machine_by, up_to_quit, group_shape, segment_shape, logical_image_under, AreSegments, LogRecord, WritesOnly, SavesBefore, Line, Turn, turns, next_listing, later_listings, State, is_accepted, is_page_full, CacheLine, numbers_rise, hi_on, MirrorsStore, performs_as, performs_answered, first_stopped, line_work, run_work, Machine, RingOp, first_worn, Performs, restart_work, hi_of, Rules, Staged, rules_of, after_works, staged_by_works, holds_now, Site, Image, Snapshot, Geometry}
+use Rattle.record_model.specs.declared.words.Command.TheVariants.{Stat, Quit, Cache, Mark}
+use Rattle.std.proofs.Common.{append-nil}
 use Rattle.second_chance.specs.Machine.{next_group}
-use Rattle.page_store.specs.Staging.{SavesBefore}
 use Rattle.sealed_ring.specs.declared.slots.Shape.{Shape}
 use Rattle.sealed_ring.specs.Ready.{region}
 use Rattle.sealed_ring.proofs.Units.{live_count}
-use Rattle.redo_laws.proofs.RingNumbers.{hi_on}
-use Rattle.ring_machine.specs.Commands.{run_work}
-use Rattle.face.specs.RunMeaning.{works_by}
-use Rattle.face.specs.Worn.{HasRings, LeavesItsRings, machine_by}
 use Rattle.face.proofs.Fronts.{whole_turns}
 use Rattle.face.proofs.LinesBeforeQuit.{after_cons}
 use Rattle.face.proofs.Pagings.{after_same}

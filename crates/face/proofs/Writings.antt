@@ -1,14 +1,8 @@
 -- What a run writes, one line after the other.
-use Rattle.face.proofs.Names.{◌≡◌, ◌≤◌, ℕ, List, [], ◌++◌, arith, refl, sym, ap, subst, ◌∙◌, CallsForStaged, unsynced_in, Geometry, Site, Snapshot, Image, IsQuiet, EachMoment, Leaves, LeavesOnly, since, HasLastStaged, TellsPart, in_sequence, leaves_weaker, holds_now, tell_leaves, calm, now_same, unchanged, CacheOp, State, Rules, Staged, after_works, staged_by_works, cache_of, rules, WritesOnly, HasQueueOn, last_still, PageStore, ops_compose, Engine, Matches, Invariant, HasStagedFrom, WritesFrom, HearsOnly}
-use Rattle.second_chance.specs.Machine.{Cache}
+use Rattle.face.proofs.Names.{◌≡◌, ◌≤◌, ℕ, List, [], ◌++◌, arith, refl, sym, ap, subst, ◌∙◌, Invariant, HasStagedFrom, WritesFrom, Matches, Engine, HearsOnly, staged_counts_none, staged_counts_then, unsynced_untouched, cache_of, rules, CallsForStaged, unsynced_in, WritesOnly, HasQueueOn, PageStore, State, CacheOp, ops_compose, staged_add_up, more_next, Rules, Staged, after_works, staged_by_works, Cache, in_sequence, leaves_weaker, holds_now, tell_leaves, calm, now_same, unchanged, each_weaker, quiet_settled, EachMoment, Leaves, LeavesOnly, since, SameAt, Site, Snapshot, Image, IsQuiet, Loose, TellsPart, Geometry, Disk}
+use Rattle.flash_cache.specs.OnDisk.{HasLastStaged}
+use Rattle.page_store.proofs.StagingLaws.{last_still, last_none, last_then, last_unmoved, among_first, written_weaker, written_then, fits_queue, still_leaves}
 use Rattle.page_store.specs.Caching.{next_group}
-use Rattle.site.specs.declared.outside.Dev.TheVariants.{Disk}
-use Rattle.site.specs.State.{Loose}
-use Rattle.site.specs.Moments.{SameAt}
-use Rattle.site.proofs.Laws.{each_weaker, quiet_settled}
-use Rattle.page_store.proofs.Counting.{staged_counts_none, staged_counts_then, unsynced_untouched}
-use Rattle.page_store.proofs.StagingLaws.{last_none, last_then, last_unmoved, among_first, written_weaker, written_then, fits_queue, still_leaves}
-use Rattle.redo_laws.proofs.Costs.{staged_add_up, more_next}
 
 -- the queue of a database that fits is the one on flash
 pub engine_queue : (engine : Engine) (site : Site) (s : State) → Invariant engine site → Matches engine site s → HasQueueOn engine.store.pages site

@@ -1,7 +1,6 @@
 -- What each snapshot has on flash and disk, by the lines that were begun by what it has.
-use Rattle.face.proofs.Names.{◌≡◌, ℕ, suc, ◌+◌, List, [], ◌∷◌, ◌++◌, take, Option, sym, ◌∙◌, ap, subst, arith, append_assoc, add-one, AllByRecursion, drop_at, take-take, Site, Image, Moment, Snapshot, EachMoment, Leaves, LeavesOnly, calm, each_both, each_weaker, in_sequence, leaves_weaker, now_same, tell_leaves, told_is, TellsPart, Geometry, LogRecord, Master, WritesOnly, Line, State, HearsOnly, HasMadeBefore, AsksNoMore, IsLeft, WritesAsBegun, cache_by, first_texts, staged_by_run, opening_text, LeavesAnswer, Run, first_lines, turns_of}
+use Rattle.face.proofs.Names.{◌≡◌, ℕ, suc, ◌+◌, List, [], ◌∷◌, ◌++◌, take, Option, sym, ◌∙◌, ap, subst, arith, append_assoc, add-one, drop_at, take-take, AllByRecursion, Master, HasMadeBefore, LeavesAnswer, Run, first_lines, turns_of, AsksNoMore, IsLeft, WritesAsBegun, cache_by, first_texts, staged_by_run, HasToldBefore, WritesAsTold, WritesSoFar, opening_text, HearsOnly, LogRecord, WritesOnly, Line, State, calm, each_both, each_weaker, in_sequence, leaves_weaker, now_same, tell_leaves, told_is, EachMoment, Leaves, LeavesOnly, Site, Image, Moment, Snapshot, TellsPart, Geometry}
 use Rattle.page_store.specs.Caching.{next_group}
-use Rattle.face.specs.RunMeaning.{HasToldBefore, WritesAsTold, WritesSoFar}
 use Rattle.face.proofs.Fronts.{first_same, other, told_same}
 
 -- what each moment of two runs has, each of the second has

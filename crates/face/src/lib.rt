@@ -9,6 +9,7 @@ mod opening;
 mod running;
 pub mod trial;
 
+pub use commands::carry_out;
 pub use laws::{
     blank_stands, one_meaning, one_opening, opens_where_it_stands, rings_last_for_lives,
     sound_opens, what_a_load_leaves_opens, what_is_left_opens,

@@ -376,7 +376,8 @@ const ARCHIVES: &[Step<'static>] = &[
 ];
 
 // The line of the block of `set 5 0a0b` without its last 914 zeros.
-const FIRST_BLOCK: &str = "block 0 002e010200000000000000020000000000000002000000000500030a0b0400000000000000020000000000000001";
+const FIRST_BLOCK: &str =
+    "block 0 002e010200000000000000020000000000000002000000000500030a0b0400000000000000020000000000000001";
 
 // An archive is read; no device is touched. What isn't accepted is told by its line: no block, one twice, a long one.
 const VERIFIED: &[Step<'static>] = &[

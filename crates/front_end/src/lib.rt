@@ -10,8 +10,8 @@ mod source;
 mod text;
 
 pub use check::serve_check;
-pub use fault_lines::{tell_halt, tell_memory, tell_words};
+pub use fault_lines::{tell_halt, tell_memory, tell_unfit, tell_words};
 pub use halt::Halt;
-pub use new_database::make_new;
+pub use new_database::{Unfit, make_new, test_blank};
 pub use source::{Heard, Source};
 pub use text::tell_reply;

@@ -125,8 +125,8 @@ fn test_device<S: Site>(site: &mut S, dev: Dev) -> Result<(), Unfit>
     }
 }
 
-// Whether the devices are blank, in the order log, flash, disk. Nothing changes.
-fn test_all<S: Site>(site: &mut S) -> Result<(), Unfit>
+/// Whether the devices are blank, in the order log, flash, disk. Nothing changes.
+pub fn test_blank<S: Site>(site: &mut S) -> Result<(), Unfit>
     ensures blank { IsTrue (S.state site.old).honest → OnOk result (IsBlank (S.state site.old).image) }
     ensures unfit { IfErr result (λ unfit. IsNotBlank unfit (S.state site.old) (S.state site.new)) }
     ensures same { IsTrue (S.state site.old).honest → IsUnchanged (S.state site.old) (S.state site.new) }
@@ -165,7 +165,7 @@ fn test_fit<S: Site>(site: &mut S, geometry: &Geometry) -> Result<(), Unfit>
     if !has_lengths(site, geometry) {
         return Err(Unfit::Foreign);
     }
-    test_all(site)
+    test_blank(site)
 }
 
 /// The work of `new`: tells `ready` with the sizes where the devices have these lengths and are blank. The answer is

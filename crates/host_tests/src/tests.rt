@@ -274,8 +274,20 @@ const CALLS: [Row; 18] = [
     (&[b"face", b"archive", b"1"], b"", 0, b"end 1\n", 6),
     (&[b"face", b"archive", b"2"], b"", 12, b"ahead 1\n", 6),
     (&[b"face", b"archive", b"01"], b"", 2, b"fault words\n", 0),
-    (&[b"face", b"verify", b"16"], b"end 0\n", 0, b"verified 0\n", 0),
-    (&[b"face", b"verify", b"16"], b"end 1\n", 13, b"fault stream 1\n", 0),
+    (
+        &[b"face", b"verify", b"16"],
+        b"end 0\n",
+        0,
+        b"verified 0\n",
+        0,
+    ),
+    (
+        &[b"face", b"verify", b"16"],
+        b"end 1\n",
+        13,
+        b"fault stream 1\n",
+        0,
+    ),
     (
         &[b"face", b"load", b"2", b"7", b"1"],
         b"",

@@ -285,8 +285,9 @@ pub fn say<R: Eprint>(
         }
         13 => {
             let _ = rt.eprintln(
-                "face: that line isn't the next block of an archive or an end line with its number, or its records \
-                don't follow: hand in all archives from block 0 on, in their order, and the PAGES of their database",
+                "face: that line of the input isn't the next block of the archive, or an end line with its number, or \
+                a record of it doesn't follow: hand in the archives from block 0 on, in order, with none left out, \
+                and the PAGES of their database",
             );
         }
         16 => {

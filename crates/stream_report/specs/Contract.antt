@@ -11,9 +11,9 @@ use Rattle.stream_report.specs.declared.halt.Halt.{Halt}
 use Rattle.stream_report.specs.declared.halt.Halt.TheVariants as halt
 use Rattle.stream_report.specs.Streams.{IsArchiveOf, IsFirstBad, bad_line, most, verified_line}
 
--- The text of each status, for an input of these octets, of which these are left: the count where they are an
--- archive, else the number of the first line that isn't accepted, or that one octet too many was taken. Telling the
--- count may fail, and so may taking the input; memory may be wanting.
+-- The text of each status, for an input of these octets, of which these are left: the count where they are an archive,
+-- and else the number of the first line that isn't accepted, or that one octet too many was taken. To tell it may
+-- fail, and so may taking the input; memory may be wanting.
 abbrev pub IsAnswer : ℕ → List ℕ → List ℕ → ℕ → List ℕ → Type 0
 IsAnswer pages octets left status text =
     (((status ≡ 0) ⊎ (status ≡ 6)) × (count : ℕ) × IsArchiveOf pages octets count × (text ≡ verified_line count))
@@ -30,7 +30,7 @@ pub record VerifyContract (pages : ℕ) (old new : State) (status : ℕ) : Type 
   -- and in the end all of it, where no tell has failed, and with status 0 at any rate
   pub whole : IsTrue old.honest → ¬ (Rose old.output_faults new.output_faults) → new.told ≡ old.told ++ text
   pub done : IsTrue old.honest → status ≡ 0 → new.told ≡ old.told ++ text
-  -- where a line isn't accepted its number is told, unless memory is wanting, or taking fails or goes on too long
+  -- where a line isn't accepted its number is told, unless memory is wanting, or taking fails or is too long before
   pub bad : IsTrue old.honest → (number : ℕ) → IsFirstBad pages old.input.left number
       → (status ≡ 13) ⊎ ((status ≡ 4) ⊎ ((status ≡ 5) ⊎ (status ≡ 7)))
   -- and an archive is told, unless memory is wanting, or taking or telling fails

@@ -1,7 +1,4 @@
-use Rattle.std.proofs.Common.{}
-use Rattle.site.proofs.Laws.{stays_honest}
-use Rattle.shell_text.specs.Texts.{reply_text}
-use Rattle.engine.specs.Invariant.{sizes_of}
+use Rattle.face.proofs.Names.{sizes_of, reply_text, stays_honest}
 use Rattle.face.proofs.CallCounts.{calls_told}
 use Rattle.face.proofs.Carrying.{all_told, carries_err, hands_carried, hands_nothing, not_all_told, tells_all_of_it, tells_front, tells_nothing}
 use Rattle.face.proofs.answer.answer.Goals as goal

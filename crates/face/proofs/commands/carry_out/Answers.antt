@@ -1,8 +1,5 @@
-use Rattle.std.proofs.Common.{sym, subst, ◌∙◌}
+use Rattle.face.proofs.Names.{sym, subst, ◌∙◌, CarriesUntold, Halt, Reply}
 use Rattle.std.specs.Prelude.{Result}
-use Rattle.record_model.specs.declared.words.Reply.{Reply}
-use Rattle.front_end.specs.declared.halt.Halt.{Halt}
-use Rattle.face.specs.Carrying.{CarriesUntold}
 use Rattle.face.proofs.Carrying.{cache_idles, carries_idle, listing_is}
 use Rattle.face.proofs.Listed.{cache_line}
 use Rattle.face.proofs.commands.carry_out.Goals as goal

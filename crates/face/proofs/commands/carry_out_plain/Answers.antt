@@ -1,11 +1,8 @@
-use Rattle.std.proofs.Common.{ap, arith, refl, sym, ◌∙◌}
+use Rattle.face.proofs.Names.{ap, arith, refl, sym, ◌∙◌, step, Line, BadLine}
 use Rattle.std.specs.Prelude.{Ok, Some}
-use Rattle.record_model.specs.declared.words.Reply.TheVariants as reply
-use Rattle.record_model.specs.declared.words.Why.TheVariants.{BadLine}
-use Rattle.record_model.specs.Run.{Line}
-use Rattle.face.specs.Run.{step}
 use Rattle.face.proofs.Carrying.{carries_idle, carries_mark, keeps_table, may_commit, none_idles, quit_idles, stat_idles}
 use Rattle.face.proofs.Listed.{never_cache}
+use Rattle.record_model.specs.declared.words.Reply.TheVariants as reply
 use Rattle.face.proofs.commands.carry_out_plain.Goals as goal
 
 pub returns-in-Begin : goal.returns-in-Begin

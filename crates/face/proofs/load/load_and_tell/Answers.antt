@@ -1,12 +1,4 @@
-use Rattle.std.proofs.Common.{◌≡◌, [], ◌++◌, ◌∙◌, ℕ, List, length, ap, subst}
-use Rattle.site.proofs.Laws.{stays_honest}
-use Rattle.site.specs.Moments.{EachMoment}
-use Rattle.site.specs.Telling.{HandsRest, TellsOnly, TellsPart}
-use Rattle.site.specs.declared.geometry.Geometry.{Geometry}
-use Rattle.record_model.specs.State.{State}
-use Rattle.face.specs.Headline.{IsGood}
-use Rattle.face.specs.Loads.{LoadTellsDone}
-use Rattle.face.specs.Workload.{load_run, summary_of, summary_text}
+use Rattle.face.proofs.Names.{◌≡◌, [], ◌++◌, ◌∙◌, ℕ, List, length, ap, subst, IsGood, LoadTellsDone, load_run, summary_of, summary_text, State, stays_honest, EachMoment, HandsRest, TellsOnly, TellsPart, Geometry}
 use Rattle.face.proofs.Going.{ends_as, ends_told, ends_untold}
 use Rattle.face.proofs.LoadFaults.{stopped_before, summary_lost, summed_up, tells_opening, tells_summary}
 use Rattle.face.proofs.load.load_and_tell.Given.{Over}

@@ -1,13 +1,4 @@
-use Rattle.std.proofs.Common.{◌≡◌, ◌-◌, ◌+◌, ◌*◌, ◌<◌, ◌≤◌, ◌&&◌, ⊎_elim, ℕ, suc, List, [], ◌∷◌, drop, false, true≢false, refl, sym, ◌∙◌, ap, subst, arith, add-one}
-use Rattle.std.proofs.lemmas.Bool.{cases_lt}
-use Rattle.site.specs.declared.geometry.Geometry.{Geometry}
-use Rattle.record_model.specs.State.{State, is_due}
-use Rattle.record_model.specs.Run.{Line, is_cache}
-use Rattle.workload.specs.Generator.{following, generated, record_of, value_of}
-use Rattle.face.specs.Headline.{IsGood}
-use Rattle.face.specs.Loads.{LoadInProgress}
-use Rattle.face.specs.Run.{Run, answered, first_lines, listing_at, state_at, step, turns_of}
-use Rattle.face.specs.Workload.{checkpoints_in, committed_in, found_in, get_line, has_passed, load_run, makes_one, set_line}
+use Rattle.face.proofs.Names.{◌≡◌, ◌-◌, ◌+◌, ◌*◌, ◌<◌, ◌≤◌, ◌&&◌, ⊎_elim, ℕ, suc, List, [], ◌∷◌, drop, false, true≢false, refl, sym, ◌∙◌, ap, subst, arith, add-one, cases_lt, IsGood, LoadInProgress, Run, answered, first_lines, listing_at, state_at, step, turns_of, checkpoints_in, committed_in, found_in, get_line, has_passed, load_run, makes_one, set_line, Line, is_cache, State, is_due, Geometry, following, generated, record_of, value_of}
 use Rattle.face.proofs.Ends.{answer_takes_nothing}
 use Rattle.face.proofs.Fronts.{whole_turns}
 use Rattle.face.proofs.Going.{ends_as, ends_well, fails_there, goes_next}

@@ -1,12 +1,4 @@
-use Rattle.std.proofs.Common.{◌≡◌, ◌-◌, ◌<◌, ◌≤◌}
-use Rattle.site.specs.declared.geometry.Geometry.{Geometry}
-use Rattle.record_model.specs.State.{State}
-use Rattle.workload.specs.Generator.{generated}
-use Rattle.face.specs.Headline.{IsGood}
-use Rattle.face.specs.Loads.{HasCounted, LoadInProgress}
-use Rattle.face.specs.Run.{first_lines}
-use Rattle.face.specs.RunInProgress.{GoesOn}
-use Rattle.face.specs.Workload.{load_run}
+use Rattle.face.proofs.Names.{◌≡◌, ◌-◌, ◌<◌, ◌≤◌, IsGood, HasCounted, LoadInProgress, first_lines, GoesOn, load_run, State, Geometry, generated}
 use Rattle.face.proofs.load.run_load.Given as goal
 
 abbrev pub invariant-loop-place : goal.invariant-loop-place

@@ -1,10 +1,7 @@
-use Rattle.std.proofs.Common.{arith, sym, ◌∙◌}
-use Rattle.site.proofs.Laws.{stays_honest}
+use Rattle.face.proofs.Names.{arith, sym, ◌∙◌, refuses_devices, first_halted, first_none, stays_honest}
 use Rattle.face.proofs.CauseLaws.{cause_then, no_causes, status_causes}
-use Rattle.front_end.proofs.Endings.{refuses_devices}
 use Rattle.face.proofs.ToldFaults.{tells_fault, tells_none}
 use Rattle.face.proofs.LoadFaults.{load_contract, load_done, load_halted, not_taken}
-use Rattle.front_end.proofs.Firsts.{first_halted, first_none}
 use Rattle.face.proofs.Statuses.{not_zero}
 use Rattle.face.proofs.load.serve_load.Goals as goal
 

@@ -1,28 +1,7 @@
-use Rattle.std.proofs.Common.{◌∙◌, ap, ◌≡◌, List, [], arith, refl, subst, sym}
+use Rattle.face.proofs.Names.{◌∙◌, ap, ◌≡◌, List, [], arith, refl, subst, sym, append-nil, log_under, LeavesTable, HasStagedFrom, restart_works, cache_on, machine_on, Engine, TellsDone, IsGood, Run, first_lines, status_of, logical_image_under, unsynced_told, CacheOp, RingOp, first_worn, restart_work, rules_of, open_text, stays_honest, goes_in_sequence, holds_now, EachMoment, Worn}
 use Rattle.std.specs.Prelude.{Err}
-use Rattle.std.proofs.lemmas.List.{append-nil}
-use Rattle.site.specs.declared.outside.Stop.TheVariants.{Worn}
-use Rattle.site.proofs.Laws.{stays_honest, goes_in_sequence, holds_now}
-use Rattle.site.specs.Moments.{EachMoment}
-use Rattle.record_model.specs.Touches.{CacheOp}
-use Rattle.image_meaning.specs.Meaning.{logical_image_under}
-use Rattle.second_chance.specs.Machine.{rules_of}
-use Rattle.ring_machine.specs.Machine.{RingOp, first_worn}
-use Rattle.ring_machine.specs.Restart.{restart_work}
-use Rattle.engine.specs.Image.{log_under}
-use Rattle.engine.specs.Paging.{HasStagedFrom, restart_works, cache_on}
-use Rattle.engine.specs.RingWork.{machine_on}
-use Rattle.shell_text.specs.Texts.{open_text}
-use Rattle.front_end.specs.Texts.{status_of}
-use Rattle.front_end.specs.declared.halt.Halt.TheVariants as halt
-use Rattle.engine.specs.Leaves.{LeavesTable}
-use Rattle.face.specs.Done.{TellsDone}
-use Rattle.face.specs.Headline.{IsGood}
-use Rattle.face.specs.Run.{Run, first_lines}
-use Rattle.engine.specs.declared.engine.Engine.{Engine}
 use Rattle.face.proofs.Carrying.{stop_faults}
 use Rattle.face.proofs.Going.{ends_told, ends_untold}
-use Rattle.page_store.proofs.Counting.{unsynced_told}
 use Rattle.face.proofs.CallCounts.{calls_told}
 use Rattle.face.proofs.CommandLaws.{start_cause}
 use Rattle.face.proofs.Counted.{first_counted, restart_numbers, restart_told}
@@ -38,6 +17,7 @@ use Rattle.face.proofs.WornRuns.{opened_performs}
 use Rattle.face.proofs.Writings.{last_told, writes_told}
 use Rattle.face.proofs.opening.open.Given.{Over}
 use Rattle.face.proofs.opening.open.Goals.{After-tell_all}
+use Rattle.front_end.specs.declared.halt.Halt.TheVariants as halt
 use Rattle.face.proofs.opening.open.Goals as goal
 
 pub returns-in-Err-clause-never : goal.returns-in-Err-clause-never

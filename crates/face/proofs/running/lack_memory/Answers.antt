@@ -1,14 +1,11 @@
-use Rattle.std.proofs.Common.{arith, refl, rules, ℕ}
-use Rattle.site.specs.declared.outside.Stop.TheVariants.{Memory}
-use Rattle.front_end.specs.declared.halt.Halt.TheVariants as halt
+use Rattle.face.proofs.Names.{arith, refl, ℕ, only_tells, first_line, LacksMemory, Memory}
+use Rattle.std.proofs.Common.{rules}
 use Rattle.face.proofs.Hearings.{heard_halted, hears_nothing}
-use Rattle.front_end.specs.Refusals.{LacksMemory}
 use Rattle.trace_report.proofs.Lacking.{lacked}
-use Rattle.front_end.proofs.Endings.{only_tells}
 use Rattle.front_end.proofs.CheckLaws.{lacked_check}
-use Rattle.front_end.proofs.Firsts.{first_line}
 use Rattle.face.proofs.MemoryLaws.{lacked_contract, lacked_load_run, lacked_run}
 use Rattle.face.proofs.Trials.{lacked_trial}
+use Rattle.front_end.specs.declared.halt.Halt.TheVariants as halt
 use Rattle.face.proofs.running.lack_memory.Goals as goal
 
 pub returns : goal.returns

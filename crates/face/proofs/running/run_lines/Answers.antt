@@ -1,14 +1,5 @@
-use Rattle.std.proofs.Common.{◌≡◌, suc, List, [], ◌∷◌, ◌++◌, drop, sym, ◌∙◌, ap, subst, arith, add-one, append_assoc, IsTrue}
-use Rattle.std.proofs.lemmas.List.{append-nil}
+use Rattle.face.proofs.Names.{◌≡◌, suc, List, [], ◌∷◌, ◌++◌, drop, sym, ◌∙◌, ap, subst, arith, add-one, append_assoc, IsTrue, append-nil, listing_of, Run, Begins, answered, listing_at, state_at, GoesOn, HasAnswered, HasEnded, HearsLine, to_hear, up_to_quit, Line, CacheLine, stays_honest, goes_in_sequence, Input, Site}
 use Rattle.std.specs.Prelude.{Err}
-use Rattle.site.specs.State.{Input, State as Site}
-use Rattle.site.proofs.Laws.{stays_honest, goes_in_sequence}
-use Rattle.record_model.specs.Run.{Line}
-use Rattle.record_model.specs.declared.words.CacheLine.{CacheLine}
-use Rattle.engine.specs.Listings.{listing_of}
-use Rattle.front_end.specs.Lines.{HasEnded, HearsLine, to_hear, up_to_quit}
-use Rattle.face.specs.Run.{Run, Begins, answered, listing_at, state_at}
-use Rattle.face.specs.RunInProgress.{GoesOn, HasAnswered}
 use Rattle.face.proofs.Answered.{answered_heard, answered_next, begins_well}
 use Rattle.face.proofs.Cuts.{Cut, no_cut, cut_more, cut_stays, line_is, cut_few_octets}
 use Rattle.face.proofs.Ends.{lists_nothing, never_opened, taking_failed, finished, answer_failed, heard_end, line_heard, quitted, taking_cause, answer_takes_nothing}

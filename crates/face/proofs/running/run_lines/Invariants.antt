@@ -1,6 +1,4 @@
-use Rattle.std.proofs.Common.{IsTrue}
-use Rattle.face.specs.RunInProgress.{GoesOn, IsUnderWay}
-use Rattle.front_end.specs.Lines.{IsSource}
+use Rattle.face.proofs.Names.{IsTrue, GoesOn, IsUnderWay, IsSource}
 use Rattle.face.proofs.Cuts.{Cut}
 use Rattle.face.proofs.running.run_lines.Given as goal
 

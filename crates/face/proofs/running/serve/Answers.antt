@@ -1,11 +1,7 @@
-use Rattle.std.proofs.Common.{ap, refl, sym, ◌∙◌}
-use Rattle.site.specs.State.{Input}
-use Rattle.site.proofs.Laws.{stays_honest}
+use Rattle.face.proofs.Names.{ap, refl, sym, ◌∙◌, refuses_devices, first_halted, first_none, stays_honest, Input}
 use Rattle.face.proofs.CauseLaws.{cause_then, status_causes, no_causes}
-use Rattle.front_end.proofs.Endings.{refuses_devices}
 use Rattle.face.proofs.ToldFaults.{tells_fault, tells_none}
 use Rattle.face.proofs.Faults.{begins, halted, finished, run_contract}
-use Rattle.front_end.proofs.Firsts.{first_halted, first_none}
 use Rattle.face.proofs.Hearings.{heard_done, heard_halted}
 use Rattle.face.proofs.Statuses.{not_zero}
 use Rattle.face.proofs.running.serve.Goals as goal

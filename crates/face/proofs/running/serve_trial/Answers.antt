@@ -1,4 +1,4 @@
-use Rattle.std.proofs.Common.{[], ◌∷◌}
+use Rattle.face.proofs.Names.{[], ◌∷◌}
 use Rattle.face.proofs.running.serve_trial.Goals as goal
 
 pub returns-in-Err-clause-trial : goal.returns-in-Err-clause-trial

@@ -1,8 +1,4 @@
-use Rattle.std.proofs.Common.{ℕ, ap}
-use Rattle.site.specs.State.{State as Site}
-use Rattle.mem_site.specs.MemState.{state_of}
-use Rattle.face.specs.Living.{HasLivedOne}
-use Rattle.face.specs.Trial.{IsLived}
+use Rattle.face.proofs.Names.{ℕ, ap, HasLivedOne, IsLived, state_of, Site}
 use Rattle.face.proofs.Livings.{begun_so, fed_site, lived_one, with_status}
 use Rattle.face.proofs.trial.live.Goals as goal
 

@@ -1,8 +1,4 @@
-use Rattle.std.proofs.Common.{◌∙◌, ◌++◌, ◌+◌, ℕ, List, refl, sym, ap, subst, arith, add-one, ◌<◌, length}
-use Rattle.site.proofs.Laws.{stays_honest}
-use Rattle.face.specs.Run.{IsFront}
-use Rattle.workload.specs.Scripts.{lives_of as lives_in}
-use Rattle.face.specs.Trial.{life_line}
+use Rattle.face.proofs.Names.{◌∙◌, ◌++◌, ◌+◌, ℕ, List, refl, sym, ap, subst, arith, add-one, ◌<◌, length, IsFront, life_line, stays_honest, lives_in}
 use Rattle.face.proofs.Trials.{few_lives, goes_on, keeps_still, keeps_then, more_lives, none_yet, some_lives, told_in_part, told_last}
 use Rattle.face.proofs.trial.live_script.Goals as goal
 

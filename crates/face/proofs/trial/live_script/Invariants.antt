@@ -1,10 +1,5 @@
-use Rattle.std.proofs.Common.{◌≡◌, ◌<◌, IsTrue, length}
-use Rattle.site.specs.declared.geometry.Geometry.{Geometry}
-use Rattle.workload.specs.Scripts.{lives_of}
-use Rattle.front_end.specs.Faults.{SameFaults}
-use Rattle.face.specs.Trial.{IsNewSite}
+use Rattle.face.proofs.Names.{◌≡◌, ◌<◌, IsTrue, length, KeepsDevices, IsNewSite, SameFaults, Geometry, lives_in as lives_of}
 use Rattle.face.proofs.Trials.{Reached}
-use Rattle.face.specs.Living.{KeepsDevices}
 use Rattle.face.proofs.trial.live_script.Given as goal
 
 abbrev pub invariant-loop-place : goal.invariant-loop-place

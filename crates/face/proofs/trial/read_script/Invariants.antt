@@ -1,7 +1,4 @@
-use Rattle.std.proofs.Common.{◌≡◌, ◌≤◌, ◌-◌, ◌++◌, IsTrue, length}
-use Rattle.site.specs.Calls.{Preserves, SameReads}
-use Rattle.front_end.specs.Faults.{SameFaults}
-use Rattle.front_end.specs.Lines.{HearsOnly}
+use Rattle.face.proofs.Names.{◌≡◌, ◌≤◌, ◌-◌, ◌++◌, IsTrue, length, SameFaults, HearsOnly, Preserves, SameReads}
 use Rattle.face.proofs.trial.read_script.Given as goal
 
 abbrev pub invariant-loop-script : goal.invariant-loop-script

@@ -1,7 +1,4 @@
-use Rattle.std.proofs.Common.{◌∙◌, List, ℕ, subst}
-use Rattle.site.proofs.Laws.{stays_honest}
-use Rattle.face.specs.Living.{Ends}
-use Rattle.face.specs.Trial.{numbers_of}
+use Rattle.face.proofs.Names.{◌∙◌, List, ℕ, subst, Ends, numbers_of, stays_honest}
 use Rattle.face.proofs.Trials.{ends_since, keeps_heard, keeps_then}
 use Rattle.face.proofs.trial.run_script.Goals as goal
 

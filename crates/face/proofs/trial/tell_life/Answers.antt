@@ -1,8 +1,4 @@
-use Rattle.std.proofs.Common.{◌≡◌, ◌∙◌, ℕ, List, subst}
-use Rattle.site.proofs.Laws.{stays_honest}
-use Rattle.site.specs.Moments.{EachMoment}
-use Rattle.site.specs.Telling.{TellsPart}
-use Rattle.face.specs.Trial.{life_line}
+use Rattle.face.proofs.Names.{◌≡◌, ◌∙◌, ℕ, List, subst, life_line, stays_honest, EachMoment, TellsPart}
 use Rattle.face.proofs.Trials.{keeps_then, keeps_told, on_err, told_first_part, told_part}
 use Rattle.face.proofs.trial.tell_life.Goals as goal
 

@@ -1,13 +1,6 @@
-use Rattle.std.proofs.Common.{◌∙◌, ap, inl, inr, subst, ⊎_elim}
+use Rattle.face.proofs.Names.{◌∙◌, ap, inl, inr, subst, ⊎_elim, Ends, IsHaltOfTrial, numbers_of, first_halted, first_none, RunFaults, fault_line, Halt, stays_honest}
 use Rattle.std.specs.Prelude.{Err, IfErr, Result}
-use Rattle.site.proofs.Laws.{stays_honest}
-use Rattle.front_end.specs.Faults.{RunFaults}
-use Rattle.face.specs.Living.{Ends, IsHaltOfTrial}
-use Rattle.front_end.specs.Texts.{fault_line}
-use Rattle.face.specs.Trial.{numbers_of}
-use Rattle.front_end.specs.declared.halt.Halt.{Halt}
 use Rattle.face.proofs.Trials.{caused_by, keeps_then, keeps_told, numbers_unbegun, told_and_fault}
-use Rattle.front_end.proofs.Firsts.{first_halted, first_none}
 use Rattle.face.proofs.trial.trial.Goals as goal
 
 pub returns-in-Err-clause-trial : goal.returns-in-Err-clause-trial
