@@ -28,6 +28,21 @@ verdict 'the last of them' $?
 told 'words that are wrong' 2 'fault words' '' archive 18446744073709551616
 told 'the largest number' 12 'ahead 101' '' archive 18446744073709551615
 
+# --- what was told, read again; no file is opened
+mkdir "$folder/none"
+told 'an archive that begins behind block 0' 13 'fault stream 1' "$(head -n 1 "$folder/all")/" verify 16
+cd "$folder/none" || exit 1
+told 'an archive' 0 'verified 1' "$block/end 1/end 1" verify 16
+told 'a block twice' 13 'fault stream 3' "$block/end 1/$block/" verify 16
+told 'a page that there is not' 13 'fault stream 1' "${block:0:48}ff${block:50}/" verify 16
+told 'an octet that changed' 13 'fault stream 1' "${block/0a0b/0a0b01}/" verify 16
+printf 'block 0\n' | "$face" verify 16 2>"$folder/said" >/dev/null
+[ $? -eq 13 ] && grep -q '^face: that line ' "$folder/said"
+verdict 'what is said of it' $?
+[ -z "$(ls -A)" ]
+verdict 'no file was made' $?
+cd "$folder/db" || exit 1
+
 # --- files that it can't use
 if has flock; then
     prefix=(flock face.log)

@@ -7,13 +7,13 @@
 mkdir "$folder/db"
 cd "$folder/db" || exit 1
 says 'no words' 2 "face: there are no words, or one of them isn't UTF-8 text"
-known='and not new, run, load, simulate, trial, check or archive'
+known='and not new, run, load, simulate, trial, check, archive or verify'
 says 'help' 2 "face: word 1 is \"help\", $known" help
 says 'a word that ends with a newline' 2 "face: word 1 is \"run\\\\n\", $known" $'run\n'
 says 'a flag' 2 "face: word 1 is \"--help\", $known" --help
 says 'the usage' 2 'usage: face new PAGES GROUPS BLOCKS .*' --help
-[ "$(grep -v -c '^face: ' "$folder/said")" -eq 14 ] && [ "$(cat "$folder/out")" = 'fault words' ]
-verdict 'the usage has fourteen lines' $?
+[ "$(grep -v -c '^face: ' "$folder/said")" -eq 15 ] && [ "$(cat "$folder/out")" = 'fault words' ]
+verdict 'the usage has fifteen lines' $?
 says 'a number that is none' 2 'face: word 3 is "10", which is no GROUPS' new 16 10 64
 says 'a word that is missing' 2 'face: SEED is missing' load 1
 says 'no pool' 2 'face: POOL is missing' run

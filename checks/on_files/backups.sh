@@ -1,0 +1,40 @@
+#!/usr/bin/env bash
+# bin/backup over real files: a sample of checks/backups, and what it says where it can't go on.
+. "$(dirname "$(readlink -f "$0")")/helpers.bash"
+
+if has python3; then
+    FACE=$face "$root/checks/backups" 8 2>"$folder/said" >"$folder/out"
+    verdict "backups with kills: $(cat "$folder/said")" $?
+else
+    skip 'backups with kills: needs python3'
+fi
+
+# --- a folder of archives
+fresh
+mkdir "$folder/kept"
+export FACE=$face
+"$root/bin/backup" "$folder/kept" >"$folder/out" 2>&1
+[ $? -eq 0 ] && [ "$(cat "$folder/out")" = 'nothing is new behind block 0' ] && [ -z "$(ls "$folder/kept")" ]
+verdict 'nothing to archive' $?
+printf 'set 5 0a\n' | "$face" run 1 >/dev/null
+"$root/bin/backup" "$folder/kept" >/dev/null && printf 'set 6 0a\n' | "$face" run 1 >/dev/null && "$root/bin/backup" "$folder/kept" >/dev/null
+[ $? -eq 0 ] && [ "$(ls "$folder/kept" | tr '\n' ' ')" = '00000001.archive 00000002.archive ' ]
+verdict 'two archives' $?
+[ "$("$root/bin/backup" --check "$folder/kept")" = 'verified 2' ]
+verdict 'they are read' $?
+seq 0 99 | awk '{ print "set", $1, "aa" }' | "$face" run 4 >/dev/null
+"$root/bin/backup" "$folder/kept" >/dev/null 2>"$folder/said"
+[ $? -eq 12 ] && grep -q 'written over blocks 2 to 38' "$folder/said" && [ "$(ls "$folder/kept" | wc -l)" -eq 2 ]
+verdict 'a log that was written over' $?
+fresh
+"$root/bin/backup" "$folder/kept" >/dev/null 2>"$folder/said"
+[ $? -eq 12 ] && grep -q "another database's" "$folder/said"
+verdict 'another database' $?
+if has flock; then
+    flock face.log "$root/bin/backup" "$folder/kept" >/dev/null 2>"$folder/said"
+    [ $? -eq 9 ] && grep -q 'no file was made' "$folder/said" && [ "$(ls "$folder/kept" | wc -l)" -eq 2 ]
+    verdict 'beside a run' $?
+else
+    skip 'a backup beside a run: needs flock'
+fi
+finish
