@@ -1,9 +1,8 @@
 -- Lines are carried out, one after the other.
-use Rattle.std.proofs.Common.{◌≡◌, ◌≢◌, ◌⊎◌, inl, inr, ⊎_elim, ℕ, zero, suc, ◌+◌, ◌≤◌, Bool, true, false, List, [], ◌∷◌, ◌++◌, length, take, drop, refl, sym, ◌∙◌, ap, subst, arith, append_assoc, append-nil, length-append, cond, Ok, Err, Result, Some}
+use Rattle.std.proofs.Common.{◌≡◌, ◌≢◌, ℕ, suc, false, List, [], ◌∷◌, ◌++◌, length, take, drop, refl, sym, ◌∙◌, ap, subst, arith, append_assoc, length-append, cond, Ok, Err, Result, Some}
 use Rattle.std.proofs.lemmas.List.{drop_at, take_at}
-use Rattle.std.specs.List.{AllByRecursion}
 use Rattle.std_lemmas.proofs.AllOf.{all_push}
-use Rattle.site.specs.State.{State as Site, Snapshot, IsQuiet}
+use Rattle.site.specs.State.{State as Site, IsQuiet}
 use Rattle.site.specs.Moments.{LeavesOnly}
 use Rattle.site.specs.declared.geometry.Geometry.{Geometry}
 use Rattle.record_model.specs.State.{State}
@@ -11,7 +10,6 @@ use Rattle.record_model.specs.Run.{Line, is_quit}
 use Rattle.record_model.specs.declared.words.Command.{Command}
 use Rattle.record_model.specs.declared.words.Reply.{Reply}
 use Rattle.engine.specs.declared.engine.Engine.{Engine}
-use Rattle.engine.specs.Invariant.{sizes_of}
 use Rattle.engine.specs.Leaves.{LeavesEither}
 use Rattle.engine.specs.Representation.{Matches}
 use Rattle.front_end.specs.declared.halt.Halt.{Halt}
@@ -20,7 +18,7 @@ use Rattle.front_end.specs.Lines.{up_to_quit}
 use Rattle.front_end.specs.Texts.{status_of}
 use Rattle.face.specs.Carrying.{CarriesUntold}
 use Rattle.face.specs.Causes.{AnswerFailsBy}
-use Rattle.face.specs.Run.{Run, StandsFor, after_lines, answered, state_at, step}
+use Rattle.face.specs.Run.{StandsFor, after_lines, answered, state_at, step}
 use Rattle.face.specs.RunInProgress.{HasServed}
 use Rattle.face.proofs.LinesBeforeQuit.{NoneQuits, after_cons}
 use Rattle.face.proofs.RunsSoFar.{going_stands}

@@ -1,25 +1,28 @@
 -- The last line is told.
-use Rattle.std.proofs.Common.{◌≡◌, ◌≢◌, ◌⊎◌, inl, inr, ⊎_elim, ℕ, zero, suc, ◌+◌, ◌≤◌, List, [], ◌++◌, take, refl, sym, ◌∙◌, ap, subst, arith, append-nil, IsTrue, Result, Ok, Err}
-use Rattle.site.specs.State.{State as Site, Image, Moment, Snapshot, MayLeave, now_of, no_loose}
+use Rattle.std.proofs.Common.{◌≡◌, ◌≢◌, ◌⊎◌, inl, inr, ⊎_elim, ℕ, zero, suc, List, [], ◌++◌, take, refl, sym, ◌∙◌, ap, subst, append-nil, IsTrue, Result, Ok, Err}
+use Rattle.std.specs.Prelude.{⊤}
+use Rattle.site.specs.State.{State as Site, Image, Snapshot, no_loose}
 use Rattle.site.specs.Calls.{Preserves}
-use Rattle.site.specs.Moments.{EachMoment, Leaves, LeavesOnly}
-use Rattle.site.specs.Telling.{SameDevices, TellsPart}
+use Rattle.site.specs.Moments.{Leaves, LeavesOnly}
+use Rattle.site.specs.Telling.{SameDevices}
 use Rattle.site.specs.declared.outside.Failed.{Failed}
 use Rattle.site.specs.declared.geometry.Geometry.{Geometry}
 use Rattle.site.proofs.Laws.{in_sequence, leaves_weaker, rose_then, stays_honest, tell_leaves}
 use Rattle.log_archive.specs.Accepted.{Stream}
-use Rattle.front_end.specs.New.{IsNotBlank}
-use Rattle.front_end.specs.Tells.{EndsWith, Tells}
-use Rattle.front_end.specs.declared.halt.Halt.{Halt}
+use Rattle.site.specs.declared.outside.Stop.TheVariants.{Foreign}
+use Rattle.front_end.specs.New.{IsNotBlank, unfit_line}
+use Rattle.front_end.specs.Refusals.{RefusesDevices}
+use Rattle.front_end.specs.Tells.{Tells}
 use Rattle.front_end.specs.declared.halt.Halt.TheVariants as halt
 use Rattle.front_end.specs.declared.new_database.Unfit.{Unfit}
 use Rattle.front_end.specs.declared.new_database.Unfit.TheVariants as unfit
-use Rattle.front_end.proofs.Endings.{ends_with}
+use Rattle.front_end.proofs.Endings.{ends_with, refuses_devices}
 use Rattle.face.proofs.CauseLaws.{cause_then}
 use Rattle.archive_restore.specs.declared.fault.Fault.{Fault}
 use Rattle.archive_restore.specs.declared.fault.Fault.TheVariants as fault
 use Rattle.archive_restore.specs.Contract.{EndsSo, RestoreHeadline, RestoreOutcome}
-use Rattle.archive_restore.specs.Restores.{EndsBy, IsBetween, IsLeft, IsTarget, StandsAfter, StandsNear}
+use Rattle.archive_restore.specs.Refusing.{RefusesFilled, RefusesSizes, RefusesWritten}
+use Rattle.archive_restore.specs.Restores.{EndsBy, IsLeft, StandsAfter, StandsNear}
 use Rattle.archive_restore.specs.Texts.{fault_line, fault_status, restored_line}
 
 unfit_then : (u : Unfit) (a b c : Site) → IsNotBlank u a b → Preserves b c → IsNotBlank u a c
@@ -100,3 +103,21 @@ headline_stopped count status g old mid new f o told tells honest goes is =
       ends_then f g o.lines o.behind o.s o.begun old mid new o.stops.0 tells.preserves (λ h. tells.devices honest),
       λ between. let b = o.stops.1 between in (b.0, stands_told count g old mid new (Err f) o (fault_line f) told tells honest o.begun b.1),
     )) (λ ne. o.stops.2 (λ e. ne (is ∙ e)))
+
+-- Devices that are refused.
+
+pub refuses_told : {U : Type 0} (f : Fault) (status : ℕ) (old mid new : Site) (told : Result U Failed) → status ≡ fault_status f → RefusesSizes {T = ⊤} (Err f) old mid → Tells (fault_line f) mid new told → RefusesDevices status old new
+refuses_told f status old mid new told is refused tells =
+    refuses_devices (halt.Stop Foreign) status old mid new told (is ∙ ap fault_status refused.0) (refl, refused.1) (subst (λ (x : Fault). Tells (fault_line x) mid new told) refused.0 tells)
+
+pub filled_told : {U : Type 0} (f : Fault) (status : ℕ) (old mid new : Site) (told : Result U Failed) → Preserves old mid → IsTrue old.honest → status ≡ fault_status f → RefusesWritten {T = ⊤} (Err f) old mid → Tells (fault_line f) mid new told → RefusesFilled status old new
+filled_told f status old mid new told goes honest is (u, same_fault, why, still) tells =
+    let there = stays_honest old mid goes honest in
+    let devices = tells.devices there in
+    record {
+      unfit = u;
+      is = is ∙ ap fault_status same_fault;
+      why = unfit_then u old mid new why tells.preserves;
+      line = ends_with old.told (unfit_line u) old mid new told goes there still.told (subst (λ (x : Fault). Tells (fault_line x) mid new told) same_fault tells);
+      devices = record { image = devices.image ∙ still.image; loose = devices.loose ∙ still.loose; left = devices.left ∙ still.left };
+    }

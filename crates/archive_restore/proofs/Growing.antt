@@ -1,5 +1,5 @@
 -- A line adds nets to a stream, and takes none away.
-use Rattle.std.proofs.Common.{◌≡◌, ◌⊎◌, inl, inr, ⊎_elim, ℕ, zero, suc, ◌+◌, ◌*◌, ◌<◌, ◌≤◌, ◌==◌, Bool, true, false, cond, ◌&&◌, List, [], ◌∷◌, ◌++◌, length, take, refl, sym, ◌∙◌, ap, subst, arith, append_assoc, append-nil}
+use Rattle.std.proofs.Common.{◌≡◌, inl, inr, ℕ, zero, suc, ◌+◌, ◌*◌, ◌<◌, ◌≤◌, ◌==◌, Bool, true, false, cond, ◌&&◌, List, [], ◌∷◌, ◌++◌, length, take, refl, sym, ◌∙◌, ap, arith, append_assoc, append-nil}
 use Rattle.std.specs.Prelude.{Option, Some, None, not, nat_lt, option_and_then, slice_index_or, flat_map}
 use Rattle.std.proofs.lemmas.Option.{same_Some}
 use Rattle.record_model.specs.State.{Content, Write, content_at, table_with}
@@ -7,7 +7,7 @@ use Rattle.log_records.specs.declared.log_record.LogRecord.{LogRecord}
 use Rattle.log_records.specs.declared.log_record.LogRecord.TheVariants.{Begin, Update, Clr, Commit, End}
 use Rattle.log_records.specs.Log.{entries_from}
 use Rattle.log_records.specs.Spelling.{spelling}
-use Rattle.log_archive.specs.Accepted.{AfterLine, Standing, Stream, Unclosed, after_block, after_clr, after_commit, after_end, after_entries, after_record, after_update, archive_table, commits_in, is_taken, same_content, unclosed_of, with_next, with_write, without}
+use Rattle.log_archive.specs.Accepted.{AfterLine, Standing, Stream, Unclosed, after_clr, after_commit, after_end, after_entries, after_record, after_update, archive_table, commits_in, is_taken, same_content, unclosed_of, with_next, with_write, without}
 
 -- these nets stand in front of those
 pub record Grows (s now : Stream) : Type 0 where

@@ -1,15 +1,15 @@
 -- A line more is heard.
-use Rattle.std.proofs.Common.{◌≡◌, ◌⊎◌, inl, inr, ⊎_elim, ℕ, zero, suc, ◌+◌, ◌-◌, ◌*◌, ◌^◌, ◌<◌, ◌≤◌, Bool, true, false, List, [], ◌∷◌, ◌++◌, length, take, drop, refl, sym, ◌∙◌, ap, subst, arith, append_assoc, append-nil, length-append, IsTrue}
+use Rattle.std.proofs.Common.{◌≡◌, inl, inr, ℕ, ◌+◌, ◌-◌, ◌^◌, ◌<◌, ◌≤◌, Bool, true, List, [], ◌∷◌, ◌++◌, length, take, drop, refl, sym, ◌∙◌, ap, subst, arith, append_assoc, length-append, IsTrue}
 use Rattle.std.specs.Prelude.{codes, decimal}
 use Rattle.std.proofs.lemmas.Fmt.{length-decimal-le}
 use Rattle.hex.specs.Hex.{encode_lower, lower_digits}
 use Rattle.hex.proofs.HexLemmas.{length-encode_with}
 use Rattle.site.specs.State.{State as Site, Image, Snapshot, now_of, no_loose}
 use Rattle.site.specs.Calls.{Preserves}
-use Rattle.site.specs.Moments.{Leaves, LeavesOnly}
+use Rattle.site.specs.Moments.{Leaves}
 use Rattle.site.proofs.Laws.{calm, image_is, leaves_weaker, now_same}
 use Rattle.site.specs.declared.geometry.Geometry.{Geometry}
-use Rattle.record_model.specs.State.{Content, State, Write}
+use Rattle.record_model.specs.State.{Content, State}
 use Rattle.record_model.specs.Run.{Line}
 use Rattle.shell_text.specs.Runs.{lines_of}
 use Rattle.log_archive.specs.Accepted.{Accepted, AfterLine, Stream, archive_table, blank_stream}
@@ -27,7 +27,6 @@ use Rattle.stream_lines.specs.declared.source.Source.{Source}
 use Rattle.engine.specs.declared.engine.Engine.{Engine}
 use Rattle.engine.specs.Image.{Stands}
 use Rattle.face.specs.Image.{blank_table}
-use Rattle.face.specs.RunInProgress.{HasServed}
 use Rattle.face.proofs.Serving.{served_heard}
 use Rattle.archive_restore.specs.declared.restoring.Restoring.{Restoring}
 use Rattle.archive_restore.specs.declared.fault.Fault.{Fault}

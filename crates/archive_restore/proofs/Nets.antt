@@ -1,24 +1,21 @@
 -- One net more.
-use Rattle.std.proofs.Common.{◌≡◌, ◌⊎◌, inl, inr, ⊎_elim, ℕ, zero, suc, ◌+◌, ◌-◌, ◌*◌, ◌<◌, ◌≤◌, List, [], ◌∷◌, ◌++◌, length, take, drop, refl, sym, ◌∙◌, ap, subst, arith, append_assoc, append-nil, length-append}
+use Rattle.std.proofs.Common.{◌≡◌, inl, ⊎_elim, ℕ, zero, suc, ◌+◌, ◌≤◌, List, [], ◌∷◌, ◌++◌, length, take, refl, sym, ◌∙◌, ap, subst, arith, append_assoc, append-nil, length-append}
 use Rattle.std.specs.Prelude.{flat_map, slice_set}
 use Rattle.std.proofs.lemmas.Grind.{flat_map-append}
-use Rattle.std.proofs.lemmas.List.{length-take-le, take_at, take-append-drop}
-use Rattle.std.proofs.lemmas.Bool.{cases_lt}
+use Rattle.std.proofs.lemmas.List.{length-take-le, take_at}
 use Rattle.site.specs.State.{State as Site, Snapshot}
 use Rattle.site.specs.Moments.{Leaves, LeavesOnly}
-use Rattle.site.proofs.Laws.{holds_now, in_sequence, leaves_weaker}
+use Rattle.site.proofs.Laws.{in_sequence, leaves_weaker}
 use Rattle.site.specs.declared.geometry.Geometry.{Geometry}
 use Rattle.record_model.specs.State.{Content, State, Write, table_with}
 use Rattle.record_model.specs.Run.{Line}
 use Rattle.log_archive.specs.Accepted.{Stream, archive_table}
-use Rattle.log_replay.specs.declared.replay.Replay.{Replay}
-use Rattle.log_replay.specs.Stands.{StandsFor}
-use Rattle.net_lines.specs.Nets.{Fits, idle, net_lines}
+use Rattle.net_lines.specs.Nets.{net_lines}
 use Rattle.engine.specs.Image.{Stands}
 use Rattle.face.specs.Image.{blank_table}
 use Rattle.face.specs.Run.{after_lines, step}
 use Rattle.face.proofs.LinesBeforeQuit.{after_cons}
-use Rattle.archive_restore.specs.Restores.{HaveFit, IsLeft, StandsAfter, lines_of_nets}
+use Rattle.archive_restore.specs.Restores.{IsLeft, lines_of_nets}
 use Rattle.archive_restore.specs.Writing.{LeavesNet}
 
 -- tables and lines behind one net more

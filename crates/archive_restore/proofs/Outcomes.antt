@@ -1,16 +1,15 @@
 -- What comes of a restore, since the devices were tested.
-use Rattle.std.proofs.Common.{◌≡◌, ◌≢◌, ◌⊎◌, inl, inr, ⊎_elim, ℕ, ◌+◌, ◌^◌, ◌<◌, ◌≤◌, List, [], ◌∷◌, ◌++◌, length, take, drop, true, refl, sym, ◌∙◌, ap, subst, arith, Ok, Err, IsTrue}
+use Rattle.std.proofs.Common.{◌≡◌, ℕ, ◌+◌, ◌^◌, ◌<◌, ◌≤◌, List, [], ◌++◌, length, drop, true, refl, sym, ◌∙◌, ap, subst, arith, Ok, Err}
 use Rattle.std.specs.List.{AllByRecursion}
-use Rattle.site.specs.State.{State as Site, Image, Input, Moment, Snapshot, now_of}
+use Rattle.site.specs.State.{State as Site, Image, Input, Moment, now_of}
 use Rattle.site.specs.Calls.{IsUnchanged, Preserves}
 use Rattle.site.specs.Moments.{EachMoment, Leaves, LeavesOnly}
 use Rattle.site.proofs.Laws.{goes_nowhere, image_is, rose_since, stays_honest, unchanged}
 use Rattle.site.specs.declared.geometry.Geometry.{Geometry}
 use Rattle.shell_text.specs.Runs.{lines_of}
-use Rattle.stream_lines.specs.Lines.{IsSource, pending, to_hear, total}
+use Rattle.stream_lines.specs.Lines.{IsSource, pending, to_hear}
 use Rattle.log_archive.specs.Accepted.{Accepted, Stream, blank_stream}
 use Rattle.front_end.specs.New.{IsFirstOfAll, IsNotBlank}
-use Rattle.front_end.specs.declared.halt.Halt.{Halt}
 use Rattle.front_end.specs.declared.halt.Halt.TheVariants as halt
 use Rattle.front_end.specs.declared.new_database.Unfit.{Unfit}
 use Rattle.front_end.specs.declared.new_database.Unfit.TheVariants as unfit

@@ -1,18 +1,18 @@
 -- The lines that write a net are carried out.
-use Rattle.std.proofs.Common.{◌≡◌, ◌≢◌, ◌⊎◌, inl, inr, ⊎_elim, ℕ, zero, suc, ◌+◌, ◌-◌, ◌*◌, ◌<◌, ◌≤◌, Bool, true, false, List, [], ◌∷◌, ◌++◌, length, map, take, refl, sym, ◌∙◌, ap, subst, arith, append_assoc, append-nil, Ok, Err, Result, Some, None}
+use Rattle.std.proofs.Common.{◌≡◌, ◌⊎◌, inl, inr, ⊎_elim, ℕ, zero, suc, ◌+◌, ◌-◌, ◌*◌, ◌<◌, ◌≤◌, Bool, true, false, List, [], ◌∷◌, ◌++◌, length, map, take, refl, sym, ◌∙◌, ap, subst, arith, append_assoc, append-nil, Ok, Err, Result, Some, None}
 use Rattle.std.proofs.lemmas.Bool.{ltb-false}
 use Rattle.std.specs.Prelude.{IfErr, nat_lt, slice_index_or, if◌then◌else◌}
-use Rattle.site.specs.State.{State as Site, Snapshot, Image, MayLeave, Moment, now_of}
+use Rattle.site.specs.State.{State as Site, Snapshot, Image, now_of}
 use Rattle.site.specs.Moments.{Leaves, LeavesOnly}
 use Rattle.std.proofs.lemmas.List.{length-map, take_all, length-append}
 use Rattle.site.proofs.Laws.{holds_now, image_is, in_sequence, leaves_weaker, no_call, told_is}
 use Rattle.site.specs.declared.geometry.Geometry.{Geometry}
-use Rattle.record_model.specs.State.{Content, State, Write, table_with, used}
+use Rattle.record_model.specs.State.{Content, State, Write, table_with}
 use Rattle.record_model.specs.Run.{Line, is_quit}
 use Rattle.record_model.specs.declared.words.Command.{Command}
 use Rattle.record_model.specs.declared.words.Command.TheVariants as command
 use Rattle.record_model.specs.declared.words.Reply.{Reply}
-use Rattle.net_lines.specs.Nets.{AreWritable, idle, line_writing, net_lines, session_lines, tight}
+use Rattle.net_lines.specs.Nets.{idle, line_writing, net_lines, session_lines, tight}
 use Rattle.net_lines.proofs.Model.{kept_at_begin}
 use Rattle.net_lines.proofs.Session.{IsAt, at_end, at_next, at_start, either_at}
 use Rattle.engine.specs.declared.engine.Engine.{Engine}
@@ -22,7 +22,7 @@ use Rattle.front_end.specs.declared.halt.Halt.{Halt}
 use Rattle.face.specs.Carrying.{CarriesUntold}
 use Rattle.face.specs.Run.{StandsFor, step}
 use Rattle.archive_restore.specs.Writing.{FailsToWrite, HasCarried, HasFreed, HasWrittenNet, IsFree, LeavesNet}
-use Rattle.archive_restore.proofs.Carried.{carried_fits, carried_leaves, carried_next, carried_quiet, carried_stands, failed_quiet}
+use Rattle.archive_restore.proofs.Carried.{carried_leaves, carried_next, carried_quiet, carried_stands, failed_quiet}
 
 -- the lines of a session don't quit
 writes_on : (number : ℕ) (content : Content) (c : Command) → Some c ≡ line_writing number content → is_quit (Some c) ≡ false

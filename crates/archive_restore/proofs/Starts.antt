@@ -1,5 +1,5 @@
 -- A restore begins: the devices are blank.
-use Rattle.std.proofs.Common.{◌≡◌, ◌≢◌, inl, ℕ, zero, suc, ◌+◌, ◌*◌, ◌-◌, ◌<◌, ◌≤◌, max, List, [], ◌∷◌, ◌++◌, length, take, drop, None, IsTrue, true, false, true≢false, refl, sym, ◌∙◌, ap, subst, arith}
+use Rattle.std.proofs.Common.{◌≡◌, ◌≢◌, inl, ℕ, zero, suc, ◌*◌, ◌-◌, ◌<◌, max, List, [], ◌∷◌, ◌++◌, length, take, drop, None, true, false, true≢false, refl, sym, ◌∙◌, ap, subst, arith}
 use Rattle.std.specs.Prelude.{replicate, slice_index_or}
 use Rattle.std.proofs.lemmas.List.{length-replicate}
 use Rattle.site.specs.State.{State as Site, Image, Input, Snapshot, MayLeave, now_of, no_loose}
@@ -18,10 +18,8 @@ use Rattle.site.specs.Calls.{IsUnchanged, Preserves}
 use Rattle.site.proofs.Laws.{holds_now, image_is, in_sequence, leaves_weaker, no_call, rose_since, stays_honest, told_is, unchanged_calm}
 use Rattle.record_model.specs.State.{Content, content_at, length_of}
 use Rattle.log_archive.specs.Accepted.{Stream, blank_stream}
-use Rattle.log_replay.specs.declared.replay.Replay.{Replay}
 use Rattle.log_replay.specs.Stands.{StandsFor}
 use Rattle.net_lines.specs.Nets.{AreLengths, while_writing}
-use Rattle.engine.specs.declared.engine.Engine.{Engine}
 use Rattle.engine.specs.Image.{Opens, Stands}
 use Rattle.site.specs.Telling.{TellsPart}
 use Rattle.engine.specs.Leaves.{LeavesTable}
@@ -32,7 +30,7 @@ use Rattle.archive_restore.specs.declared.restoring.Restoring.{Restoring}
 use Rattle.archive_restore.specs.Progress.{HasHeard, HasWritten, StopsRestoring}
 use Rattle.archive_restore.specs.Restores.{EndsBy, IsBetween, IsLeft, IsTarget, StandsAfter}
 use Rattle.archive_restore.specs.Texts.{fault_status}
-use Rattle.archive_restore.specs.Writing.{HasCarried, blank_state}
+use Rattle.archive_restore.specs.Writing.{blank_state}
 
 zeros : (xs : List ℕ) → ((i : ℕ) → i < length xs → slice_index_or xs i 0 ≡ 0) → xs ≡ replicate (length xs) 0
 zeros [] h = refl

@@ -1,12 +1,11 @@
 -- A restore has written one commit more, or ends at it.
-use Rattle.std.proofs.Common.{◌≡◌, ◌≢◌, ◌⊎◌, inl, inr, ⊎_elim, ℕ, zero, suc, ◌+◌, ◌-◌, ◌*◌, ◌<◌, ◌≤◌, List, [], ◌∷◌, ◌++◌, length, take, refl, sym, ◌∙◌, ap, subst, arith, append-nil, IsTrue}
+use Rattle.std.proofs.Common.{◌≡◌, ◌≢◌, ⊎_elim, ℕ, zero, suc, ◌+◌, ◌-◌, ◌*◌, ◌<◌, ◌≤◌, List, [], ◌∷◌, ◌++◌, length, take, refl, sym, ◌∙◌, ap, subst, arith}
 use Rattle.std.specs.Prelude.{slice_index_or}
 use Rattle.std.specs.List.{AllByRecursion}
 use Rattle.std.proofs.lemmas.Bool.{cases_lt}
 use Rattle.std.proofs.lemmas.List.{length-take-le}
 use Rattle.std_lemmas.proofs.AllOf.{all_between}
-use Rattle.site.specs.State.{State as Site, Image, Snapshot, MayLeave, now_of, no_loose}
-use Rattle.site.specs.Moments.{LeavesOnly}
+use Rattle.site.specs.State.{State as Site, Image, Snapshot, now_of, no_loose}
 use Rattle.site.proofs.Laws.{holds_now, image_is}
 use Rattle.site.specs.declared.geometry.Geometry.{Geometry}
 use Rattle.record_model.specs.State.{Content, State, Write, table_with}
@@ -20,7 +19,6 @@ use Rattle.engine.specs.declared.engine.Engine.{Engine}
 use Rattle.engine.specs.Image.{Stands}
 use Rattle.front_end.specs.declared.halt.Halt.{Halt}
 use Rattle.front_end.specs.declared.halt.Halt.TheVariants as halt
-use Rattle.front_end.specs.Texts.{status_of}
 use Rattle.face.specs.Causes.{HasCause}
 use Rattle.face.specs.Image.{blank_table}
 use Rattle.face.specs.RunInProgress.{GoesOn}
@@ -29,10 +27,10 @@ use Rattle.stream_lines.specs.declared.source.Source.{Source}
 use Rattle.archive_restore.specs.declared.fault.Fault.TheVariants as fault
 use Rattle.archive_restore.specs.declared.restoring.Restoring.{Restoring}
 use Rattle.archive_restore.specs.Progress.{GoesOnRestoring, HasWritten, IsPopped, StopsRestoring}
-use Rattle.archive_restore.specs.Restores.{EndsBy, FitsAt, HaveFit, IsBetween, IsLeft, StandsAfter, StandsNear, lines_of_nets, net_at}
+use Rattle.archive_restore.specs.Restores.{EndsBy, FitsAt, HaveFit, IsBetween, StandsAfter, StandsNear, lines_of_nets, net_at}
 use Rattle.archive_restore.specs.Writing.{FailsToWrite, HasCarried, HasWrittenNet, LeavesNet, blank_state}
 use Rattle.archive_restore.proofs.Carried.{carried_quiet, carried_stands}
-use Rattle.archive_restore.proofs.Nets.{left_by_net, lines_push, moments_more, one_more_there, split_there, table_there, take_there}
+use Rattle.archive_restore.proofs.Nets.{lines_push, moments_more, one_more_there, split_there, table_there, take_there}
 
 at_place : (front : List (List Write)) (x : List Write) (rest : List (List Write)) (k : ℕ) → length front ≡ k → slice_index_or (front ++ x ∷ rest) k [] ≡ x
 at_place [] x rest zero is = refl

@@ -1,9 +1,7 @@
 -- What a restore does with blank devices, and what a crash at any moment of it leaves.
-use Rattle.std.specs.Prelude.{◌≡◌, ◌⊎◌, ℕ, ◌+◌, ◌-◌, ◌≤◌, ◌<◌, List, [], ◌∷◌, ◌++◌, false, length, slice_index_or}
+use Rattle.std.specs.Prelude.{◌≡◌, ◌⊎◌, ℕ, ◌+◌, ◌-◌, ◌≤◌, ◌<◌, List, [], ◌∷◌, ◌++◌, length, slice_index_or}
 use Rattle.std.specs.Prelude.{take, true, IsTrue}
-use Rattle.std.specs.List.{AllByRecursion}
 use Rattle.site.specs.State.{State as Site, Image, Snapshot, no_loose}
-use Rattle.site.specs.declared.outside.Take.{Take}
 use Rattle.site.specs.declared.geometry.Geometry.{Geometry}
 use Rattle.site.specs.Geometry.{HasLimits, HasLengths}
 use Rattle.record_model.specs.State.{State, Write}

@@ -1,5 +1,5 @@
 -- What a restore tells, and its statuses.
-use Rattle.std.specs.Prelude.{◌≡◌, ◌⊎◌, ℕ, List, ◌++◌, codes, decimal}
+use Rattle.std.specs.Prelude.{ℕ, List, ◌++◌, codes, decimal}
 use Rattle.front_end.specs.New.{unfit_line, unfit_status}
 use Rattle.front_end.specs.Texts as texts
 use Rattle.archive_restore.specs.declared.fault.Fault.{Fault}

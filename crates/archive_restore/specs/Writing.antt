@@ -4,7 +4,7 @@ use Rattle.std.specs.List.{AllByRecursion}
 use Rattle.site.specs.State.{State as Site, Snapshot, no_loose}
 use Rattle.site.specs.declared.geometry.Geometry.{Geometry}
 use Rattle.site.specs.Moments.{LeavesOnly}
-use Rattle.record_model.specs.State.{Content, State, Write, opened, table_with, used}
+use Rattle.record_model.specs.State.{Content, State, Write, opened, table_with}
 use Rattle.record_model.specs.Run.{Line, is_quit}
 use Rattle.record_model.specs.declared.words.Command.TheVariants.{Checkpoint}
 use Rattle.std.specs.Prelude.{Some}

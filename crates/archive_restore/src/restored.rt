@@ -1,5 +1,8 @@
 // The work of `restore`.
-ghost use Rattle.std.specs.Prelude.{◌≤◌};
+ghost use Rattle.std.specs.Prelude.{◌≤◌, IsTrue};
+ghost use Rattle.engine.specs.Leaves.{HasNoSizes};
+ghost use Rattle.front_end.specs.Refusals.{RefusesDevices};
+ghost use Rattle.archive_restore.specs.Refusing.{IsWritten, RefusesFilled, RefusesSizes, RefusesWritten};
 ghost use Rattle.site.specs.Calls.{Preserves};
 ghost use Rattle.archive_restore.specs.Contract.{RestoreContract, RestoreOutcome};
 ghost use Rattle.archive_restore.specs.Restores.{IsTarget};
@@ -19,6 +22,9 @@ fn restore_commits<S: Site>(alloc: Global, count: u64, pool: u32, site: &mut S) 
     requires pool { (1 ≤ pool) × (pool ≤ 4096) }
     ensures restores { (g : Geometry) → IsTarget g (S.state site.old)
         → RestoreOutcome count g (S.state site.old) (S.state site.new) result }
+    ensures refuses { HasNoSizes (S.state site.old) → RefusesSizes result (S.state site.old) (S.state site.new) }
+    ensures unfit { IsTrue (S.state site.old).honest → IsWritten (S.state site.old)
+        → RefusesWritten result (S.state site.old) (S.state site.new) }
     ensures preserves { Preserves (S.state site.old) (S.state site.new) }
 {
     let mut restoring = match Restoring::start(alloc, pool, site) {
@@ -45,7 +51,14 @@ fn restore_commits<S: Site>(alloc: Global, count: u64, pool: u32, site: &mut S) 
 pub fn restore<S: Site>(alloc: Global, count: u64, pool: u32, site: &mut S) -> u8
     requires from { 1 ≤ pool }
     requires to { pool ≤ 4096 }
+    // What is told, what a crash at any moment leaves, and when each status comes.
     ensures restore { RestoreContract count (S.state site.old) (S.state site.new) result }
+    // Devices without sizes have status 9.
+    ensures sizes { HasNoSizes (S.state site.old) → RefusesDevices result (S.state site.old) (S.state site.new) }
+    // Of every honest site: devices that aren't blank have 10, unless a read fails, and nothing of them is changed.
+    ensures unfit { IsTrue (S.state site.old).honest → IsWritten (S.state site.old)
+        → RefusesFilled result (S.state site.old) (S.state site.new) }
+    ensures preserves { Preserves (S.state site.old) (S.state site.new) }
 {
     match restore_commits(alloc, count, pool, site) {
         Ok(()) => match tell_restored(site, count) {

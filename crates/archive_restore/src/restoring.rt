@@ -14,6 +14,8 @@ ghost use Rattle.front_end.specs.New.{IsBlank, IsNotBlank};
 ghost use Rattle.site.specs.declared.outside.Stop.{Stop};
 ghost use Rattle.front_end.specs.declared.halt.Halt.{Halt};
 ghost use Rattle.archive_restore.specs.declared.fault.Fault.{Fault};
+ghost use Rattle.engine.specs.Leaves.{HasNoSizes};
+ghost use Rattle.archive_restore.specs.Refusing.{IsWritten, RefusesSizes, RefusesWritten};
 ghost use Rattle.archive_restore.specs.Restores.{IsTarget};
 ghost use Rattle.archive_restore.specs.Progress.{GoesOnRestoring, HasHeard, HasWritten, IsPopped, StopsRestoring};
 
@@ -66,6 +68,9 @@ fn blank_sizes<S: Site>(site: &mut S) -> Result<Geometry, Fault>
     ensures same { IsTrue (S.state site.old).honest → IsUnchanged (S.state site.old) (S.state site.new) }
     ensures preserves { Preserves (S.state site.old) (S.state site.new) }
     ensures faults { OnOk result (SameFaults (S.state site.old) (S.state site.new)) }
+    ensures refuses { HasNoSizes (S.state site.old) → RefusesSizes result (S.state site.old) (S.state site.new) }
+    ensures unfit { IsTrue (S.state site.old).honest → IsWritten (S.state site.old)
+        → RefusesWritten result (S.state site.old) (S.state site.new) }
     ensures never { (g : Geometry) (behind : List (List ℕ)) (s : Stream) (count : ℕ) → IsTarget g (S.state site.old)
         → IfErr result (StopsRestoring g [] behind s count (S.state site.old) (S.state site.new)) }
 {
@@ -86,6 +91,9 @@ impl Restoring {
         ensures going { IfOk result (λ r. (tested : Site) × Preserves (S.state site.old) tested
             × SameFaults (S.state site.old) tested × GoesOnRestoring tested (S.state site.new) r) }
         ensures none { IfOk result (λ r. r.written ≡ 0) }
+        ensures refuses { HasNoSizes (S.state site.old) → RefusesSizes result (S.state site.old) (S.state site.new) }
+        ensures unfit { IsTrue (S.state site.old).honest → IsWritten (S.state site.old)
+            → RefusesWritten result (S.state site.old) (S.state site.new) }
         ensures preserves { Preserves (S.state site.old) (S.state site.new) }
         ensures begins { (g : Geometry) → IsTarget g (S.state site.old) → IfOk result (λ r. (tested : Site)
             × IsUnchanged (S.state site.old) tested × Preserves (S.state site.old) tested

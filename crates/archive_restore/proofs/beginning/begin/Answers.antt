@@ -1,7 +1,6 @@
-use Rattle.std.proofs.Common.{◌≡◌, ◌∙◌, List, [], ap, refl, sym, subst, arith}
+use Rattle.std.proofs.Common.{List, [], ap, refl, sym, subst, arith}
 use Rattle.std.proofs.lemmas.List.{append-nil}
 use Rattle.site.proofs.Laws.{no_call}
-use Rattle.site.specs.State.{IsQuiet, now_of}
 use Rattle.site.specs.Telling.{TellsPart}
 use Rattle.record_model.specs.Touches.{CacheOp}
 use Rattle.image_meaning.specs.Meaning.{logical_image_under}

@@ -1,4 +1,4 @@
-use Rattle.std.proofs.Common.{◌≡◌, ◌+◌, ◌++◌, ◌∷◌, [], length, length-append, refl, sym, ap, true, arith}
+use Rattle.std.proofs.Common.{◌+◌, ◌++◌, ◌∷◌, [], length-append, refl, sym, ap, true, arith}
 use Rattle.site.specs.declared.geometry.Geometry.{Geometry}
 use Rattle.site.proofs.Laws.{goes_in_sequence}
 use Rattle.shell_text.specs.Runs.{lines_of}
@@ -107,3 +107,27 @@ returns-in-Err-write_waiting-clause-preserves g c = goes_in_sequence _ _ _ c.loo
 
 pub returns-in-Err-hear-clause-preserves : goal.returns-in-Err-hear-clause-preserves
 returns-in-Err-hear-clause-preserves g c = goes_in_sequence _ _ _ c.loop-line.invariant.preserves (goes_in_sequence _ _ _ c.write_waiting.ensures.preserves c.hear.ensures.preserves)
+
+pub returns-in-Ok-true-clause-refuses : goal.returns-in-Ok-true-clause-refuses
+returns-in-Ok-true-clause-refuses g c none = absurd (c.in-Ok.ensures.refuses none)
+
+pub returns-in-Ok-true-clause-unfit : goal.returns-in-Ok-true-clause-unfit
+returns-in-Ok-true-clause-unfit g c honest w = absurd (c.in-Ok.ensures.unfit honest w)
+
+pub returns-in-Err-write_waiting-clause-refuses : goal.returns-in-Err-write_waiting-clause-refuses
+returns-in-Err-write_waiting-clause-refuses g c none = absurd (c.in-Ok.ensures.refuses none)
+
+pub returns-in-Err-write_waiting-clause-unfit : goal.returns-in-Err-write_waiting-clause-unfit
+returns-in-Err-write_waiting-clause-unfit g c honest w = absurd (c.in-Ok.ensures.unfit honest w)
+
+pub returns-in-Err-hear-clause-refuses : goal.returns-in-Err-hear-clause-refuses
+returns-in-Err-hear-clause-refuses g c none = absurd (c.in-Ok.ensures.refuses none)
+
+pub returns-in-Err-hear-clause-unfit : goal.returns-in-Err-hear-clause-unfit
+returns-in-Err-hear-clause-unfit g c honest w = absurd (c.in-Ok.ensures.unfit honest w)
+
+pub returns-clause-refuses : goal.returns-clause-refuses
+returns-clause-refuses g c none = absurd (c.in-Ok.ensures.refuses none)
+
+pub returns-clause-unfit : goal.returns-clause-unfit
+returns-clause-unfit g c honest w = absurd (c.in-Ok.ensures.unfit honest w)

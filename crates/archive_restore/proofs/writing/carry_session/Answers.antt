@@ -1,6 +1,5 @@
-use Rattle.std.proofs.Common.{◌≡◌, ◌+◌, ◌<◌, refl, sym, ◌∙◌, ap, subst, arith}
+use Rattle.std.proofs.Common.{◌+◌, ◌<◌, refl, ◌∙◌, subst, arith}
 use Rattle.site.proofs.Laws.{goes_in_sequence, goes_nowhere, stays_honest}
-use Rattle.std.specs.Prelude.{Ok, Err}
 use Rattle.archive_restore.proofs.Carried.{answer_takes_nothing}
 use Rattle.face.proofs.Going.{ends_well, fails_there, goes_next}
 use Rattle.archive_restore.proofs.Sessions.{come_fails, come_first, come_next, come_to_end}

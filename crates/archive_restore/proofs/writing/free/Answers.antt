@@ -1,7 +1,6 @@
-use Rattle.std.proofs.Common.{◌≡◌, ◌+◌, ◌-◌, sym, ◌∙◌, ap, arith}
-use Rattle.std.specs.Prelude.{Ok, Err}
+use Rattle.std.proofs.Common.{sym, ◌∙◌}
 use Rattle.net_lines.specs.Nets.{idle}
-use Rattle.face.proofs.Going.{ends_well, fails_there, goes_next}
+use Rattle.face.proofs.Going.{fails_there, goes_next}
 use Rattle.archive_restore.proofs.Carried.{answer_takes_nothing, carried_fits}
 use Rattle.archive_restore.proofs.Sessions.{freed_by, freed_still, frees_not}
 use Rattle.archive_restore.proofs.writing.free.Goals as goal

@@ -1,4 +1,4 @@
-use Rattle.std.proofs.Common.{◌≡◌, ◌++◌, ◌-◌, Result, Ok, Err, ◌∙◌, arith}
+use Rattle.std.proofs.Common.{◌++◌, ◌-◌, ◌∙◌, arith}
 use Rattle.site.proofs.Laws.{goes_in_sequence, stays_honest}
 use Rattle.site.proofs.Working.{ok_as}
 use Rattle.net_lines.specs.Nets.{tight}

@@ -1,4 +1,4 @@
-use Rattle.std.proofs.Common.{◌≡◌, ◌+◌, ◌++◌, ◌∷◌, [], List, ℕ, true, length, refl, sym, ◌∙◌, ap, subst, Err}
+use Rattle.std.proofs.Common.{◌++◌, ◌∷◌, [], List, ℕ, true, refl, sym, ◌∙◌, ap, subst, Err}
 use Rattle.std.specs.Prelude.{take}
 use Rattle.site.proofs.Laws.{rose_since}
 use Rattle.shell_text.specs.Runs.{lines_of}
@@ -6,7 +6,6 @@ use Rattle.stream_lines.specs.Lines.{HearsLine, to_hear}
 use Rattle.stream_lines.specs.declared.source.Fault.TheVariants as taking
 use Rattle.stream_lines.specs.declared.source.Heard.TheVariants as kind
 use Rattle.archive_restore.specs.declared.fault.Fault.{Fault}
-use Rattle.archive_restore.specs.declared.fault.Fault.TheVariants as fault
 use Rattle.archive_restore.specs.Progress.{StopsRestoring}
 use Rattle.archive_restore.proofs.Heard.{cut_as, goes_on_heard, heard_as, hears_on, honest_of, left_with, line_first, long_refused, over_limit, stops_here}
 use Rattle.archive_restore.proofs.restoring.Restoring.hear.Goals as goal

@@ -1,4 +1,4 @@
-use Rattle.std.proofs.Common.{◌≡◌, ◌+◌, ◌-◌, ◌*◌, ◌≤◌, List, [], ℕ, length, refl, sym, ◌∙◌, ap, subst, arith}
+use Rattle.std.proofs.Common.{◌-◌, ◌*◌, List, [], ℕ, length, refl, sym, ◌∙◌, ap, subst, arith}
 use Rattle.std.specs.Prelude.{replicate}
 use Rattle.std.proofs.lemmas.List.{length-replicate}
 use Rattle.site.proofs.Laws.{goes_in_sequence}
@@ -81,3 +81,27 @@ returns-in-Ok-begin-clause-preserves g c = goes_in_sequence (g.S.Site.state c.ar
 
 pub returns-in-Err-begin-clause-preserves : goal.returns-in-Err-begin-clause-preserves
 returns-in-Err-begin-clause-preserves g c = goes_in_sequence (g.S.Site.state c.args.site.now) (g.S.Site.state c.blank_sizes.new.site) (g.S.Site.state c.begin.new.site) c.blank_sizes.ensures.preserves c.begin.ensures.ends.preserves
+
+pub returns-in_default-clause-refuses : goal.returns-in_default-clause-refuses
+returns-in_default-clause-refuses g c none = absurd (c.in-Ok.ensures.refuses none)
+
+pub returns-in_default-clause-unfit : goal.returns-in_default-clause-unfit
+returns-in_default-clause-unfit g c honest w = absurd (c.in-Ok.ensures.unfit honest w)
+
+pub returns-in_default-blank-clause-refuses : goal.returns-in_default-blank-clause-refuses
+returns-in_default-blank-clause-refuses g c none = absurd (c.in-Ok.ensures.refuses none)
+
+pub returns-in_default-blank-clause-unfit : goal.returns-in_default-blank-clause-unfit
+returns-in_default-blank-clause-unfit g c honest w = absurd (c.in-Ok.ensures.unfit honest w)
+
+pub returns-in-Ok-begin-clause-refuses : goal.returns-in-Ok-begin-clause-refuses
+returns-in-Ok-begin-clause-refuses g c none = absurd (c.in-Ok.ensures.refuses none)
+
+pub returns-in-Ok-begin-clause-unfit : goal.returns-in-Ok-begin-clause-unfit
+returns-in-Ok-begin-clause-unfit g c honest w = absurd (c.in-Ok.ensures.unfit honest w)
+
+pub returns-in-Err-begin-clause-refuses : goal.returns-in-Err-begin-clause-refuses
+returns-in-Err-begin-clause-refuses g c none = absurd (c.in-Ok.ensures.refuses none)
+
+pub returns-in-Err-begin-clause-unfit : goal.returns-in-Err-begin-clause-unfit
+returns-in-Err-begin-clause-unfit g c honest w = absurd (c.in-Ok.ensures.unfit honest w)

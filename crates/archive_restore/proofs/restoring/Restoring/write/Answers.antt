@@ -1,4 +1,4 @@
-use Rattle.std.proofs.Common.{◌≡◌, ◌+◌, ◌≤◌, length, sym, ◌∙◌, ap, subst, arith, false, true, true≢false}
+use Rattle.std.proofs.Common.{sym, ◌∙◌, subst, true≢false}
 use Rattle.net_lines.specs.Nets.{AreWritable, Fits}
 use Rattle.archive_restore.proofs.Writes.{carried_now, goes_more, popped_cap, popped_goes, popped_writable, room_now, stops_full, stops_halted, table, first, written_more}
 use Rattle.archive_restore.proofs.restoring.Restoring.write.Goals as goal

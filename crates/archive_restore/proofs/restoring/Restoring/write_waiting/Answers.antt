@@ -1,4 +1,4 @@
-use Rattle.std.proofs.Common.{◌≡◌, ◌+◌, ◌≤◌, refl, sym, ◌∙◌, ap, subst, arith}
+use Rattle.std.proofs.Common.{refl, ◌∙◌, arith}
 use Rattle.site.proofs.Laws.{goes_in_sequence, goes_nowhere, stays_honest}
 use Rattle.std.specs.Prelude.{take}
 use Rattle.archive_restore.proofs.Writes.{all_written, none_popped, none_popped_goes, popped_next}
