@@ -1,0 +1,123 @@
+-- The last line is told.
+use Rattle.std.proofs.Common.{◌≡◌, ◌≢◌, ◌⊎◌, inl, inr, ⊎_elim, ℕ, zero, suc, List, [], ◌++◌, take, refl, sym, ◌∙◌, ap, subst, append-nil, IsTrue, Result, Ok, Err}
+use Rattle.std.specs.Prelude.{⊤}
+use Rattle.site.specs.State.{State as Site, Image, Snapshot, no_loose}
+use Rattle.site.specs.Calls.{Preserves}
+use Rattle.site.specs.Moments.{Leaves, LeavesOnly}
+use Rattle.site.specs.Telling.{SameDevices}
+use Rattle.site.specs.declared.outside.Failed.{Failed}
+use Rattle.site.specs.declared.geometry.Geometry.{Geometry}
+use Rattle.site.proofs.Laws.{in_sequence, leaves_weaker, rose_then, stays_honest, tell_leaves}
+use Rattle.log_archive.specs.Accepted.{Stream}
+use Rattle.site.specs.declared.outside.Stop.TheVariants.{Foreign}
+use Rattle.front_end.specs.New.{IsNotBlank, unfit_line}
+use Rattle.front_end.specs.Refusals.{RefusesDevices}
+use Rattle.front_end.specs.Tells.{Tells}
+use Rattle.front_end.specs.declared.halt.Halt.TheVariants as halt
+use Rattle.front_end.specs.declared.new_database.Unfit.{Unfit}
+use Rattle.front_end.specs.declared.new_database.Unfit.TheVariants as unfit
+use Rattle.front_end.proofs.Endings.{ends_with, refuses_devices}
+use Rattle.face.proofs.CauseLaws.{cause_then}
+use Rattle.archive_restore.specs.declared.fault.Fault.{Fault}
+use Rattle.archive_restore.specs.declared.fault.Fault.TheVariants as fault
+use Rattle.archive_restore.specs.Contract.{EndsSo, RestoreHeadline, RestoreOutcome}
+use Rattle.archive_restore.specs.Refusing.{RefusesFilled, RefusesSizes, RefusesWritten}
+use Rattle.archive_restore.specs.Restores.{EndsBy, IsLeft, StandsAfter, StandsNear}
+use Rattle.archive_restore.specs.Texts.{fault_line, fault_status, restored_line}
+
+unfit_then : (u : Unfit) (a b c : Site) → IsNotBlank u a b → Preserves b c → IsNotBlank u a c
+unfit_then unfit.Foreign a b c is goes = is
+unfit_then (unfit.Failed dev) a b c is goes = rose_then _ _ _ is (goes.faults dev)
+unfit_then (unfit.NotBlank dev place) a b c is goes = is
+
+-- why it ends holds still when that is told
+ends_then : (f : Fault) (g : Geometry) (lines behind : List (List ℕ)) (s : Stream) (begun : ℕ) (a b c : Site) → EndsBy f g lines behind s begun a b → Preserves b c → (IsTrue a.honest → SameDevices b c) → EndsBy f g lines behind s begun a c
+ends_then (fault.Unfit u) g lines behind s begun a b c is goes same = unfit_then u a b c is goes
+ends_then (fault.Halt (halt.Stop stop)) g lines behind s begun a b c is goes same = cause_then (halt.Stop stop) a b c is goes same
+ends_then (fault.Halt halt.Input) g lines behind s begun a b c is goes same = (cause_then halt.Input a b c is.0 goes same, is.1)
+ends_then (fault.Halt halt.Output) g lines behind s begun a b c is goes same = cause_then halt.Output a b c is goes same
+ends_then (fault.Halt halt.Limit) g lines behind s begun a b c is goes same = (cause_then halt.Limit a b c is.0 goes same, is.1)
+ends_then (fault.Stream number) g lines behind s begun a b c is goes same = is
+ends_then (fault.Short commits) g lines behind s begun a b c is goes same = is
+ends_then fault.Full g lines behind s begun a b c is goes same = is
+
+-- What is left while a line is told behind the work.
+module _ (count : ℕ) (g : Geometry) (old mid new : Site) {T : Type 0} (result : Result T Fault) (o : RestoreOutcome count g old mid result) (line : List ℕ) {U : Type 0} (told : Result U Failed) (tells : Tells line mid new told) (honest : IsTrue mid.honest) where
+  left_first : (snapshot : Snapshot) → IsLeft g o.s o.begun [] old.told snapshot → IsLeft g o.s o.begun line old.told snapshot
+  left_first snapshot l = record { k = l.k; few = l.few; stands = l.stands; told = inl (⊎_elim (λ same. same) (λ some. some.1 ∙ ap (λ (t : List ℕ). old.told ++ t) (none_taken some.0) ∙ append-nil old.told) l.told) }
+    where
+      none_taken : (n : ℕ) → take {A = ℕ} n [] ≡ []
+      none_taken zero = refl
+      none_taken (suc n) = refl
+
+  left_then : (snapshot : Snapshot) → ((k : ℕ) × (snapshot.told ≡ mid.told ++ take k line)) × StandsNear g o.s o.begun snapshot.image → IsLeft g o.s o.begun line old.told snapshot
+  left_then snapshot p = record {
+    k = p.1.0;
+    few = p.1.1;
+    stands = p.1.3;
+    told = inr (p.0.0, p.0.1 ∙ ap (λ (t : List ℕ). t ++ take p.0.0 line) o.told, p.1.2);
+  }
+
+  moments_told : LeavesOnly old new (IsLeft g o.s o.begun line old.told)
+  moments_told = in_sequence old mid new (Leaves (IsLeft g o.s o.begun line old.told)) (leaves_weaker old mid (IsLeft g o.s o.begun [] old.told) (IsLeft g o.s o.begun line old.told) left_first o.moments)
+      (leaves_weaker mid new (λ snapshot. ((k : ℕ) × (snapshot.told ≡ mid.told ++ take k line)) × StandsNear g o.s o.begun snapshot.image) (IsLeft g o.s o.begun line old.told) left_then
+      (tell_leaves (StandsNear g o.s o.begun) line mid new (λ snapshot left. o.near snapshot left) (tells.any_moment honest)))
+
+  same : SameDevices mid new
+  same = tells.devices honest
+
+  stands_told : (k : ℕ) → StandsAfter g o.s k mid.image → StandsAfter g o.s k new.image
+  stands_told k stands = subst (λ (x : Image). StandsAfter g o.s k x) (sym same.image) stands
+
+  pub headline_by : (status : ℕ) → Preserves old mid → EndsSo status line count g o.lines o.behind o.s o.begun old new → (status ≢ 3 → mid.loose ≡ no_loose) → RestoreHeadline count g old new status
+  headline_by status goes so quiet = record {
+    lines = o.lines;
+    behind = o.behind;
+    s = o.s;
+    heard = o.heard;
+    begun = o.begun;
+    few = o.few;
+    most = o.most;
+    fit = o.fit;
+    line = line;
+    so = so;
+    ends = ends_with old.told line old mid new told goes honest o.told tells;
+    moments = moments_told;
+    quiet = λ ne. same.loose ∙ quiet ne;
+  }
+
+-- it is all restored
+pub headline_done : (count status : ℕ) (g : Geometry) (old mid new : Site) {T : Type 0} (x : T) (o : RestoreOutcome count g old mid (Ok x)) {U : Type 0} (told : Result U Failed) (tells : Tells (restored_line count) mid new told) → IsTrue mid.honest → Preserves old mid → (status ≡ 0) ⊎ (status ≡ 6) → RestoreHeadline count g old new status
+headline_done count status g old mid new x o told tells honest goes is =
+    headline_by count g old mid new (Ok x) o (restored_line count) told tells honest status goes
+    (inl (is, refl, o.done.0, stands_told count g old mid new (Ok x) o (restored_line count) told tells honest count o.done.1)) (λ ne. o.done.2)
+
+-- or it ends before
+pub headline_stopped : (count status : ℕ) (g : Geometry) (old mid new : Site) {T : Type 0} (f : Fault) (o : RestoreOutcome {T = T} count g old mid (Err f)) {U : Type 0} (told : Result U Failed) (tells : Tells (fault_line f) mid new told) → IsTrue mid.honest → Preserves old mid → status ≡ fault_status f → RestoreHeadline count g old new status
+headline_stopped count status g old mid new f o told tells honest goes is =
+    headline_by count g old mid new (Err f) o (fault_line f) told tells honest status goes
+    (inr (
+      f,
+      is,
+      refl,
+      ends_then f g o.lines o.behind o.s o.begun old mid new o.stops.0 tells.preserves (λ h. tells.devices honest),
+      λ between. let b = o.stops.1 between in (b.0, stands_told count g old mid new (Err f) o (fault_line f) told tells honest o.begun b.1),
+    )) (λ ne. o.stops.2 (λ e. ne (is ∙ e)))
+
+-- Devices that are refused.
+
+pub refuses_told : {U : Type 0} (f : Fault) (status : ℕ) (old mid new : Site) (told : Result U Failed) → status ≡ fault_status f → RefusesSizes {T = ⊤} (Err f) old mid → Tells (fault_line f) mid new told → RefusesDevices status old new
+refuses_told f status old mid new told is refused tells =
+    refuses_devices (halt.Stop Foreign) status old mid new told (is ∙ ap fault_status refused.0) (refl, refused.1) (subst (λ (x : Fault). Tells (fault_line x) mid new told) refused.0 tells)
+
+pub filled_told : {U : Type 0} (f : Fault) (status : ℕ) (old mid new : Site) (told : Result U Failed) → Preserves old mid → IsTrue old.honest → status ≡ fault_status f → RefusesWritten {T = ⊤} (Err f) old mid → Tells (fault_line f) mid new told → RefusesFilled status old new
+filled_told f status old mid new told goes honest is (u, same_fault, why, still) tells =
+    let there = stays_honest old mid goes honest in
+    let devices = tells.devices there in
+    record {
+      unfit = u;
+      is = is ∙ ap fault_status same_fault;
+      why = unfit_then u old mid new why tells.preserves;
+      line = ends_with old.told (unfit_line u) old mid new told goes there still.told (subst (λ (x : Fault). Tells (fault_line x) mid new told) same_fault tells);
+      devices = record { image = devices.image ∙ still.image; loose = devices.loose ∙ still.loose; left = devices.left ∙ still.left };
+    }

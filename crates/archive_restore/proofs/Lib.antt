@@ -1,0 +1,9 @@
+mod Carried
+mod Sessions
+mod Nets
+mod Writes
+mod Growing
+mod Heard
+mod Starts
+mod Outcomes
+mod Endings

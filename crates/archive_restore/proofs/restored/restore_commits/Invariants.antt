@@ -1,0 +1,18 @@
+use Rattle.std.proofs.Common.{◌≤◌}
+use Rattle.site.specs.State.{State as Site}
+use Rattle.site.specs.Calls.{Preserves}
+use Rattle.site.specs.declared.geometry.Geometry.{Geometry}
+use Rattle.archive_restore.specs.Progress.{GoesOnRestoring, IsUnderWay}
+use Rattle.archive_restore.specs.Restores.{IsTarget}
+use Rattle.archive_restore.proofs.restored.restore_commits.Given as goal
+
+abbrev pub invariant-loop-line : goal.invariant-loop-line
+invariant-loop-line g l =
+    let old = g.S.Site.state l.fn.site in
+    let now = g.S.Site.state l.site in
+    record {
+      preserves : Preserves old now;
+      most : l.restoring.written ≤ l.count;
+      going : (entry : Site) × GoesOnRestoring entry now l.restoring;
+      progress : (geometry : Geometry) → IsTarget geometry old → IsUnderWay l.pool geometry old now l.restoring l.line;
+    }

@@ -1,0 +1,103 @@
+use Rattle.std.proofs.Common.{◌++◌, ◌∷◌, [], List, ℕ, true, refl, sym, ◌∙◌, ap, subst, Err}
+use Rattle.std.specs.Prelude.{take}
+use Rattle.site.proofs.Laws.{rose_since}
+use Rattle.shell_text.specs.Runs.{lines_of}
+use Rattle.stream_lines.specs.Lines.{HearsLine, to_hear}
+use Rattle.stream_lines.specs.declared.source.Fault.TheVariants as taking
+use Rattle.stream_lines.specs.declared.source.Heard.TheVariants as kind
+use Rattle.archive_restore.specs.declared.fault.Fault.{Fault}
+use Rattle.archive_restore.specs.Progress.{StopsRestoring}
+use Rattle.archive_restore.proofs.Heard.{cut_as, goes_on_heard, heard_as, hears_on, honest_of, left_with, line_first, long_refused, over_limit, stops_here}
+use Rattle.archive_restore.proofs.restoring.Restoring.hear.Goals as goal
+
+pub returns-in-Err-Input-clause-stops : goal.returns-in-Err-Input-clause-stops
+returns-in-Err-Input-clause-stops g c pool geometry s entry lines count goes h heard all less number =
+    let mid = g.S.Site.state c.args.site.now in
+    let new = g.S.Site.state c.next.new.site in
+    let r = c.args.self.now in
+    let honest = honest_of pool geometry s entry mid r h in (
+      lines_of true (to_hear r.source mid),
+      heard.all,
+      stops_here pool geometry s entry mid new r h (c.next.ensures.same honest) lines _ count _
+          (rose_since _ _ _ goes.database.preserves.input_faults (c.in-Err-Input.ensures.input (ap Err c.in-Err-Input.field-0-is)), all) less,
+    )
+
+pub returns-in-Err-Limit-clause-stops : goal.returns-in-Err-Limit-clause-stops
+returns-in-Err-Limit-clause-stops g c pool geometry s entry lines count goes h heard all less number =
+    let mid = g.S.Site.state c.args.site.now in
+    let new = g.S.Site.state c.next.new.site in
+    let r = c.args.self.now in
+    let honest = honest_of pool geometry s entry mid r h in (
+      lines_of true (to_hear r.source mid),
+      heard.all,
+      stops_here pool geometry s entry mid new r h (c.next.ensures.same honest) lines _ count _
+          (λ h'. over_limit geometry lines s entry mid new r heard (cut_as c.in-Err-Limit.field-0 taking.Limit _ _ _ _ (c.in-Err-Limit.ensures.cut_off honest heard.ended) c.in-Err-Limit.field-0-is), all) less,
+    )
+
+pub returns-in-Ok-End-clause-stops : goal.returns-in-Ok-End-clause-stops
+returns-in-Ok-End-clause-stops g c pool geometry s entry lines count goes h heard all less number =
+    let mid = g.S.Site.state c.args.site.now in
+    let new = g.S.Site.state c.next.new.site in
+    let r = c.args.self.now in
+    let honest = honest_of pool geometry s entry mid r h in
+    let end = heard_as c.in-Ok-End.field-0 kind.End _ _ _ _ _ (c.in-Ok-End.ensures.heard honest heard.ended) c.in-Ok-End.field-0-is in (
+      [],
+      heard.all ∙ ap (λ (l : List ℕ). lines ++ lines_of true l) end.0,
+      stops_here pool geometry s entry mid new r h (c.next.ensures.same honest) lines _ count _ (refl, all, refl) less,
+    )
+
+pub returns-in-Ok-Long-clause-stops : goal.returns-in-Ok-Long-clause-stops
+returns-in-Ok-Long-clause-stops g c pool geometry s entry lines count goes h heard all less number =
+    let mid = g.S.Site.state c.args.site.now in
+    let new = g.S.Site.state c.next.new.site in
+    let r = c.args.self.now in
+    let honest = honest_of pool geometry s entry mid r h in
+    let long = heard_as c.in-Ok-Long.field-0 kind.Long _ _ _ _ _ (c.in-Ok-Long.ensures.heard honest heard.ended) c.in-Ok-Long.field-0-is in (
+      long.line ∷ long.behind,
+      left_with geometry lines s entry mid r long.line long.behind heard long.is_first,
+      stops_here pool geometry s entry mid new r h (c.next.ensures.same honest) lines _ count _ (number, all, long.line, long.behind, refl, λ now. long_refused geometry.pages long.line s now long.many) less,
+    )
+
+pub returns-in-Ok-clause-going : goal.returns-in-Ok-clause-going
+returns-in-Ok-clause-going g c entry goes =
+    goes_on_heard entry (g.S.Site.state c.args.site.now) (g.S.Site.state c.next.new.site) c.args.self.now c.line.new.self c.next.new.self c.as_slice.result.now goes c.next.ensures.preserves c.next.ensures.same c.in-Ok-Line.ensures.faults c.next.ensures.source
+    (c.in-Ok.ensures.accepted goes.pages goes.s (take c.args.self.now.written goes.s.nets) goes.replay)
+
+pub returns-in-Ok-clause-hears : goal.returns-in-Ok-clause-hears
+returns-in-Ok-clause-hears g c pool geometry s entry lines h heard =
+    let mid = g.S.Site.state c.args.site.now in
+    let new = g.S.Site.state c.next.new.site in
+    let r = c.args.self.now in
+    let honest = honest_of pool geometry s entry mid r h in
+    let first = heard_as c.in-Ok-Line.field-0 kind.Line _ _ _ _ _ (c.in-Ok-Line.ensures.heard honest heard.ended) c.in-Ok-Line.field-0-is in
+    hears_on pool geometry s entry mid new r c.line.new.self c.next.new.self lines c.as_slice.result.now h heard c.next.ensures.preserves (c.next.ensures.same honest) c.next.ensures.source (c.in-Ok-Line.ensures.ended honest heard.ended)
+    (subst (λ (l : List ℕ). HearsLine l r.source.ended c.next.new.self.ended (to_hear r.source mid) (to_hear c.next.new.self new)) (sym c.as_slice.ensures.value) first) (c.in-Ok-Line.ensures.count honest)
+    (c.in-Ok.ensures.accepted geometry.pages s (take r.written s.nets) h.replay)
+
+pub returns-in-Err-BadStream-clause-stops : goal.returns-in-Err-BadStream-clause-stops
+returns-in-Err-BadStream-clause-stops g c pool geometry s entry lines count goes h heard all less number =
+    let mid = g.S.Site.state c.args.site.now in
+    let new = g.S.Site.state c.next.new.site in
+    let r = c.args.self.now in
+    let honest = honest_of pool geometry s entry mid r h in
+    let first = heard_as c.in-Ok-Line.field-0 kind.Line _ _ _ _ _ (c.in-Ok-Line.ensures.heard honest heard.ended) c.in-Ok-Line.field-0-is in
+    let line = c.as_slice.result.now in
+    let same = subst (λ (l : List ℕ). HearsLine l r.source.ended c.next.new.self.ended (to_hear r.source mid) (to_hear c.next.new.self new)) (sym c.as_slice.ensures.value) first in
+    let behind = lines_of true (to_hear c.next.new.self new) in (
+      line ∷ behind,
+      left_with geometry lines s entry mid r line behind heard (line_first line r.source c.next.new.self mid new c.next.ensures.source (c.in-Ok-Line.ensures.ended honest heard.ended) same),
+      stops_here pool geometry s entry mid new r h (c.next.ensures.same honest) lines _ count _
+          (number, all, line, behind, refl, c.in-Err-BadStream.ensures.bad geometry.pages s (take r.written s.nets) h.replay (ap Err c.in-Err-BadStream.field-0-is)) less,
+    )
+
+pub returns-in-Err-Memory-clause-stops : goal.returns-in-Err-Memory-clause-stops
+returns-in-Err-Memory-clause-stops g c pool geometry s entry lines count goes h heard all less number =
+    let mid = g.S.Site.state c.args.site.now in
+    let new = g.S.Site.state c.next.new.site in
+    let r = c.args.self.now in
+    let honest = honest_of pool geometry s entry mid r h in (
+      lines_of true (to_hear r.source mid),
+      heard.all,
+      subst (λ (f : Fault). StopsRestoring geometry lines (lines_of true (to_hear r.source mid)) s count entry new f) (sym c.lacks_memory.ensures)
+          (stops_here pool geometry s entry mid new r h (c.next.ensures.same honest) lines (lines_of true (to_hear r.source mid)) count _ tt less),
+    )

@@ -1,0 +1,107 @@
+use Rattle.std.proofs.Common.{◌-◌, ◌*◌, List, [], ℕ, length, refl, sym, ◌∙◌, ap, subst, arith}
+use Rattle.std.specs.Prelude.{replicate}
+use Rattle.std.proofs.lemmas.List.{length-replicate}
+use Rattle.site.proofs.Laws.{goes_in_sequence}
+use Rattle.site.specs.declared.geometry.Geometry.{Geometry}
+use Rattle.log_archive.specs.Accepted.{blank_stream}
+use Rattle.log_replay.specs.Stands.{StandsFor}
+use Rattle.archive_restore.specs.declared.fault.Fault.{Fault}
+use Rattle.archive_restore.specs.Progress.{StopsRestoring}
+use Rattle.archive_restore.proofs.Starts.{cause_since, heard_none, one_geometry, still_target, stops_at_restart, stops_untouched, written_none}
+use Rattle.archive_restore.proofs.Writes.{ends_halt, not_between}
+use Rattle.archive_restore.proofs.restoring.Restoring.start.Goals as goal
+
+pub returns-in_default-clause-never : goal.returns-in_default-clause-never
+returns-in_default-clause-never g c geometry behind count t =
+    let old = g.S.Site.state c.args.site.now in
+    let mid = g.S.Site.state c.blank_sizes.new.site in
+    subst (λ (f : Fault). StopsRestoring geometry [] behind (blank_stream geometry.pages) count old mid f) (sym c.lacks_memory.ensures)
+    (stops_untouched c.blank_stands.ensures geometry old mid (blank_stream geometry.pages) t (c.blank_sizes.ensures.same t.honest) behind count _ tt (λ is. absurd is))
+
+pub returns-in_default-blank-clause-never : goal.returns-in_default-blank-clause-never
+returns-in_default-blank-clause-never g c geometry behind count t =
+    let old = g.S.Site.state c.args.site.now in
+    let mid = g.S.Site.state c.blank_sizes.new.site in
+    subst (λ (f : Fault). StopsRestoring geometry [] behind (blank_stream geometry.pages) count old mid f) (sym c.lacks_memory-in_default-blank.ensures)
+    (stops_untouched c.blank_stands.ensures geometry old mid (blank_stream geometry.pages) t (c.blank_sizes.ensures.same t.honest) behind count _ tt (λ is. absurd is))
+
+pub returns-in-Ok-begin-clause-going : goal.returns-in-Ok-begin-clause-going
+returns-in-Ok-begin-clause-going g c = (
+  g.S.Site.state c.blank_sizes.new.site,
+  c.blank_sizes.ensures.preserves,
+  c.in-Ok.ensures.faults,
+  record {
+    database = c.in-Ok-begin.ensures.going;
+    source = c.new.ensures.source;
+    pages = c.in-Ok.geometry.pages;
+    lines = [];
+    s = blank_stream c.in-Ok.geometry.pages;
+    accepted = refl;
+    few = omega arith;
+    replay = c.in-Ok-start.ensures.stands;
+    room = ap (λ (l : List ℕ). length l) c.in-Ok-blank.ensures ∙ length-replicate (32 * c.in-Ok.geometry.pages) 0;
+    cap = let blocks = c.in-Ok.ensures.sizes.0.blocks in omega (arith, blocks);
+  },
+)
+
+pub returns-in-Ok-begin-clause-begins : goal.returns-in-Ok-begin-clause-begins
+unfolding returns-in-Ok-begin-clause-going
+returns-in-Ok-begin-clause-begins g c geometry t =
+    let old = g.S.Site.state c.args.site.now in
+    let mid = g.S.Site.state c.blank_sizes.new.site in
+    let new = g.S.Site.state c.begin.new.site in
+    let same = c.blank_sizes.ensures.same t.honest in
+    let sizes = c.in-Ok.ensures.sizes in
+    let is = one_geometry c.in-Ok.geometry geometry old.image sizes.0 sizes.1 t.limits t.lengths in
+    let there = still_target geometry old mid t same c.blank_sizes.ensures.preserves in (
+      mid,
+      same,
+      c.blank_sizes.ensures.preserves,
+      (returns-in-Ok-begin-clause-going g c).3,
+      written_none c.args.pool geometry mid new _ refl (subst (λ (x : Geometry). StandsFor x.pages (blank_stream x.pages) [] c.in-Ok-start.replay) is c.in-Ok-start.ensures.stands) (c.in-Ok-begin.ensures.begins geometry there)
+          (ap (λ (x : Geometry). x.blocks - 1) is) (c.in-Ok-blank.ensures ∙ ap (λ (x : Geometry). replicate (32 * x.pages) 0) is),
+      heard_none geometry mid new _ c.new.ensures.empty c.new.ensures.taken c.new.ensures.going (c.begin.ensures.left there.honest),
+    )
+
+pub returns-in-Err-begin-clause-never : goal.returns-in-Err-begin-clause-never
+returns-in-Err-begin-clause-never g c geometry behind count t =
+    let old = g.S.Site.state c.args.site.now in
+    let mid = g.S.Site.state c.blank_sizes.new.site in
+    let new = g.S.Site.state c.begin.new.site in
+    let same = c.blank_sizes.ensures.same t.honest in
+    let there = still_target geometry old mid t same c.blank_sizes.ensures.preserves in
+    let never = c.in-Err-begin.ensures.never geometry there in
+    let ne = c.in-Err-begin.ensures.halts in
+    stops_at_restart c.blank_stands.ensures geometry old mid new (blank_stream geometry.pages) t same never.moments behind count _
+    (ends_halt c.in-Err-begin.halt geometry [] behind (blank_stream geometry.pages) 0 old new ne (cause_since c.in-Err-begin.halt old mid new same c.blank_sizes.ensures.preserves c.in-Err-begin.ensures.ends.cause))
+    (λ is. not_between c.in-Err-begin.halt ne is) never.quiet
+
+pub returns-in-Ok-begin-clause-preserves : goal.returns-in-Ok-begin-clause-preserves
+returns-in-Ok-begin-clause-preserves g c = goes_in_sequence (g.S.Site.state c.args.site.now) (g.S.Site.state c.blank_sizes.new.site) (g.S.Site.state c.begin.new.site) c.blank_sizes.ensures.preserves c.begin.ensures.ends.preserves
+
+pub returns-in-Err-begin-clause-preserves : goal.returns-in-Err-begin-clause-preserves
+returns-in-Err-begin-clause-preserves g c = goes_in_sequence (g.S.Site.state c.args.site.now) (g.S.Site.state c.blank_sizes.new.site) (g.S.Site.state c.begin.new.site) c.blank_sizes.ensures.preserves c.begin.ensures.ends.preserves
+
+pub returns-in_default-clause-refuses : goal.returns-in_default-clause-refuses
+returns-in_default-clause-refuses g c none = absurd (c.in-Ok.ensures.refuses none)
+
+pub returns-in_default-clause-unfit : goal.returns-in_default-clause-unfit
+returns-in_default-clause-unfit g c honest w = absurd (c.in-Ok.ensures.unfit honest w)
+
+pub returns-in_default-blank-clause-refuses : goal.returns-in_default-blank-clause-refuses
+returns-in_default-blank-clause-refuses g c none = absurd (c.in-Ok.ensures.refuses none)
+
+pub returns-in_default-blank-clause-unfit : goal.returns-in_default-blank-clause-unfit
+returns-in_default-blank-clause-unfit g c honest w = absurd (c.in-Ok.ensures.unfit honest w)
+
+pub returns-in-Ok-begin-clause-refuses : goal.returns-in-Ok-begin-clause-refuses
+returns-in-Ok-begin-clause-refuses g c none = absurd (c.in-Ok.ensures.refuses none)
+
+pub returns-in-Ok-begin-clause-unfit : goal.returns-in-Ok-begin-clause-unfit
+returns-in-Ok-begin-clause-unfit g c honest w = absurd (c.in-Ok.ensures.unfit honest w)
+
+pub returns-in-Err-begin-clause-refuses : goal.returns-in-Err-begin-clause-refuses
+returns-in-Err-begin-clause-refuses g c none = absurd (c.in-Ok.ensures.refuses none)
+
+pub returns-in-Err-begin-clause-unfit : goal.returns-in-Err-begin-clause-unfit
+returns-in-Err-begin-clause-unfit g c honest w = absurd (c.in-Ok.ensures.unfit honest w)

@@ -1,0 +1,22 @@
+use Rattle.std.proofs.Common.{refl}
+use Rattle.archive_restore.proofs.Starts.{stops_untouched}
+use Rattle.archive_restore.proofs.restoring.blank_sizes.Goals as goal
+
+pub returns-in-Err-clause-never : goal.returns-in-Err-clause-never
+returns-in-Err-clause-never g c geometry behind s count t =
+    stops_untouched c.blank_stands.ensures geometry (g.S.Site.state c.args.site.now) (g.S.Site.state c.test_blank.new.site) s t (c.test_blank.ensures.same t.honest) behind count _ c.in-Err.ensures.unfit (λ is. absurd is)
+
+pub returns-in-Ok-clause-refuses : goal.returns-in-Ok-clause-refuses
+returns-in-Ok-clause-refuses g c none = none c.in-Some.geometry c.in-Some.ensures.sizes.0 c.in-Some.ensures.sizes.1
+
+pub returns-in-Err-clause-refuses : goal.returns-in-Err-clause-refuses
+returns-in-Err-clause-refuses g c none = absurd (none c.in-Some.geometry c.in-Some.ensures.sizes.0 c.in-Some.ensures.sizes.1)
+
+pub returns-in_default-clause-unfit : goal.returns-in_default-clause-unfit
+returns-in_default-clause-unfit g c honest w = absurd (c.in_default.ensures.none w.g w.limits w.lengths)
+
+pub returns-in-Ok-clause-unfit : goal.returns-in-Ok-clause-unfit
+returns-in-Ok-clause-unfit g c honest w = w.filled (c.in-Ok.ensures.blank honest)
+
+pub returns-in-Err-clause-unfit : goal.returns-in-Err-clause-unfit
+returns-in-Err-clause-unfit g c honest w = (c.in-Err.unfit, refl, c.in-Err.ensures.unfit, c.test_blank.ensures.same honest)

@@ -1,0 +1,61 @@
+-- What `restore` does.
+use Rattle.std.specs.Prelude.{◌≡◌, ◌≢◌, ◌⊎◌, ℕ, ◌≤◌, ◌<◌, List, [], length, Result, IfErr, OnOk}
+use Rattle.site.specs.State.{State as Site, MayLeave, Snapshot, now_of, no_loose}
+use Rattle.site.specs.declared.geometry.Geometry.{Geometry}
+use Rattle.site.specs.Moments.{LeavesOnly}
+use Rattle.log_archive.specs.Accepted.{Stream}
+use Rattle.front_end.specs.Tells.{EndsWith}
+use Rattle.archive_restore.specs.declared.fault.Fault.{Fault}
+use Rattle.archive_restore.specs.Texts.{fault_line, fault_status, restored_line}
+use Rattle.archive_restore.specs.Restores.{EndsBy, HaveFit, IsBetween, IsHeard, IsLeft, IsTarget}
+use Rattle.archive_restore.specs.Restores.{StandsAfter, StandsNear}
+
+-- What comes of a restore over a target before its last line.
+pub record RestoreOutcome {T : Type 0} (count : ℕ) (g : Geometry) (old new : Site) (result : Result T Fault)
+    : Type 0 where
+  -- the lines that were heard, those that are left, and the stream behind the former
+  pub lines : List (List ℕ)
+  pub behind : List (List ℕ)
+  pub s : Stream
+  pub heard : IsHeard g.pages lines behind s old
+  -- how many commits were begun, the one under way with them; each of them had room
+  pub begun : ℕ
+  pub few : begun ≤ length s.nets
+  pub most : begun ≤ count
+  pub fit : HaveFit g s begun
+  pub moments : LeavesOnly old new (IsLeft g s begun [] old.told)
+  pub told : new.told ≡ old.told
+  pub near : (snapshot : Snapshot) → MayLeave (now_of new) snapshot → StandsNear g s begun snapshot.image
+  pub stops : IfErr result (λ f. EndsBy f g lines behind s begun old new
+      × (IsBetween f → (begun < count) × StandsAfter g s begun new.image)
+      × (fault_status f ≢ 3 → new.loose ≡ no_loose))
+  pub done : OnOk result ((begun ≡ count) × StandsAfter g s count new.image × (new.loose ≡ no_loose))
+
+-- a status, the line that is told with it, and why it comes
+abbrev pub EndsSo : ℕ → List ℕ → ℕ → Geometry → List (List ℕ) → List (List ℕ) → Stream → ℕ → Site → Site → Type 0
+EndsSo status line count g lines behind s begun old new =
+    ((status ≡ 0) ⊎ (status ≡ 6)) × (line ≡ restored_line count) × (begun ≡ count) × StandsAfter g s count new.image
+    ⊎ ((f : Fault) × (status ≡ fault_status f) × (line ≡ fault_line f) × EndsBy f g lines behind s begun old new
+    × (IsBetween f → (begun < count) × StandsAfter g s begun new.image))
+
+-- What comes of a restore over a target.
+pub record RestoreHeadline (count : ℕ) (g : Geometry) (old new : Site) (status : ℕ) : Type 0 where
+  pub lines : List (List ℕ)
+  pub behind : List (List ℕ)
+  pub s : Stream
+  pub heard : IsHeard g.pages lines behind s old
+  pub begun : ℕ
+  pub few : begun ≤ length s.nets
+  pub most : begun ≤ count
+  pub fit : HaveFit g s begun
+  pub line : List ℕ
+  pub so : EndsSo status line count g lines behind s begun old new
+  -- the line is told, whole where no tell failed
+  pub ends : EndsWith old.told line old new
+  -- a crash at any moment leaves the table after some of the commits
+  pub moments : LeavesOnly old new (IsLeft g s begun line old.told)
+  pub quiet : status ≢ 3 → new.loose ≡ no_loose
+
+-- What `restore` does up to this commit.
+pub record RestoreContract (count : ℕ) (old new : Site) (status : ℕ) : Type 0 where
+  pub headline : (g : Geometry) → IsTarget g old → RestoreHeadline count g old new status

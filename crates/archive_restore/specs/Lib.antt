@@ -1,0 +1,7 @@
+pub mod Texts
+pub mod Writing
+pub mod Restores
+pub mod Refusing
+pub mod Beginning
+pub mod Progress
+pub mod Contract

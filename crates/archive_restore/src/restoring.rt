@@ -1,0 +1,232 @@
+// A restore under way.
+ghost use Rattle.std.specs.Prelude.{◌≡◌, ◌≢◌, ◌+◌, ◌≤◌, ◌<◌, ◌∷◌, ◌++◌, [], ℕ, List, length, IsTrue, IfOk, IfErr};
+ghost use Rattle.std.specs.Prelude.{IfSome, IfNone};
+ghost use Rattle.std.specs.Prelude.{OnOk, true, false};
+ghost use Rattle.site.specs.State.{State as Site};
+ghost use Rattle.site.specs.Calls.{IsUnchanged, Preserves};
+ghost use Rattle.site.specs.declared.geometry.Geometry.{Geometry};
+ghost use Rattle.site.specs.Geometry.{HasLimits, HasLengths};
+ghost use Rattle.shell_text.specs.Runs.{lines_of};
+ghost use Rattle.log_archive.specs.Accepted.{Stream, blank_stream};
+ghost use Rattle.stream_lines.specs.Lines.{IsSource};
+ghost use Rattle.front_end.specs.Faults.{SameFaults};
+ghost use Rattle.front_end.specs.New.{IsBlank, IsNotBlank};
+ghost use Rattle.site.specs.declared.outside.Stop.{Stop};
+ghost use Rattle.front_end.specs.declared.halt.Halt.{Halt};
+ghost use Rattle.archive_restore.specs.declared.fault.Fault.{Fault};
+ghost use Rattle.engine.specs.Leaves.{HasNoSizes};
+ghost use Rattle.archive_restore.specs.Refusing.{IsWritten, RefusesSizes, RefusesWritten};
+ghost use Rattle.archive_restore.specs.Restores.{IsTarget};
+ghost use Rattle.archive_restore.specs.Progress.{GoesOnRestoring, HasHeard, HasWritten, IsPopped, StopsRestoring};
+
+use crate::beginning::begin;
+use crate::fault::Fault;
+use crate::writing::write_net;
+use arrayvec::ArrayVec;
+use engine::Engine;
+use face::blank_stands;
+use front_end::{Halt, test_blank};
+use log_replay::{Net, Replay, ReplayFault};
+use net_lines::{Room, fits_log};
+use site::{Dev, Geometry, Site, Stop};
+use std::alloc::Global;
+use stream_lines::{Heard, Source};
+
+/// A restore under way: the database, what is known of the archive, the room that pages have, what was taken of the
+/// input, how much of the log may be used, and how many commits were written.
+#[derive(Drop)]
+pub struct Restoring {
+    pub engine: Engine,
+    pub replay: Replay,
+    pub room: Room,
+    pub source: Source,
+    pub cap: u64,
+    pub written: u64,
+}
+
+fn sizes_of<S: Site>(site: &S) -> Option<Geometry>
+    ensures sizes { IfSome result (λ g. HasLimits g × HasLengths g (S.state site.now).image) }
+    ensures none { IfNone result ((g : Geometry) → HasLimits g → HasLengths g (S.state site.now).image → ⊥) }
+{
+    Geometry::of_lengths(
+        site.len(Dev::Log),
+        site.len(Dev::Flash),
+        site.len(Dev::Disk),
+    )
+}
+
+fn lacks_memory() -> Fault
+    ensures { result ≡ Fault.Halt (Halt.Stop Stop.Memory) }
+{
+    Fault::Halt(Halt::Stop(Stop::Memory))
+}
+
+// The sizes of devices that are blank. Nothing changes.
+fn blank_sizes<S: Site>(site: &mut S) -> Result<Geometry, Fault>
+    ensures sizes { IfOk result (λ g. HasLimits g × HasLengths g (S.state site.old).image) }
+    ensures blank { IsTrue (S.state site.old).honest → OnOk result (IsBlank (S.state site.old).image) }
+    ensures same { IsTrue (S.state site.old).honest → IsUnchanged (S.state site.old) (S.state site.new) }
+    ensures preserves { Preserves (S.state site.old) (S.state site.new) }
+    ensures faults { OnOk result (SameFaults (S.state site.old) (S.state site.new)) }
+    ensures refuses { HasNoSizes (S.state site.old) → RefusesSizes result (S.state site.old) (S.state site.new) }
+    ensures unfit { IsTrue (S.state site.old).honest → IsWritten (S.state site.old)
+        → RefusesWritten result (S.state site.old) (S.state site.new) }
+    ensures never { (g : Geometry) (behind : List (List ℕ)) (s : Stream) (count : ℕ) → IsTarget g (S.state site.old)
+        → IfErr result (StopsRestoring g [] behind s count (S.state site.old) (S.state site.new)) }
+{
+    blank_stands();
+    let Some(geometry) = sizes_of(site) else {
+        return Err(Fault::Halt(Halt::Stop(Stop::Foreign)));
+    };
+    match test_blank(site) {
+        Ok(()) => Ok(geometry),
+        Err(unfit) => Err(Fault::Unfit(unfit)),
+    }
+}
+
+impl Restoring {
+    /// Before the first line of an archive: the devices are blank, and their restart is made.
+    pub fn start<S: Site>(alloc: Global, pool: u32, site: &mut S) -> Result<Restoring, Fault>
+        requires pool { (1 ≤ pool) × (pool ≤ 4096) }
+        ensures going { IfOk result (λ r. (tested : Site) × Preserves (S.state site.old) tested
+            × SameFaults (S.state site.old) tested × GoesOnRestoring tested (S.state site.new) r) }
+        ensures none { IfOk result (λ r. r.written ≡ 0) }
+        ensures refuses { HasNoSizes (S.state site.old) → RefusesSizes result (S.state site.old) (S.state site.new) }
+        ensures unfit { IsTrue (S.state site.old).honest → IsWritten (S.state site.old)
+            → RefusesWritten result (S.state site.old) (S.state site.new) }
+        ensures preserves { Preserves (S.state site.old) (S.state site.new) }
+        ensures begins { (g : Geometry) → IsTarget g (S.state site.old) → IfOk result (λ r. (tested : Site)
+            × IsUnchanged (S.state site.old) tested × Preserves (S.state site.old) tested
+            × GoesOnRestoring tested (S.state site.new) r
+            × HasWritten pool g (blank_stream g.pages) tested (S.state site.new) r
+            × HasHeard g [] (blank_stream g.pages) tested (S.state site.new) r) }
+        ensures never { (g : Geometry) (behind : List (List ℕ)) (count : ℕ) → IsTarget g (S.state site.old)
+            → IfErr result (StopsRestoring g [] behind (blank_stream g.pages) count (S.state site.old)
+            (S.state site.new)) }
+    {
+        blank_stands();
+        let geometry = match blank_sizes(site) {
+            Ok(geometry) => geometry,
+            Err(fault) => return Err(fault),
+        };
+        let Ok(replay) = Replay::start(alloc, geometry.pages) else {
+            return Err(lacks_memory());
+        };
+        let Ok(room) = Room::blank(alloc, geometry.pages) else {
+            return Err(lacks_memory());
+        };
+        match begin(alloc, pool, site) {
+            Ok(engine) => Ok(Restoring {
+                engine,
+                replay,
+                room,
+                source: Source::new(),
+                cap: geometry.blocks as u64 - 1,
+                written: 0,
+            }),
+            Err(halt) => Err(Fault::Halt(halt)),
+        }
+    }
+
+    // Writes the net of the next commit.
+    fn write<S: Site>(&mut self, site: &mut S, net: &Net) -> Result<(), Fault>
+        requires going { (entry : Site) × (before : Restoring) × GoesOnRestoring entry (S.state site.old) before
+            × IsPopped net.now before self.old }
+        ensures going { (entry : Site) (before : Restoring) → GoesOnRestoring entry (S.state site.old) before
+            → IsPopped net.now before self.old
+            → OnOk result (GoesOnRestoring entry (S.state site.new)
+            (record self.new { written = self.new.written + 1 })) }
+        ensures writes { (pool : ℕ) (g : Geometry) (s : Stream) (entry : Site) (before : Restoring)
+            → HasWritten pool g s entry (S.state site.old) before → IsPopped net.now before self.old
+            → OnOk result (HasWritten pool g s entry (S.state site.new)
+            (record self.new { written = self.new.written + 1 })) }
+        ensures stops { (pool : ℕ) (g : Geometry) (s : Stream) (entry : Site) (before : Restoring)
+            (lines behind : List (List ℕ)) (count : ℕ) → GoesOnRestoring entry (S.state site.old) before
+            → HasWritten pool g s entry (S.state site.old) before
+            → IsPopped net.now before self.old → self.old.written < count
+            → IfErr result (StopsRestoring g lines behind s count entry (S.state site.new)) }
+        ensures left { IsTrue (S.state site.old).honest → (S.state site.new).input ≡ (S.state site.old).input }
+        ensures preserves { Preserves (S.state site.old) (S.state site.new) }
+        ensures still { OnOk result ((self.new.written ≡ self.old.written) × (self.new.source ≡ self.old.source)) }
+    {
+        if !fits_log(self.cap, net) {
+            return Err(Fault::Full);
+        }
+        if !self.room.judge(net) {
+            return Err(Fault::Full);
+        }
+        if let Err(halt) = write_net(&mut self.engine, site, self.cap, net) {
+            return Err(Fault::Halt(halt));
+        }
+        self.room.close(net);
+        Ok(())
+    }
+
+    /// Writes the commits that wait, up to a number, and answers whether that many are written.
+    pub fn write_waiting<S: Site>(&mut self, site: &mut S, count: u64) -> Result<bool, Fault>
+        requires going { (entry : Site) × GoesOnRestoring entry (S.state site.old) self.old }
+        requires most { self.old.written ≤ count }
+        ensures going { (entry : Site) → GoesOnRestoring entry (S.state site.old) self.old
+            → OnOk result (GoesOnRestoring entry (S.state site.new) self.new) }
+        ensures writes { (pool : ℕ) (g : Geometry) (s : Stream) (entry : Site)
+            → HasWritten pool g s entry (S.state site.old) self.old
+            → OnOk result (HasWritten pool g s entry (S.state site.new) self.new) }
+        ensures stops { (pool : ℕ) (g : Geometry) (s : Stream) (entry : Site) (lines behind : List (List ℕ))
+            → GoesOnRestoring entry (S.state site.old) self.old
+            → HasWritten pool g s entry (S.state site.old) self.old
+            → IfErr result (StopsRestoring g lines behind s count entry (S.state site.new)) }
+        ensures most { OnOk result (self.new.written ≤ count) }
+        ensures all { IfOk result (λ all. all ≡ true → self.new.written ≡ count) }
+        ensures none { (pool : ℕ) (g : Geometry) (s : Stream) (entry : Site)
+            → HasWritten pool g s entry (S.state site.old) self.old
+            → IfOk result (λ all. all ≡ false → (self.new.written ≡ length s.nets) × (self.new.written < count)) }
+        ensures source { OnOk result (self.new.source ≡ self.old.source) }
+        ensures left { IsTrue (S.state site.old).honest → (S.state site.new).input ≡ (S.state site.old).input }
+        ensures preserves { Preserves (S.state site.old) (S.state site.new) }
+    {
+        while self.written < count {
+            let Some(net) = self.replay.pop() else {
+                return Ok(false);
+            };
+            if let Err(fault) = self.write(site, &net) {
+                return Err(fault);
+            }
+            self.written += 1;
+        }
+        Ok(true)
+    }
+
+    /// Hears the next line, which has this number, counted from 1.
+    pub fn hear<S: Site>(&mut self, site: &mut S, number: u64) -> Result<(), Fault>
+        requires { IsSource self.old.source }
+        ensures going { (entry : Site) → GoesOnRestoring entry (S.state site.old) self.old
+            → OnOk result (GoesOnRestoring entry (S.state site.new) self.new) }
+        ensures hears { (pool : ℕ) (g : Geometry) (s : Stream) (entry : Site) (lines : List (List ℕ))
+            → HasWritten pool g s entry (S.state site.old) self.old
+            → HasHeard g lines s entry (S.state site.old) self.old
+            → OnOk result ((line : List ℕ) × (now : Stream) × HasWritten pool g now entry (S.state site.new) self.new
+            × HasHeard g (lines ++ line ∷ []) now entry (S.state site.new) self.new) }
+        ensures stops { (pool : ℕ) (g : Geometry) (s : Stream) (entry : Site) (lines : List (List ℕ)) (count : ℕ)
+            → GoesOnRestoring entry (S.state site.old) self.old
+            → HasWritten pool g s entry (S.state site.old) self.old
+            → HasHeard g lines s entry (S.state site.old) self.old → self.old.written ≡ length s.nets
+            → self.old.written < count → number ≡ length lines + 1
+            → IfErr result (λ fault. (behind : List (List ℕ)) × (lines_of true entry.input.left ≡ lines ++ behind)
+            × StopsRestoring g lines behind s count entry (S.state site.new) fault) }
+        ensures written { self.new.written ≡ self.old.written }
+        ensures preserves { Preserves (S.state site.old) (S.state site.new) }
+    {
+        let mut line = ArrayVec::<u8, 1027>::new();
+        match self.source.next(site, &mut line) {
+            Err(stream_lines::Fault::Input) => Err(Fault::Halt(Halt::Input)),
+            Err(stream_lines::Fault::Limit) => Err(Fault::Halt(Halt::Limit)),
+            Ok(Heard::End) => Err(Fault::Short(self.written)),
+            Ok(Heard::Long) => Err(Fault::Stream(number)),
+            Ok(Heard::Line) => match self.replay.line(line.as_slice()) {
+                Ok(()) => Ok(()),
+                Err(ReplayFault::BadStream) => Err(Fault::Stream(number)),
+                Err(ReplayFault::Memory) => Err(lacks_memory()),
+            },
+        }
+    }
+}

@@ -1,0 +1,4 @@
+mod Rooms
+pub mod Model
+pub mod Session
+pub mod Writable
