@@ -1,5 +1,0 @@
-//! Tests of `archive_restore`.
-#![tactic(auto)]
-
-#[cfg(test)]
-mod tests;
