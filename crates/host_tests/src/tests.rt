@@ -228,7 +228,7 @@ type Row = (
     u64,
 );
 
-const CALLS: [Row; 18] = [
+const CALLS: [Row; 20] = [
     (&[b"face", b"run", b"1"], b"", 9, b"fault foreign\n", 3),
     (&[b"face", b"check"], b"", 11, b"unsound S1\n", 3),
     (
@@ -343,7 +343,7 @@ fn a_stop_has_its_line_and_its_status(rt: HostRuntime) -> Result<(), Fail> {
 }
 
 // The words, without the program's own name, and what is wrong with them.
-const WRONG: [(&str, Option<Wrong>); 37] = [
+const WRONG: [(&str, Option<Wrong>); 40] = [
     ("new 1 8 16", None),
     ("new 65536 16384 1048576", None),
     ("run 1", None),
