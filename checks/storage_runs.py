@@ -6,6 +6,7 @@ import shutil
 import subprocess
 import tempfile
 
+import archive_model
 import storage_model
 import storage_trace
 
@@ -132,15 +133,39 @@ def judge(program, allowed):
     return outcome.told
 
 
+def judge_archive(program, sizes, allowed):
+    """Reads the archive of the log that is there from block 0 on, by the program and by a reader of its own: it must lead to one of the
+    allowed tables. Answers how many commits it has, or none where block 0 was written over."""
+    outcome = program.run(['archive', '0'])
+    if outcome.status == 12:
+        return None
+    try:
+        archive = archive_model.Archive(sizes.pages)
+        archive.lines(outcome.told)
+    except archive_model.Refused as refused:
+        raise Wrong(f'line {archive.next + 1} of an archive is refused: {refused}') from refused
+    commits = len(archive.nets)
+    table = {record: value.hex() for record, value in archive.table(commits).items()}
+    if outcome.status != 0 or commits not in allowed or table != allowed[commits]:
+        raise Wrong(f'an archive has status {outcome.status} and {commits} commits, or another table than allowed after {sorted(allowed)}')
+    verified = program.run(['verify', str(sizes.pages)], outcome.told.decode().splitlines())
+    if (verified.status, verified.told) != (0, b'verified %d\n' % commits):
+        raise Wrong(f'verify tells {short(verified.told)} of an archive with {commits} commits')
+    return commits
+
+
 def find(program, sizes, allowed, pool):
-    """Judges the files that are there, and runs over them: both must find one of the allowed tables, and the same; answers
+    """Judges the files that are there, and runs over them: all must find one of the allowed tables, and the same; answers
     how many commits it has."""
     judged = judge(program, allowed)
+    archived = judge_archive(program, sizes, allowed)
     lines = ['get %d' % record for record in range(storage_model.SLOTS * sizes.pages)]
     outcome = program.run(['run', str(pool)], lines)
     commits = opened(outcome.told)
     if commits not in allowed:
         raise Wrong(f'a run tells {short(outcome.told)}, allowed are {sorted(allowed)} commits')
+    if archived not in (None, commits):
+        raise Wrong(f'an archive has {archived} commits, and a run finds {commits}')
     if not judged.endswith(b' commits %d\n' % commits):
         raise Wrong(f'check tells {short(judged)}, and a run finds {commits} commits')
     wanted = Course(sizes, commits, allowed[commits], lines).told()
