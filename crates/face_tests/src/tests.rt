@@ -417,6 +417,27 @@ const VERIFIED: &[Step<'static>] = &[
     Step::Told(""),
 ];
 
+const RESTORED: &[Step<'static>] = &[
+    Step::Feed(FIRST_BLOCK),
+    Step::FeedMany(914, "0"),
+    Step::Feed("\nend 1\n"),
+    Step::Call("restore 1 1", 0),
+    Step::Told("restored 1\n"),
+    Step::Crash(1),
+    Step::Run("get 5\n", "open 1\nvalue 0a0b\n"),
+    Step::Crash(2),
+    Step::Call("restore 1 1", 10),
+    Step::Begins("fault notblank log "),
+    Step::New(STANDARD),
+    Step::Feed("end 0\n"),
+    Step::Call("restore 2 4096", 14),
+    Step::Told("fault short 0\n"),
+    Step::New(STANDARD),
+    Step::Feed("end 1\n"),
+    Step::Call("restore 2 4096", 13),
+    Step::Told("fault stream 1\n"),
+];
+
 const LARGE_DEVICES: &[Step<'static>] = &[
     Step::New(LARGE),
     Step::Call("new 1024 64 400", 0),
@@ -665,6 +686,7 @@ const TESTS: [(&str, &[Step<'static>]); 29] = [
     ("devices_are_checked", CHECKS),
     ("archives_are_told", ARCHIVES),
     ("archives_are_verified", VERIFIED),
+    ("archives_are_restored", RESTORED),
     ("large_devices_are_tested", LARGE_DEVICES),
     ("a_trace_is_reported", TRACES),
     ("faults_have_their_status", FAULTS),

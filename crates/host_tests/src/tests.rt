@@ -343,7 +343,7 @@ fn a_stop_has_its_line_and_its_status(rt: HostRuntime) -> Result<(), Fail> {
 }
 
 // The words, without the program's own name, and what is wrong with them.
-const WRONG: [(&str, Option<Wrong>); 40] = [
+const WRONG: [(&str, Option<Wrong>); 44] = [
     ("new 1 8 16", None),
     ("new 65536 16384 1048576", None),
     ("run 1", None),
@@ -398,6 +398,10 @@ const WRONG: [(&str, Option<Wrong>); 40] = [
     ("verify 65536", None),
     ("verify 65537", Some(Wrong::Unfit(2, Number::Pages))),
     ("verify", Some(Wrong::Lacks(Number::Pages))),
+    ("restore 18446744073709551615 4096", None),
+    ("restore x 1", Some(Wrong::Unfit(2, Number::Commits))),
+    ("restore 1 0", Some(Wrong::Unfit(3, Number::Pool))),
+    ("restore 1", Some(Wrong::Lacks(Number::Pool))),
     ("RUN 1", Some(Wrong::Unknown)),
 ];
 

@@ -290,6 +290,17 @@ pub fn say<R: Eprint>(
                 and the PAGES of their database",
             );
         }
+        14 => {
+            let _ = rt.eprintln(
+                "face: the archive ends before that commit: short tells how many it has, and the database has them all",
+            );
+        }
+        15 => {
+            let _ = rt.eprintln(
+                "face: the next commit of the archive has no room here: make a new database with as many PAGES and BLOCKS as \
+                the one that was archived",
+            );
+        }
         16 => {
             let _ = eprintln!(rt;
                 "face: that line of the input is no touch: each is r PAGE or w PAGE, PAGE 0 to 65535, and there are at \

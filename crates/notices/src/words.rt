@@ -14,12 +14,13 @@ usage: face new PAGES GROUPS BLOCKS   makes a database in the current folder
        face check                     tells whether the database in the current folder is sound, and changes nothing
        face archive FROM              tells the log's blocks from FROM on, as lines of text
        face verify PAGES              tells how many commits the archive on standard input has
+       face restore N POOL            writes the first N commits of that archive to a new database
 PAGES  1 to 65536, each of 32 records and 4096 octets of face.disk
 GROUPS a multiple of 4 from 8 to 16384, each of 33536 octets of face.flash
 BLOCKS 16 to 1048576, each of 512 octets of face.log
 POOL   1 to 4096, the pages that memory holds
 A trial has at most 1024 pages, 256 groups and 4096 blocks, and a script of at most 65536 octets
-COUNT  1 to 100000; SEED and FROM 0 to 18446744073709551615; numbers are decimal, with no leading zero";
+COUNT  1 to 100000; SEED, FROM and N 0 to 18446744073709551615; numbers are decimal, with no leading zero";
 
 /// A number that the words give.
 #[derive(Clone, Copy, Debug, PartialEq, Eq, Drop)]
@@ -31,6 +32,7 @@ pub enum Number {
     Count,
     Seed,
     From,
+    Commits,
     TrialPages,
     TrialGroups,
     TrialBlocks,
@@ -46,6 +48,7 @@ impl Number {
             Number::Count => "COUNT",
             Number::Seed => "SEED",
             Number::From => "FROM",
+            Number::Commits => "N",
         }
     }
 
@@ -58,7 +61,7 @@ impl Number {
             Number::Blocks => geometry_of(b"1", b"8", text).is_some(),
             Number::Pool => number_within(text, 1, POOL_MAX).is_some(),
             Number::Count => number_within(text, 1, COUNT_MAX).is_some(),
-            Number::Seed | Number::From => number_in(word).is_some(),
+            Number::Seed | Number::From | Number::Commits => number_in(word).is_some(),
             Number::TrialPages => trial_geometry_of(text, b"8", b"16").is_some(),
             Number::TrialGroups => trial_geometry_of(b"1", text, b"16").is_some(),
             Number::TrialBlocks => trial_geometry_of(b"1", b"8", text).is_some(),
@@ -71,7 +74,7 @@ impl Number {
 pub enum Wrong {
     /// There are none, or one isn't text.
     Nothing,
-    /// The first isn't one of `new`, `run`, `load`, `simulate`, `trial`, `check`, `archive` and `verify`.
+    /// The first isn't one of `new`, `run`, `load`, `simulate`, `trial`, `check`, `archive`, `verify` and `restore`.
     Unknown,
     /// The word of this place isn't this number.
     Unfit(usize, Number),
@@ -99,6 +102,8 @@ fn number_at(first: &str, place: usize) -> Option<Number> {
         ("trial", 5) => Some(Number::Pool),
         ("archive", 2) => Some(Number::From),
         ("verify", 2) => Some(Number::Pages),
+        ("restore", 2) => Some(Number::Commits),
+        ("restore", 3) => Some(Number::Pool),
         _ => None,
     }
 }
@@ -145,7 +150,7 @@ pub fn say_words<R: Eprint>(rt: &R, words: &[String]) {
         Some(Wrong::Unknown) => {
             let word = word_at(words, 1);
             eprintln!(rt;
-                "face: word 1 is {word:?}, and not new, run, load, simulate, trial, check, archive or verify"
+                "face: word 1 is {word:?}, and not new, run, load, simulate, trial, check, archive, verify or restore"
             )
         }
         Some(Wrong::Unfit(place, number)) => {

@@ -8,11 +8,14 @@ ghost use Rattle.face.specs.Hearing.{HearsInTime};
 ghost use Rattle.face.specs.Judged.{KeepsRules, RunsJudged};
 ghost use Rattle.face.specs.TopCall.{LoadContract, NewContract, RunContract};
 ghost use Rattle.command_line.specs.declared.request.Load.{Load};
+ghost use Rattle.command_line.specs.declared.request.Restoring.{Restoring};
 ghost use Rattle.command_line.specs.declared.request.Simulation.{Simulation};
 ghost use Rattle.command_line.specs.declared.request.TrialSizes.{TrialSizes};
 ghost use Rattle.command_line.specs.Words.{IsArchive, IsCheck, IsRun, IsNew, IsLoad, IsSimulate, IsTrial, IsVerify};
-ghost use Rattle.command_line.specs.Words.{HasDash, IsRight, words_of};
+ghost use Rattle.command_line.specs.Words.{HasDash, IsRestore, IsRight, words_of};
 ghost use Rattle.archive_report.specs.Contract.{ArchiveContract};
+ghost use Rattle.archive_restore.specs.Contract.{RestoreContract};
+ghost use Rattle.archive_restore.specs.Refusing.{IsWritten, RefusesFilled};
 ghost use Rattle.front_end.specs.Check.{CheckContract};
 ghost use Rattle.stream_report.specs.Contract.{VerifyContract};
 ghost use Rattle.trace_report.specs.Contract.{SimulateContract};
@@ -20,6 +23,7 @@ ghost use Rattle.face.specs.Trial.{TrialContract};
 ghost use Rattle.front_end.specs.Refusals.{RefusesWords, RefusesDevices, LacksMemory};
 
 use archive_report::archive;
+use archive_restore::restore;
 use command_line::{Request, Unread, read_words};
 use face::{lack_memory, serve, serve_load, serve_trial};
 use front_end::{make_new, serve_check, tell_words};
@@ -37,8 +41,9 @@ use trace_report::simulate;
 /// the work of `trial`, on a site in memory of these sizes, and touch no device either. The word `check` tells whether
 /// the devices are sound, and changes nothing. The words `archive FROM`, with FROM below 2^64, tell the log's sealed
 /// blocks from that one on, and change nothing but that the log is synced. The words `verify PAGES`, with PAGES from 1
-/// to 65,536, hear an archive of the log on the input and tell how many commits it has; they touch no device. All other
-/// words have status 2. Reading the words may want memory, which has status 4; then nothing is read or changed.
+/// to 65,536, hear an archive of the log on the input and tell how many commits it has; they touch no device. The words
+/// `restore N POOL`, with N below 2^64 and POOL as of a run, write the first N commits of an archive on the input to
+/// blank devices. All other words have status 2. Reading the words may want memory, which has status 4; then nothing is read or changed.
 pub fn face<S: Site>(alloc: Global, words: &[String], site: &mut S) -> u8
     // What each command does, and when each of its statuses comes.
     ensures run { (pool : ℕ) → IsRun (words_of words.now) pool
@@ -56,6 +61,9 @@ pub fn face<S: Site>(alloc: Global, words: &[String], site: &mut S) -> u8
         → ArchiveContract from (S.state site.old) (S.state site.new) result }
     ensures verify { (pages : ℕ) → IsVerify (words_of words.now) pages
         → VerifyContract pages (S.state site.old) (S.state site.new) result }
+    ensures restore { (r : Restoring) → IsRestore (words_of words.now) r
+        → RestoreContract r.commits (S.state site.old) (S.state site.new) result
+        ⊎ LacksMemory result (S.state site.old) (S.state site.new) }
     // Which octets a run takes of an honest site, and with which status, whatever stands on its devices.
     ensures hears { ((pool : ℕ) × IsRun (words_of words.now) pool) → IsTrue (S.state site.old).honest
         → HearsInTime result (S.state site.old) (S.state site.new) }
@@ -71,6 +79,13 @@ pub fn face<S: Site>(alloc: Global, words: &[String], site: &mut S) -> u8
         ⊎ LacksMemory result (S.state site.old) (S.state site.new) }
     ensures load_sizes { ((load : Load) × IsLoad (words_of words.now) load) → HasNoSizes (S.state site.old)
         → RefusesDevices result (S.state site.old) (S.state site.new)
+        ⊎ LacksMemory result (S.state site.old) (S.state site.new) }
+    ensures restore_sizes { ((r : Restoring) × IsRestore (words_of words.now) r) → HasNoSizes (S.state site.old)
+        → RefusesDevices result (S.state site.old) (S.state site.new)
+        ⊎ LacksMemory result (S.state site.old) (S.state site.new) }
+    // A restore refuses devices that aren't blank, and changes nothing of them, or a read of one fails.
+    ensures unfit { ((r : Restoring) × IsRestore (words_of words.now) r) → IsTrue (S.state site.old).honest
+        → IsWritten (S.state site.old) → RefusesFilled result (S.state site.old) (S.state site.new)
         ⊎ LacksMemory result (S.state site.old) (S.state site.new) }
     // All other words are refused, or memory was wanted before anything was done.
     ensures words { (result ≡ 2)
@@ -93,6 +108,7 @@ pub fn face<S: Site>(alloc: Global, words: &[String], site: &mut S) -> u8
         Ok(Request::Check) => serve_check(alloc, site),
         Ok(Request::Archive(from)) => archive(from, site),
         Ok(Request::Verify(pages)) => verify(alloc, pages, site),
+        Ok(Request::Restore(to)) => restore(alloc, to.commits, to.pool, site),
         Err(Unread::Words) => {
             let _ = tell_words(site);
             2

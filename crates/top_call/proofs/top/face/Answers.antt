@@ -3,18 +3,20 @@ use Rattle.site.specs.State.{Input}
 use Rattle.site.specs.declared.geometry.Geometry.{Geometry}
 use Rattle.face.specs.TopCall.{LoadContract, NewContract, RunContract}
 use Rattle.command_line.specs.declared.request.Load.{Load}
+use Rattle.command_line.specs.declared.request.Restoring.{Restoring}
 use Rattle.command_line.specs.declared.request.Simulation.{Simulation}
 use Rattle.command_line.specs.declared.request.TrialSizes.{TrialSizes}
 use Rattle.face.specs.Trial.{TrialContract}
 use Rattle.trace_report.specs.Contract.{SimulateContract}
-use Rattle.command_line.specs.Words.{IsArchive, IsLoad, IsNew, IsRight, IsSimulate, IsTrial, IsVerify, words_of, IsRun}
+use Rattle.command_line.specs.Words.{IsArchive, IsLoad, IsNew, IsRestore, IsRight, IsSimulate, IsTrial, IsVerify, words_of, IsRun}
 use Rattle.front_end.proofs.Endings.{only_tells}
-use Rattle.command_line.proofs.WordLaws.{one_archive_size, one_from, one_geometry, one_load, one_pool, one_simulation, one_trial}
+use Rattle.command_line.proofs.WordLaws.{one_archive_size, one_from, one_geometry, one_load, one_pool, one_restore, one_simulation, one_trial}
 use Rattle.front_end.proofs.Firsts.{first_line}
 use Rattle.archive_report.specs.Contract.{ArchiveContract}
 use Rattle.top_call.proofs.Archived.{first_archived, lacked_archive, not_two}
 use Rattle.top_call.proofs.Simulated.{first_simulated}
 use Rattle.stream_report.specs.Contract.{VerifyContract}
+use Rattle.archive_restore.specs.Contract.{RestoreContract}
 use Rattle.top_call.proofs.Verified.{first_verified, lacked_verify, never_two}
 use Rattle.top_call.proofs.top.face.Goals as goal
 
@@ -90,7 +92,7 @@ returns-in-Ok-Verify-clause-first g c =
 pub returns-in-Ok-Verify-clause-words : goal.returns-in-Ok-Verify-clause-words
 returns-in-Ok-Verify-clause-words g c =
     let found : IsVerify (words_of c.args.words.now) c.in-Ok-Verify.pages = search rules in
-    inr (inl (inr (inr (inr (inr (inr (inr (inr (c.in-Ok-Verify.pages, found)))))))))
+    inr (inl (inr (inr (inr (inr (inr (inr (inr (inl (c.in-Ok-Verify.pages, found))))))))))
 
 pub returns-in-Ok-Verify-clause-wrong : goal.returns-in-Ok-Verify-clause-wrong
 returns-in-Ok-Verify-clause-wrong g c two right = never_two c.verify.result c.verify.ensures.verify.others two
@@ -101,7 +103,53 @@ returns-in-Ok-Verify-clause-refused g c two = absurd (never_two c.verify.result 
 pub returns-in-Err-Words-clause-verify : goal.returns-in-Err-Words-clause-verify
 returns-in-Err-Words-clause-verify g c pages is_verify =
     let never : IsRight (words_of c.args.words.now) → ⊥ = search rules in
-    absurd (never (inr (inr (inr (inr (inr (inr (inr (pages, is_verify)))))))))
+    absurd (never (inr (inr (inr (inr (inr (inr (inr (inl (pages, is_verify))))))))))
+
+pub returns-in-Ok-Restore-clause-restore : goal.returns-in-Ok-Restore-clause-restore
+returns-in-Ok-Restore-clause-restore g c r is_restore =
+    let found : IsRestore (words_of c.args.words.now) c.in-Ok-Restore.to = search rules in
+    inl (subst (λ (x : Restoring). RestoreContract x.commits (g.S.Site.state c.args.site.now) (g.S.Site.state c.restore.new.site) c.restore.result) (one_restore (words_of c.args.words.now) _ r found is_restore) c.restore.ensures.restore)
+
+pub returns-in-Ok-Restore-clause-restore_sizes : goal.returns-in-Ok-Restore-clause-restore_sizes
+returns-in-Ok-Restore-clause-restore_sizes g c is_restore none = inl (c.restore.ensures.sizes none)
+
+pub returns-in-Ok-Restore-clause-unfit : goal.returns-in-Ok-Restore-clause-unfit
+returns-in-Ok-Restore-clause-unfit g c is_restore honest written = inl (c.restore.ensures.unfit honest written)
+
+pub returns-in-Ok-Restore-clause-words : goal.returns-in-Ok-Restore-clause-words
+returns-in-Ok-Restore-clause-words g c =
+    let found : IsRestore (words_of c.args.words.now) c.in-Ok-Restore.to = search rules in
+    inr (inl (inr (inr (inr (inr (inr (inr (inr (inr (c.in-Ok-Restore.to, found))))))))))
+
+pub returns-in-Ok-Restore-clause-wrong : goal.returns-in-Ok-Restore-clause-wrong
+returns-in-Ok-Restore-clause-wrong g c two right = c.restore.ensures.never two
+
+pub returns-in-Ok-Restore-clause-refused : goal.returns-in-Ok-Restore-clause-refused
+returns-in-Ok-Restore-clause-refused g c two = absurd (c.restore.ensures.never two)
+
+pub returns-in-Err-Memory-clause-restore : goal.returns-in-Err-Memory-clause-restore
+returns-in-Err-Memory-clause-restore g c r is_restore = inr c.lack_memory.ensures.lacks
+
+pub returns-in-Err-Memory-clause-restore_sizes : goal.returns-in-Err-Memory-clause-restore_sizes
+returns-in-Err-Memory-clause-restore_sizes g c is_restore none = inr c.lack_memory.ensures.lacks
+
+pub returns-in-Err-Memory-clause-unfit : goal.returns-in-Err-Memory-clause-unfit
+returns-in-Err-Memory-clause-unfit g c is_restore honest written = inr c.lack_memory.ensures.lacks
+
+pub returns-in-Err-Words-clause-restore : goal.returns-in-Err-Words-clause-restore
+returns-in-Err-Words-clause-restore g c r is_restore =
+    let never : IsRight (words_of c.args.words.now) → ⊥ = search rules in
+    absurd (never (inr (inr (inr (inr (inr (inr (inr (inr (r, is_restore))))))))))
+
+pub returns-in-Err-Words-clause-restore_sizes : goal.returns-in-Err-Words-clause-restore_sizes
+returns-in-Err-Words-clause-restore_sizes g c is_restore none =
+    let never : IsRight (words_of c.args.words.now) → ⊥ = search rules in
+    absurd (never (inr (inr (inr (inr (inr (inr (inr (inr is_restore)))))))))
+
+pub returns-in-Err-Words-clause-unfit : goal.returns-in-Err-Words-clause-unfit
+returns-in-Err-Words-clause-unfit g c is_restore honest written =
+    let never : IsRight (words_of c.args.words.now) → ⊥ = search rules in
+    absurd (never (inr (inr (inr (inr (inr (inr (inr (inr is_restore)))))))))
 
 pub returns-in-Err-Words-clause-refused : goal.returns-in-Err-Words-clause-refused
 returns-in-Err-Words-clause-refused g c two = only_tells _ (g.S.Site.state c.args.site.now) (g.S.Site.state c.tell_words.new.site) c.tell_words.result c.tell_words.ensures
