@@ -1,7 +1,8 @@
 -- The first failed call decides the status of a restore.
-use Rattle.std.proofs.Common.{◌≡◌, ◌≢◌, ◌≤◌, ℕ, inr, sym, ◌∙◌, arith, Result, Err}
+use Rattle.std.proofs.Common.{◌≡◌, ◌≤◌, ℕ, inr, arith, Result, Err}
+use Rattle.std.specs.Prelude.{⊤}
 use Rattle.site.specs.State.{State as Site}
-use Rattle.site.specs.Faults.{Faults, faults_in, TellFaults}
+use Rattle.site.specs.Faults.{faults_in, TellFaults}
 use Rattle.site.specs.declared.outside.Failed.{Failed}
 use Rattle.site.specs.declared.outside.Stop.TheVariants.{Device, Memory, Worn, Foreign}
 use Rattle.site.proofs.Working.{tell_faults_cases}
@@ -35,7 +36,7 @@ first_other status old mid new told is same tells = record {
 }
 
 pub first_stopped : {U : Type 0} (f : Fault) (status : ℕ) (old mid new : Site) (told : Result U Failed) → status ≡ fault_status f → faults_in mid ≡ after_fault f (faults_in old) → TellFaults told mid new → FirstDecides status old new
-first_stopped (fault.Unfit u) status old mid new told is same tells = first_unfit U u status old mid new told is (unfit_faults U u old mid same) tells
+first_stopped (fault.Unfit u) status old mid new told is same tells = first_unfit ⊤ u status old mid new told is (unfit_faults ⊤ u old mid same) tells
 first_stopped (fault.Halt h) status old mid new told is same tells = first_halted h status old mid new told is same tells
 first_stopped (fault.Stream number) status old mid new told is same tells = first_other status old mid new told (omega (arith, is)) same tells
 first_stopped (fault.Short commits) status old mid new told is same tells = first_other status old mid new told (omega (arith, is)) same tells
