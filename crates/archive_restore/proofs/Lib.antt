@@ -7,3 +7,4 @@ mod Heard
 mod Starts
 mod Outcomes
 mod Endings
+mod Faults

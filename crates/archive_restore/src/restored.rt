@@ -1,7 +1,9 @@
 // The work of `restore`.
-ghost use Rattle.std.specs.Prelude.{◌≤◌, IsTrue};
+ghost use Rattle.std.specs.Prelude.{◌≡◌, ◌≤◌, IsTrue};
 ghost use Rattle.engine.specs.Leaves.{HasNoSizes};
+ghost use Rattle.front_end.specs.Faults.{FirstDecides, SameFaults};
 ghost use Rattle.front_end.specs.Refusals.{RefusesDevices};
+ghost use Rattle.archive_restore.specs.Faults.{RestoreFaults};
 ghost use Rattle.archive_restore.specs.Refusing.{IsWritten, RefusesFilled, RefusesSizes, RefusesWritten};
 ghost use Rattle.site.specs.Calls.{Preserves};
 ghost use Rattle.archive_restore.specs.Contract.{RestoreContract, RestoreOutcome};
@@ -22,6 +24,7 @@ fn restore_commits<S: Site>(alloc: Global, count: u64, pool: u32, site: &mut S) 
     requires pool { (1 ≤ pool) × (pool ≤ 4096) }
     ensures restores { (g : Geometry) → IsTarget g (S.state site.old)
         → RestoreOutcome count g (S.state site.old) (S.state site.new) result }
+    ensures faults { RestoreFaults result (S.state site.old) (S.state site.new) }
     ensures refuses { HasNoSizes (S.state site.old) → RefusesSizes result (S.state site.old) (S.state site.new) }
     ensures unfit { IsTrue (S.state site.old).honest → IsWritten (S.state site.old)
         → RefusesWritten result (S.state site.old) (S.state site.new) }
@@ -58,6 +61,11 @@ pub fn restore<S: Site>(alloc: Global, count: u64, pool: u32, site: &mut S) -> u
     // Of every honest site: devices that aren't blank have 10, unless a read fails, and nothing of them is changed.
     ensures unfit { IsTrue (S.state site.old).honest → IsWritten (S.state site.old)
         → RefusesFilled result (S.state site.old) (S.state site.new) }
+    // The first failed call decides the status, and with status 0 none has failed.
+    ensures first { FirstDecides result (S.state site.old) (S.state site.new) }
+    ensures faults { result ≡ 0 → SameFaults (S.state site.old) (S.state site.new) }
+    // 2 is the status of wrong words alone.
+    ensures never { result ≡ 2 → ⊥ }
     ensures preserves { Preserves (S.state site.old) (S.state site.new) }
 {
     match restore_commits(alloc, count, pool, site) {

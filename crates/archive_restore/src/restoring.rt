@@ -15,6 +15,7 @@ ghost use Rattle.site.specs.declared.outside.Stop.{Stop};
 ghost use Rattle.front_end.specs.declared.halt.Halt.{Halt};
 ghost use Rattle.archive_restore.specs.declared.fault.Fault.{Fault};
 ghost use Rattle.engine.specs.Leaves.{HasNoSizes};
+ghost use Rattle.archive_restore.specs.Faults.{RestoreFaults};
 ghost use Rattle.archive_restore.specs.Refusing.{IsWritten, RefusesSizes, RefusesWritten};
 ghost use Rattle.archive_restore.specs.Restores.{IsTarget};
 ghost use Rattle.archive_restore.specs.Progress.{GoesOnRestoring, HasHeard, HasWritten, IsPopped, StopsRestoring};
@@ -67,7 +68,7 @@ fn blank_sizes<S: Site>(site: &mut S) -> Result<Geometry, Fault>
     ensures blank { IsTrue (S.state site.old).honest → OnOk result (IsBlank (S.state site.old).image) }
     ensures same { IsTrue (S.state site.old).honest → IsUnchanged (S.state site.old) (S.state site.new) }
     ensures preserves { Preserves (S.state site.old) (S.state site.new) }
-    ensures faults { OnOk result (SameFaults (S.state site.old) (S.state site.new)) }
+    ensures faults { RestoreFaults result (S.state site.old) (S.state site.new) }
     ensures refuses { HasNoSizes (S.state site.old) → RefusesSizes result (S.state site.old) (S.state site.new) }
     ensures unfit { IsTrue (S.state site.old).honest → IsWritten (S.state site.old)
         → RefusesWritten result (S.state site.old) (S.state site.new) }
@@ -91,6 +92,7 @@ impl Restoring {
         ensures going { IfOk result (λ r. (tested : Site) × Preserves (S.state site.old) tested
             × SameFaults (S.state site.old) tested × GoesOnRestoring tested (S.state site.new) r) }
         ensures none { IfOk result (λ r. r.written ≡ 0) }
+        ensures faults { RestoreFaults result (S.state site.old) (S.state site.new) }
         ensures refuses { HasNoSizes (S.state site.old) → RefusesSizes result (S.state site.old) (S.state site.new) }
         ensures unfit { IsTrue (S.state site.old).honest → IsWritten (S.state site.old)
             → RefusesWritten result (S.state site.old) (S.state site.new) }
@@ -148,6 +150,7 @@ impl Restoring {
         ensures left { IsTrue (S.state site.old).honest → (S.state site.new).input ≡ (S.state site.old).input }
         ensures preserves { Preserves (S.state site.old) (S.state site.new) }
         ensures still { OnOk result ((self.new.written ≡ self.old.written) × (self.new.source ≡ self.old.source)) }
+        ensures faults { RestoreFaults result (S.state site.old) (S.state site.new) }
     {
         if !fits_log(self.cap, net) {
             return Err(Fault::Full);
@@ -181,6 +184,7 @@ impl Restoring {
             → HasWritten pool g s entry (S.state site.old) self.old
             → IfOk result (λ all. all ≡ false → (self.new.written ≡ length s.nets) × (self.new.written < count)) }
         ensures source { OnOk result (self.new.source ≡ self.old.source) }
+        ensures faults { RestoreFaults result (S.state site.old) (S.state site.new) }
         ensures left { IsTrue (S.state site.old).honest → (S.state site.new).input ≡ (S.state site.old).input }
         ensures preserves { Preserves (S.state site.old) (S.state site.new) }
     {
@@ -214,6 +218,7 @@ impl Restoring {
             → IfErr result (λ fault. (behind : List (List ℕ)) × (lines_of true entry.input.left ≡ lines ++ behind)
             × StopsRestoring g lines behind s count entry (S.state site.new) fault) }
         ensures written { self.new.written ≡ self.old.written }
+        ensures faults { RestoreFaults result (S.state site.old) (S.state site.new) }
         ensures preserves { Preserves (S.state site.old) (S.state site.new) }
     {
         let mut line = ArrayVec::<u8, 1027>::new();

@@ -1,5 +1,8 @@
-use Rattle.std.proofs.Common.{inl, inr, refl}
+use Rattle.std.proofs.Common.{inl, inr, refl, ◌∙◌, ap, arith}
+use Rattle.site.specs.Faults.{with_output_fault}
 use Rattle.site.proofs.Laws.{goes_in_sequence, stays_honest}
+use Rattle.front_end.proofs.Firsts.{first_none, first_untold}
+use Rattle.archive_restore.proofs.Faults.{first_stopped, status_from}
 use Rattle.archive_restore.proofs.Endings.{filled_told, headline_done, headline_stopped, refuses_told}
 use Rattle.archive_restore.proofs.restored.restore.Goals as goal
 
@@ -58,3 +61,24 @@ returns-in-Err-tell_restored-clause-preserves g c = goes_in_sequence _ _ _ c.res
 
 pub returns-in-Err-clause-preserves : goal.returns-in-Err-clause-preserves
 returns-in-Err-clause-preserves g c = goes_in_sequence _ _ _ c.restore_commits.ensures.preserves c.tell_fault.ensures.preserves
+
+pub returns-in-Ok-tell_restored-clause-first : goal.returns-in-Ok-tell_restored-clause-first
+returns-in-Ok-tell_restored-clause-first g c =
+    first_none (g.S.Site.state c.args.site.now) (g.S.Site.state c.tell_restored.new.site) (c.in-Ok-tell_restored.ensures.faults ∙ c.in-Ok.ensures.faults)
+
+pub returns-in-Ok-tell_restored-clause-faults : goal.returns-in-Ok-tell_restored-clause-faults
+returns-in-Ok-tell_restored-clause-faults g c is = c.in-Ok-tell_restored.ensures.faults ∙ c.in-Ok.ensures.faults
+
+pub returns-in-Err-tell_restored-clause-first : goal.returns-in-Err-tell_restored-clause-first
+returns-in-Err-tell_restored-clause-first g c =
+    first_untold (g.S.Site.state c.args.site.now) (g.S.Site.state c.tell_restored.new.site) (c.in-Err-tell_restored.ensures.faults ∙ ap with_output_fault c.in-Ok.ensures.faults)
+
+pub returns-in-Err-clause-first : goal.returns-in-Err-clause-first
+returns-in-Err-clause-first g c =
+    first_stopped c.in-Err.fault c.status.result (g.S.Site.state c.args.site.now) (g.S.Site.state c.restore_commits.new.site) (g.S.Site.state c.tell_fault.new.site) c.tell_fault.result c.status.ensures c.in-Err.ensures.faults c.tell_fault.ensures.faults
+
+pub returns-in-Err-clause-faults : goal.returns-in-Err-clause-faults
+returns-in-Err-clause-faults g c is = let from = status_from c.in-Err.fault c.status.result c.status.ensures in absurd (omega (arith, from, is))
+
+pub returns-in-Err-clause-never : goal.returns-in-Err-clause-never
+returns-in-Err-clause-never g c is = let from = status_from c.in-Err.fault c.status.result c.status.ensures in omega (arith, from, is)

@@ -1,5 +1,6 @@
-use Rattle.std.proofs.Common.{◌+◌, ◌++◌, ◌∷◌, [], length-append, refl, sym, ap, true, arith}
+use Rattle.std.proofs.Common.{◌+◌, ◌++◌, ◌∷◌, [], length-append, refl, sym, ◌∙◌, ap, true, arith}
 use Rattle.site.specs.declared.geometry.Geometry.{Geometry}
+use Rattle.site.specs.Faults.{Faults}
 use Rattle.site.proofs.Laws.{goes_in_sequence}
 use Rattle.shell_text.specs.Runs.{lines_of}
 use Rattle.stream_lines.specs.Lines.{to_hear}
@@ -9,11 +10,13 @@ use Rattle.archive_restore.proofs.Heard.{honest_of}
 use Rattle.archive_restore.proofs.Outcomes.{heard_still, outcome_done, outcome_never, outcome_stopped, too_many}
 use Rattle.archive_restore.proofs.restored.restore_commits.Given.{Over}
 use Rattle.archive_restore.proofs.restored.restore_commits.Goals.{After-hear}
+use Rattle.archive_restore.specs.Faults.{after_fault}
 use Rattle.archive_restore.proofs.restored.restore_commits.Goals as goal
 
 pub loop-line-init : goal.loop-line-init
 loop-line-init g c = record {
   preserves = c.start.ensures.preserves;
+  faults = c.in-Ok.ensures.faults;
   most = let none = c.in-Ok.ensures.none in omega (arith, none);
   going = (c.in-Ok.ensures.going.0, c.in-Ok.ensures.going.3);
   progress = λ geometry t.
@@ -74,6 +77,7 @@ loop-line-preserved g c =
     let s = (goal.at.loop-line-preserved g c).After-hear in
     record {
       preserves = goes_in_sequence _ _ _ c.loop-line.invariant.preserves (goes_in_sequence _ _ _ c.write_waiting.ensures.preserves c.hear.ensures.preserves);
+      faults = c.in_default.ensures.faults ∙ c.in-Ok-false.ensures.faults ∙ c.loop-line.invariant.faults;
       most = let most = c.in-Ok-false.ensures.most in let same = c.hear.ensures.written in omega (arith, most, same);
       going = (c.loop-line.invariant.going.0, c.in_default.ensures.going c.loop-line.invariant.going.0 (c.in-Ok-false.ensures.going c.loop-line.invariant.going.0 c.loop-line.invariant.going.1));
       progress = λ geometry t.
@@ -131,3 +135,15 @@ returns-clause-refuses g c none = absurd (c.in-Ok.ensures.refuses none)
 
 pub returns-clause-unfit : goal.returns-clause-unfit
 returns-clause-unfit g c honest w = absurd (c.in-Ok.ensures.unfit honest w)
+
+pub returns-in-Ok-true-clause-faults : goal.returns-in-Ok-true-clause-faults
+returns-in-Ok-true-clause-faults g c = c.in-Ok-true.ensures.faults ∙ c.loop-line.invariant.faults
+
+pub returns-in-Err-write_waiting-clause-faults : goal.returns-in-Err-write_waiting-clause-faults
+returns-in-Err-write_waiting-clause-faults g c = c.in-Err-write_waiting.ensures.faults ∙ ap (λ (f : Faults). after_fault c.in-Err-write_waiting.fault f) c.loop-line.invariant.faults
+
+pub returns-in-Err-hear-clause-faults : goal.returns-in-Err-hear-clause-faults
+returns-in-Err-hear-clause-faults g c = c.in-Err-hear.ensures.faults ∙ ap (λ (f : Faults). after_fault c.in-Err-hear.fault f) (c.in-Ok-false.ensures.faults ∙ c.loop-line.invariant.faults)
+
+pub returns-clause-faults : goal.returns-clause-faults
+returns-clause-faults g c = c.loop-line.invariant.faults

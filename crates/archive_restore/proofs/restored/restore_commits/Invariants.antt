@@ -2,6 +2,7 @@ use Rattle.std.proofs.Common.{◌≤◌}
 use Rattle.site.specs.State.{State as Site}
 use Rattle.site.specs.Calls.{Preserves}
 use Rattle.site.specs.declared.geometry.Geometry.{Geometry}
+use Rattle.front_end.specs.Faults.{SameFaults}
 use Rattle.archive_restore.specs.Progress.{GoesOnRestoring, IsUnderWay}
 use Rattle.archive_restore.specs.Restores.{IsTarget}
 use Rattle.archive_restore.proofs.restored.restore_commits.Given as goal
@@ -12,6 +13,7 @@ invariant-loop-line g l =
     let now = g.S.Site.state l.site in
     record {
       preserves : Preserves old now;
+      faults : SameFaults old now;
       most : l.restoring.written ≤ l.count;
       going : (entry : Site) × GoesOnRestoring entry now l.restoring;
       progress : (geometry : Geometry) → IsTarget geometry old → IsUnderWay l.pool geometry old now l.restoring l.line;

@@ -1,5 +1,7 @@
 use Rattle.std.proofs.Common.{refl}
+use Rattle.std.specs.Prelude.{⊤}
 use Rattle.archive_restore.proofs.Starts.{stops_untouched}
+use Rattle.archive_restore.proofs.Faults.{test_faults}
 use Rattle.archive_restore.proofs.restoring.blank_sizes.Goals as goal
 
 pub returns-in-Err-clause-never : goal.returns-in-Err-clause-never
@@ -20,3 +22,6 @@ returns-in-Ok-clause-unfit g c honest w = w.filled (c.in-Ok.ensures.blank honest
 
 pub returns-in-Err-clause-unfit : goal.returns-in-Err-clause-unfit
 returns-in-Err-clause-unfit g c honest w = (c.in-Err.unfit, refl, c.in-Err.ensures.unfit, c.test_blank.ensures.same honest)
+
+pub returns-in-Err-clause-faults : goal.returns-in-Err-clause-faults
+returns-in-Err-clause-faults g c = test_faults ⊤ c.in-Err.unfit (g.S.Site.state c.args.site.now) (g.S.Site.state c.test_blank.new.site) c.in-Err.ensures.faults

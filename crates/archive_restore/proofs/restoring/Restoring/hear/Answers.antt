@@ -1,13 +1,17 @@
-use Rattle.std.proofs.Common.{◌++◌, ◌∷◌, [], List, ℕ, true, refl, sym, ◌∙◌, ap, subst, Err}
+use Rattle.std.proofs.Common.{◌≡◌, ◌++◌, ◌∷◌, [], List, ℕ, true, refl, sym, ◌∙◌, ap, subst, Err}
 use Rattle.std.specs.Prelude.{take}
+use Rattle.site.specs.Faults.{faults_in}
 use Rattle.site.proofs.Laws.{rose_since}
 use Rattle.shell_text.specs.Runs.{lines_of}
+use Rattle.stream_lines.specs.Faults as hearing
 use Rattle.stream_lines.specs.Lines.{HearsLine, to_hear}
+use Rattle.stream_lines.specs.declared.source.Fault as source
 use Rattle.stream_lines.specs.declared.source.Fault.TheVariants as taking
 use Rattle.stream_lines.specs.declared.source.Heard.TheVariants as kind
 use Rattle.archive_restore.specs.declared.fault.Fault.{Fault}
 use Rattle.archive_restore.specs.Progress.{StopsRestoring}
 use Rattle.archive_restore.proofs.Heard.{cut_as, goes_on_heard, heard_as, hears_on, honest_of, left_with, line_first, long_refused, over_limit, stops_here}
+use Rattle.archive_restore.specs.Faults.{after_fault}
 use Rattle.archive_restore.proofs.restoring.Restoring.hear.Goals as goal
 
 pub returns-in-Err-Input-clause-stops : goal.returns-in-Err-Input-clause-stops
@@ -101,3 +105,12 @@ returns-in-Err-Memory-clause-stops g c pool geometry s entry lines count goes h 
       subst (λ (f : Fault). StopsRestoring geometry lines (lines_of true (to_hear r.source mid)) s count entry new f) (sym c.lacks_memory.ensures)
           (stops_here pool geometry s entry mid new r h (c.next.ensures.same honest) lines (lines_of true (to_hear r.source mid)) count _ tt less),
     )
+
+pub returns-in-Err-Input-clause-faults : goal.returns-in-Err-Input-clause-faults
+returns-in-Err-Input-clause-faults g c = c.in-Err-Input.ensures.faults ∙ ap (λ (f : source.Fault). hearing.after_fault f (faults_in (g.S.Site.state c.args.site.now))) c.in-Err-Input.field-0-is
+
+pub returns-in-Err-Limit-clause-faults : goal.returns-in-Err-Limit-clause-faults
+returns-in-Err-Limit-clause-faults g c = c.in-Err-Limit.ensures.faults ∙ ap (λ (f : source.Fault). hearing.after_fault f (faults_in (g.S.Site.state c.args.site.now))) c.in-Err-Limit.field-0-is
+
+pub returns-in-Err-Memory-clause-faults : goal.returns-in-Err-Memory-clause-faults
+returns-in-Err-Memory-clause-faults g c = subst (λ (f : Fault). faults_in (g.S.Site.state c.next.new.site) ≡ after_fault f (faults_in (g.S.Site.state c.args.site.now))) (sym c.lacks_memory.ensures) c.in-Ok-Line.ensures.faults

@@ -1,6 +1,8 @@
-use Rattle.std.proofs.Common.{◌-◌, ◌*◌, List, [], ℕ, length, refl, sym, ◌∙◌, ap, subst, arith}
+use Rattle.std.proofs.Common.{◌-◌, ◌*◌, ◌≡◌, List, [], ℕ, length, refl, sym, ◌∙◌, ap, subst, arith}
 use Rattle.std.specs.Prelude.{replicate}
 use Rattle.std.proofs.lemmas.List.{length-replicate}
+use Rattle.site.specs.Faults.{Faults, faults_in}
+use Rattle.front_end.specs.Faults.{after_halt}
 use Rattle.site.proofs.Laws.{goes_in_sequence}
 use Rattle.site.specs.declared.geometry.Geometry.{Geometry}
 use Rattle.log_archive.specs.Accepted.{blank_stream}
@@ -9,6 +11,7 @@ use Rattle.archive_restore.specs.declared.fault.Fault.{Fault}
 use Rattle.archive_restore.specs.Progress.{StopsRestoring}
 use Rattle.archive_restore.proofs.Starts.{cause_since, heard_none, one_geometry, still_target, stops_at_restart, stops_untouched, written_none}
 use Rattle.archive_restore.proofs.Writes.{ends_halt, not_between}
+use Rattle.archive_restore.specs.Faults.{after_fault}
 use Rattle.archive_restore.proofs.restoring.Restoring.start.Goals as goal
 
 pub returns-in_default-clause-never : goal.returns-in_default-clause-never
@@ -105,3 +108,15 @@ returns-in-Err-begin-clause-refuses g c none = absurd (c.in-Ok.ensures.refuses n
 
 pub returns-in-Err-begin-clause-unfit : goal.returns-in-Err-begin-clause-unfit
 returns-in-Err-begin-clause-unfit g c honest w = absurd (c.in-Ok.ensures.unfit honest w)
+
+pub returns-in_default-clause-faults : goal.returns-in_default-clause-faults
+returns-in_default-clause-faults g c = subst (λ (f : Fault). faults_in (g.S.Site.state c.blank_sizes.new.site) ≡ after_fault f (faults_in (g.S.Site.state c.args.site.now))) (sym c.lacks_memory.ensures) c.in-Ok.ensures.faults
+
+pub returns-in_default-blank-clause-faults : goal.returns-in_default-blank-clause-faults
+returns-in_default-blank-clause-faults g c = subst (λ (f : Fault). faults_in (g.S.Site.state c.blank_sizes.new.site) ≡ after_fault f (faults_in (g.S.Site.state c.args.site.now))) (sym c.lacks_memory-in_default-blank.ensures) c.in-Ok.ensures.faults
+
+pub returns-in-Ok-begin-clause-faults : goal.returns-in-Ok-begin-clause-faults
+returns-in-Ok-begin-clause-faults g c = c.in-Ok-begin.ensures.ends.faults ∙ c.in-Ok.ensures.faults
+
+pub returns-in-Err-begin-clause-faults : goal.returns-in-Err-begin-clause-faults
+returns-in-Err-begin-clause-faults g c = c.in-Err-begin.ensures.ends.faults ∙ ap (λ (f : Faults). after_halt c.in-Err-begin.halt f) c.in-Ok.ensures.faults

@@ -1,4 +1,6 @@
-use Rattle.std.proofs.Common.{sym, ◌∙◌, subst, true≢false}
+use Rattle.std.proofs.Common.{sym, ◌∙◌, ap, subst, true≢false}
+use Rattle.site.specs.Faults.{Faults}
+use Rattle.front_end.specs.Faults.{after_halt}
 use Rattle.net_lines.specs.Nets.{AreWritable, Fits}
 use Rattle.archive_restore.proofs.Writes.{carried_now, goes_more, popped_cap, popped_goes, popped_writable, room_now, stops_full, stops_halted, table, first, written_more}
 use Rattle.archive_restore.proofs.restoring.Restoring.write.Goals as goal
@@ -67,3 +69,15 @@ returns-clause-writes g c pool geometry s entry before h p =
 
 pub returns-in-Err-clause-left : goal.returns-in-Err-clause-left
 returns-in-Err-clause-left g c honest = c.write_net.ensures.left honest
+
+pub returns-in-Err-clause-faults : goal.returns-in-Err-clause-faults
+returns-in-Err-clause-faults g c =
+    let q = c.requires.going in
+    let goes = popped_goes q.0 (g.S.Site.state c.args.site.now) q.1 c.args.self.now c.args.net.now q.2 q.3 in
+    (c.in-Err.ensures.ends q.0 goes).faults ∙ ap (λ (f : Faults). after_halt c.in-Err.halt f) (sym goes.faults)
+
+pub returns-clause-faults : goal.returns-clause-faults
+returns-clause-faults g c =
+    let q = c.requires.going in
+    let goes = popped_goes q.0 (g.S.Site.state c.args.site.now) q.1 c.args.self.now c.args.net.now q.2 q.3 in
+    (c.in_default.ensures.ends q.0 goes).faults ∙ sym goes.faults

@@ -1,7 +1,9 @@
-use Rattle.std.proofs.Common.{refl, ◌∙◌, arith}
+use Rattle.std.proofs.Common.{refl, ◌∙◌, ap, arith}
+use Rattle.site.specs.Faults.{Faults}
 use Rattle.site.proofs.Laws.{goes_in_sequence, goes_nowhere, stays_honest}
 use Rattle.std.specs.Prelude.{take}
 use Rattle.archive_restore.proofs.Writes.{all_written, none_popped, none_popped_goes, popped_next}
+use Rattle.archive_restore.specs.Faults.{after_fault}
 use Rattle.archive_restore.proofs.restoring.Restoring.write_waiting.Goals as goal
 
 pub loop-self-init : goal.loop-self-init
@@ -9,6 +11,7 @@ loop-self-init g c = record {
   most = c.requires.most;
   source = refl;
   preserves = goes_nowhere (g.S.Site.state c.args.site.now);
+  faults = refl;
   left = λ honest. refl;
   going = λ entry goes. goes;
   writes = λ pool geometry s entry h. h;
@@ -29,6 +32,7 @@ loop-self-preserved g c =
       most = omega (arith, c.loop-self-test.true, c.in_default-write.ensures.still.0);
       source = c.in_default-write.ensures.still.1 ∙ c.loop-self.invariant.source;
       preserves = goes_in_sequence old mid new c.loop-self.invariant.preserves c.write.ensures.preserves;
+      faults = c.in_default-write.ensures.faults ∙ c.loop-self.invariant.faults;
       left = λ honest. c.write.ensures.left (stays_honest old mid c.loop-self.invariant.preserves honest) ∙ c.loop-self.invariant.left honest;
       going = λ entry goes. c.in_default-write.ensures.going entry c.loop-self.self (c.loop-self.invariant.going entry goes) p;
       writes = λ pool geometry s entry h. c.in_default-write.ensures.writes pool geometry s entry c.loop-self.self (c.loop-self.invariant.writes pool geometry s entry h) p;
@@ -59,3 +63,6 @@ pub returns-in_default-clause-none : goal.returns-in_default-clause-none
 returns-in_default-clause-none g c pool geometry s entry h is =
     let at = c.loop-self.invariant.writes pool geometry s entry h in
     (all_written c.loop-self.self.written s.nets at.few (c.in_default.ensures.all geometry.pages s (take c.loop-self.self.written s.nets) at.replay).0, c.loop-self-test.true)
+
+pub returns-in-Err-clause-faults : goal.returns-in-Err-clause-faults
+returns-in-Err-clause-faults g c = c.in-Err.ensures.faults ∙ ap (λ (f : Faults). after_fault c.in-Err.fault f) c.loop-self.invariant.faults

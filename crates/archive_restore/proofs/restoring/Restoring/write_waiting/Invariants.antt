@@ -2,6 +2,7 @@ use Rattle.std.proofs.Common.{◌≡◌, ◌-◌, ◌≤◌, ℕ, IsTrue}
 use Rattle.site.specs.State.{State as Site}
 use Rattle.site.specs.Calls.{Preserves}
 use Rattle.site.specs.declared.geometry.Geometry.{Geometry}
+use Rattle.front_end.specs.Faults.{SameFaults}
 use Rattle.log_archive.specs.Accepted.{Stream}
 use Rattle.archive_restore.specs.Progress.{GoesOnRestoring, HasWritten}
 use Rattle.archive_restore.proofs.restoring.Restoring.write_waiting.Given as goal
@@ -14,6 +15,7 @@ invariant-loop-self g l =
       most : l.self.written ≤ l.count;
       source : l.self.source ≡ l.fn.self.source;
       preserves : Preserves old now;
+      faults : SameFaults old now;
       left : IsTrue old.honest → now.input ≡ old.input;
       going : (entry : Site) → GoesOnRestoring entry old l.fn.self → GoesOnRestoring entry now l.self;
       writes : (pool : ℕ) (geometry : Geometry) (s : Stream) (entry : Site) → HasWritten pool geometry s entry old l.fn.self → HasWritten pool geometry s entry now l.self;
