@@ -41,9 +41,10 @@ use trace_report::simulate;
 /// the work of `trial`, on a site in memory of these sizes, and touch no device either. The word `check` tells whether
 /// the devices are sound, and changes nothing. The words `archive FROM`, with FROM below 2^64, tell the log's sealed
 /// blocks from that one on, and change nothing but that the log is synced. The words `verify PAGES`, with PAGES from 1
-/// to 65,536, hear an archive of the log on the input and tell how many commits it has; they touch no device. The words
-/// `restore N POOL`, with N below 2^64 and POOL as of a run, write the first N commits of an archive on the input to
-/// blank devices. All other words have status 2. Reading the words may want memory, which has status 4; then nothing is read or changed.
+/// to 65,536, hear an archive of the log on the input and tell how many commits it has; they touch no device. The
+/// words `restore N POOL`, with N below 2^64 and POOL as of a run, write the first N commits of an archive on the
+/// input to blank devices. All other words have status 2. Reading the words may want memory, which has status 4; then
+/// nothing is read or changed.
 pub fn face<S: Site>(alloc: Global, words: &[String], site: &mut S) -> u8
     // What each command does, and when each of its statuses comes.
     ensures run { (pool : ℕ) → IsRun (words_of words.now) pool
