@@ -148,6 +148,8 @@ if has strace && strace -o /dev/null true 2>/dev/null; then
     strace -f -o "$folder/trace" -e trace=openat,write,pwrite64,fsync,unlink,link "$face" check >/dev/null </dev/null
     [ "$(grep -c '"face\..*O_RDONLY' "$folder/trace")" -eq 3 ] && [ "$(grep -c -e 'O_RDWR' -e 'write' -e 'link(' -e 'fsync(' "$folder/trace")" -eq 1 ]
     verdict 'it opens to read, and writes one line' $?
+    # Of four pages three have no frame on flash, so they are read from the disk.
+    mkdir "$folder/wide" && cd "$folder/wide" && "$face" new 4 8 16 >/dev/null && printf 'set 5 0a\nset 6 0b\nset 6 0c\n' | "$face" run 1 >/dev/null
     out=$(strace -f -o /dev/null -P face.disk -e inject=pread64:error=EIO:when=1 "$face" check 2>"$folder/said" </dev/null)
     [ $? -eq 3 ] && [ "$out" = 'fault disk' ] && grep -q "^face: face.disk couldn't be read: Input/output error (os error 5)$" "$folder/said"
     verdict 'a disk that cannot be read' $?
