@@ -19,10 +19,11 @@ use Rattle.clap.proofs.OnLiterals.{clap_on_literals}
 use Rattle.clap.proofs.WalkLemmas.{first_value-rows}
 use Rattle.site.specs.declared.geometry.Geometry.{Geometry}
 use Rattle.command_line.specs.declared.request.Load.{Load}
+use Rattle.command_line.specs.declared.request.Restoring.{Restoring}
 use Rattle.command_line.specs.declared.request.Simulation.{Simulation}
 use Rattle.command_line.specs.declared.request.TrialSizes.{TrialSizes}
-use Rattle.command_line.specs.Words.{IsArchive, IsVerify, IsRun, IsNew, IsLoad, IsSimulate, IsTrial, IsCheck, IsRight, is_dashed}
-use Rattle.command_line.specs.Program.{ArePages, AreSizes, IsFrom, IsLoadOf, IsPool, IsReadFrom, IsSimulationOf, IsTrialOf, program}
+use Rattle.command_line.specs.Words.{IsArchive, IsVerify, IsRestore, IsRun, IsNew, IsLoad, IsSimulate, IsTrial, IsCheck, IsRight, is_dashed}
+use Rattle.command_line.specs.Program.{ArePages, AreSizes, IsFrom, IsLoadOf, IsPool, IsReadFrom, IsRestoringOf, IsSimulationOf, IsTrialOf, program}
 use Rattle.command_line.proofs.ClapLaws.{Plain, plain, plains, line_of, written_out}
 
 -- the words are a name and texts, and the rows have these under their names
@@ -51,40 +52,42 @@ first (k ∷ ks) b e = absurd (refused e refl)
 -- The first word is the name of a subcommand, at which the program's walk stops.
 
 abbrev IsName : Text → Type 0
-IsName w = (w ≡ codes "new") ⊎ ((w ≡ codes "run") ⊎ ((w ≡ codes "load") ⊎ ((w ≡ codes "simulate") ⊎ ((w ≡ codes "trial") ⊎ ((w ≡ codes "check") ⊎ ((w ≡ codes "archive") ⊎ (w ≡ codes "verify")))))))
+IsName w = (w ≡ codes "new") ⊎ ((w ≡ codes "run") ⊎ ((w ≡ codes "load") ⊎ ((w ≡ codes "simulate") ⊎ ((w ≡ codes "trial") ⊎ ((w ≡ codes "check") ⊎ ((w ≡ codes "archive") ⊎ ((w ≡ codes "verify") ⊎ (w ≡ codes "restore"))))))))
 
 -- what holds of each name
-of_each : (P : Text → Type 0) → P (codes "new") → P (codes "run") → P (codes "load") → P (codes "simulate") → P (codes "trial") → P (codes "check") → P (codes "archive") → P (codes "verify") → (w : Text) → IsName w → P w
-of_each P new run load simulate trial check archive verify w (inl e) = subst P (sym e) new
-of_each P new run load simulate trial check archive verify w (inr (inl e)) = subst P (sym e) run
-of_each P new run load simulate trial check archive verify w (inr (inr (inl e))) = subst P (sym e) load
-of_each P new run load simulate trial check archive verify w (inr (inr (inr (inl e)))) = subst P (sym e) simulate
-of_each P new run load simulate trial check archive verify w (inr (inr (inr (inr (inl e))))) = subst P (sym e) trial
-of_each P new run load simulate trial check archive verify w (inr (inr (inr (inr (inr (inl e)))))) = subst P (sym e) check
-of_each P new run load simulate trial check archive verify w (inr (inr (inr (inr (inr (inr (inl e))))))) = subst P (sym e) archive
-of_each P new run load simulate trial check archive verify w (inr (inr (inr (inr (inr (inr (inr e))))))) = subst P (sym e) verify
+of_each : (P : Text → Type 0) → P (codes "new") → P (codes "run") → P (codes "load") → P (codes "simulate") → P (codes "trial") → P (codes "check") → P (codes "archive") → P (codes "verify") → P (codes "restore") → (w : Text) → IsName w → P w
+of_each P new run load simulate trial check archive verify restore w (inl e) = subst P (sym e) new
+of_each P new run load simulate trial check archive verify restore w (inr (inl e)) = subst P (sym e) run
+of_each P new run load simulate trial check archive verify restore w (inr (inr (inl e))) = subst P (sym e) load
+of_each P new run load simulate trial check archive verify restore w (inr (inr (inr (inl e)))) = subst P (sym e) simulate
+of_each P new run load simulate trial check archive verify restore w (inr (inr (inr (inr (inl e))))) = subst P (sym e) trial
+of_each P new run load simulate trial check archive verify restore w (inr (inr (inr (inr (inr (inl e)))))) = subst P (sym e) check
+of_each P new run load simulate trial check archive verify restore w (inr (inr (inr (inr (inr (inr (inl e))))))) = subst P (sym e) archive
+of_each P new run load simulate trial check archive verify restore w (inr (inr (inr (inr (inr (inr (inr (inl e)))))))) = subst P (sym e) verify
+of_each P new run load simulate trial check archive verify restore w (inr (inr (inr (inr (inr (inr (inr (inr e)))))))) = subst P (sym e) restore
 
 -- a first word that is none is refused
-stray : (w : Text) (rest : List Text) → Plain w → bytes_eq (codes "new") w ≡ false → bytes_eq (codes "run") w ≡ false → bytes_eq (codes "load") w ≡ false → bytes_eq (codes "simulate") w ≡ false → bytes_eq (codes "trial") w ≡ false → bytes_eq (codes "check") w ≡ false → bytes_eq (codes "archive") w ≡ false → bytes_eq (codes "verify") w ≡ false → fault_of program (w ∷ rest) ≡ [] → ⊥
+stray : (w : Text) (rest : List Text) → Plain w → bytes_eq (codes "new") w ≡ false → bytes_eq (codes "run") w ≡ false → bytes_eq (codes "load") w ≡ false → bytes_eq (codes "simulate") w ≡ false → bytes_eq (codes "trial") w ≡ false → bytes_eq (codes "check") w ≡ false → bytes_eq (codes "archive") w ≡ false → bytes_eq (codes "verify") w ≡ false → bytes_eq (codes "restore") w ≡ false → fault_of program (w ∷ rest) ≡ [] → ⊥
 unfolding clap_on_literals
-stray w rest p new run load simulate trial check archive verify none = refused none (rw (new, run, load, simulate, trial, check, archive, verify, p.dashes, p.long, p.short) refl)
+stray w rest p new run load simulate trial check archive verify restore none = refused none (rw (new, run, load, simulate, trial, check, archive, verify, restore, p.dashes, p.long, p.short) refl)
 
 names_one : (w : Text) (rest : List Text) → Plain w → fault_of program (w ∷ rest) ≡ [] → IsName w
-names_one w rest p none = go (bytes_eq (codes "new") w) refl (bytes_eq (codes "run") w) refl (bytes_eq (codes "load") w) refl (bytes_eq (codes "simulate") w) refl (bytes_eq (codes "trial") w) refl (bytes_eq (codes "check") w) refl (bytes_eq (codes "archive") w) refl (bytes_eq (codes "verify") w) refl
+names_one w rest p none = go (bytes_eq (codes "new") w) refl (bytes_eq (codes "run") w) refl (bytes_eq (codes "load") w) refl (bytes_eq (codes "simulate") w) refl (bytes_eq (codes "trial") w) refl (bytes_eq (codes "check") w) refl (bytes_eq (codes "archive") w) refl (bytes_eq (codes "verify") w) refl (bytes_eq (codes "restore") w) refl
   where
     is : (name : Text) → bytes_eq name w ≡ true → w ≡ name
     is name e = sym ((bytes_eq-Decides name w).0 e)
 
-    go : (b0 : Bool) → bytes_eq (codes "new") w ≡ b0 → (b1 : Bool) → bytes_eq (codes "run") w ≡ b1 → (b2 : Bool) → bytes_eq (codes "load") w ≡ b2 → (b3 : Bool) → bytes_eq (codes "simulate") w ≡ b3 → (b4 : Bool) → bytes_eq (codes "trial") w ≡ b4 → (b5 : Bool) → bytes_eq (codes "check") w ≡ b5 → (b6 : Bool) → bytes_eq (codes "archive") w ≡ b6 → (b7 : Bool) → bytes_eq (codes "verify") w ≡ b7 → IsName w
-    go true e0 b1 e1 b2 e2 b3 e3 b4 e4 b5 e5 b6 e6 b7 e7 = inl (is _ e0)
-    go false e0 true e1 b2 e2 b3 e3 b4 e4 b5 e5 b6 e6 b7 e7 = inr (inl (is _ e1))
-    go false e0 false e1 true e2 b3 e3 b4 e4 b5 e5 b6 e6 b7 e7 = inr (inr (inl (is _ e2)))
-    go false e0 false e1 false e2 true e3 b4 e4 b5 e5 b6 e6 b7 e7 = inr (inr (inr (inl (is _ e3))))
-    go false e0 false e1 false e2 false e3 true e4 b5 e5 b6 e6 b7 e7 = inr (inr (inr (inr (inl (is _ e4)))))
-    go false e0 false e1 false e2 false e3 false e4 true e5 b6 e6 b7 e7 = inr (inr (inr (inr (inr (inl (is _ e5))))))
-    go false e0 false e1 false e2 false e3 false e4 false e5 true e6 b7 e7 = inr (inr (inr (inr (inr (inr (inl (is _ e6)))))))
-    go false e0 false e1 false e2 false e3 false e4 false e5 false e6 true e7 = inr (inr (inr (inr (inr (inr (inr (is _ e7)))))))
-    go false e0 false e1 false e2 false e3 false e4 false e5 false e6 false e7 = absurd (stray w rest p e0 e1 e2 e3 e4 e5 e6 e7 none)
+    go : (b0 : Bool) → bytes_eq (codes "new") w ≡ b0 → (b1 : Bool) → bytes_eq (codes "run") w ≡ b1 → (b2 : Bool) → bytes_eq (codes "load") w ≡ b2 → (b3 : Bool) → bytes_eq (codes "simulate") w ≡ b3 → (b4 : Bool) → bytes_eq (codes "trial") w ≡ b4 → (b5 : Bool) → bytes_eq (codes "check") w ≡ b5 → (b6 : Bool) → bytes_eq (codes "archive") w ≡ b6 → (b7 : Bool) → bytes_eq (codes "verify") w ≡ b7 → (b8 : Bool) → bytes_eq (codes "restore") w ≡ b8 → IsName w
+    go true e0 b1 e1 b2 e2 b3 e3 b4 e4 b5 e5 b6 e6 b7 e7 b8 e8 = inl (is _ e0)
+    go false e0 true e1 b2 e2 b3 e3 b4 e4 b5 e5 b6 e6 b7 e7 b8 e8 = inr (inl (is _ e1))
+    go false e0 false e1 true e2 b3 e3 b4 e4 b5 e5 b6 e6 b7 e7 b8 e8 = inr (inr (inl (is _ e2)))
+    go false e0 false e1 false e2 true e3 b4 e4 b5 e5 b6 e6 b7 e7 b8 e8 = inr (inr (inr (inl (is _ e3))))
+    go false e0 false e1 false e2 false e3 true e4 b5 e5 b6 e6 b7 e7 b8 e8 = inr (inr (inr (inr (inl (is _ e4)))))
+    go false e0 false e1 false e2 false e3 false e4 true e5 b6 e6 b7 e7 b8 e8 = inr (inr (inr (inr (inr (inl (is _ e5))))))
+    go false e0 false e1 false e2 false e3 false e4 false e5 true e6 b7 e7 b8 e8 = inr (inr (inr (inr (inr (inr (inl (is _ e6)))))))
+    go false e0 false e1 false e2 false e3 false e4 false e5 false e6 true e7 b8 e8 = inr (inr (inr (inr (inr (inr (inr (inl (is _ e7))))))))
+    go false e0 false e1 false e2 false e3 false e4 false e5 false e6 false e7 true e8 = inr (inr (inr (inr (inr (inr (inr (inr (is _ e8))))))))
+    go false e0 false e1 false e2 false e3 false e4 false e5 false e6 false e7 false e8 = absurd (stray w rest p e0 e1 e2 e3 e4 e5 e6 e7 e8 none)
 
 -- behind a subcommand all words are its own
 stopped : (c : List Rule) (names : Names) (w : Walk) (name : Text) (had rest : List Text) → w.stopped ≡ Some (name, had) → (fold (walked c names) w rest).stopped ≡ Some (name, had ++ rest)
@@ -102,7 +105,7 @@ stop_at name rest w is e = ap (λ (v : Walk). (fold (walked [] names) v rest).st
 
 stop : (rest : List Text) (w : Text) → IsName w → stop_after [] names (w ∷ rest) ≡ Some (w, rest)
 unfolding clap_on_literals
-stop rest = of_each (λ w. stop_after [] names (w ∷ rest) ≡ Some (w, rest)) (stop_at _ rest _ refl refl) (stop_at _ rest _ refl refl) (stop_at _ rest _ refl refl) (stop_at _ rest _ refl refl) (stop_at _ rest _ refl refl) (stop_at _ rest _ refl refl) (stop_at _ rest _ refl refl) (stop_at _ rest _ refl refl)
+stop rest = of_each (λ w. stop_after [] names (w ∷ rest) ≡ Some (w, rest)) (stop_at _ rest _ refl refl) (stop_at _ rest _ refl refl) (stop_at _ rest _ refl refl) (stop_at _ rest _ refl refl) (stop_at _ rest _ refl refl) (stop_at _ rest _ refl refl) (stop_at _ rest _ refl refl) (stop_at _ rest _ refl refl) (stop_at _ rest _ refl refl)
 
 -- and it is the one that is found
 abbrev name_in : Option (Text × List Row) → Option Text
@@ -110,7 +113,7 @@ name_in = option_map (λ p. p.0)
 
 own_name : (w : Text) (rest : List Text) → IsName w → name_in (subcommand_of program (w ∷ rest)) ≡ Some w
 unfolding clap_on_literals
-own_name w rest is = ap (λ o. name_in (entered (built program) o)) (stop rest w is) ∙ of_each (λ v. name_in (entered (built program) (Some (v, rest))) ≡ Some v) refl refl refl refl refl refl refl refl w is
+own_name w rest is = ap (λ o. name_in (entered (built program) o)) (stop rest w is) ∙ of_each (λ v. name_in (entered (built program) (Some (v, rest))) ≡ Some v) refl refl refl refl refl refl refl refl refl w is
 
 -- where the program takes the words, the subcommand takes those behind its name
 below : (name : Text) (rest : List Text) → IsName name → fault_of program (name ∷ rest) ≡ [] → entered_fault (built program) (Some (name, rest)) ≡ []
@@ -214,7 +217,19 @@ verify_line [] rows undashed none same = absurd (refused none refl)
 verify_line (t ∷ []) rows undashed none same = let p = plains (t ∷ []) undashed in taken _ _ (t ∷ []) rows same (rw (p.0.dashes, p.0.long, p.0.short) refl)
 verify_line (t ∷ u ∷ rest) rows undashed none same =
     let p = plains (t ∷ u ∷ rest) undashed in
-    absurd (refused (below (codes "verify") (t ∷ u ∷ rest) (inr (inr (inr (inr (inr (inr (inr refl))))))) none) (rw (p.0.dashes, p.0.long, p.0.short, p.1.0.dashes, p.1.0.long, p.1.0.short) refl))
+    absurd (refused (below (codes "verify") (t ∷ u ∷ rest) (inr (inr (inr (inr (inr (inr (inr (inl refl)))))))) none) (rw (p.0.dashes, p.0.long, p.0.short, p.1.0.dashes, p.1.0.long, p.1.0.short) refl))
+
+restore_line : TakesLine (codes "restore") (codes "count" ∷ codes "pool" ∷ [])
+unfolding clap_on_literals
+restore_line [] rows undashed none same = absurd (refused none refl)
+restore_line (t ∷ []) rows undashed none same = let p = plains (t ∷ []) undashed in absurd (refused none (rw (p.0.dashes, p.0.long, p.0.short) refl))
+restore_line (t ∷ u ∷ []) rows undashed none same =
+    let p = plains (t ∷ u ∷ []) undashed in
+    taken _ _ (t ∷ u ∷ []) rows same (rw (p.0.dashes, p.0.long, p.0.short, p.1.0.dashes, p.1.0.long, p.1.0.short) refl)
+restore_line (t ∷ u ∷ v ∷ rest) rows undashed none same =
+    let p = plains (t ∷ u ∷ v ∷ rest) undashed in
+    absurd (refused (below (codes "restore") (t ∷ u ∷ v ∷ rest) (inr (inr (inr (inr (inr (inr (inr (inr refl)))))))) none)
+    (rw (p.0.dashes, p.0.long, p.0.short, p.1.0.dashes, p.1.0.long, p.1.0.short, p.1.1.0.dashes, p.1.1.0.long, p.1.1.0.short) refl))
 
 -- What was read.
 
@@ -306,7 +321,8 @@ module _ (words : List Text) (m : ArgMatches) (found : Found) (read : IsReadFrom
     run_wrong none (inr (inr (inr (inr (inl trial))))) = other _ _ run_line is (inr (inr (inr (inr (inl trial))))) refl
     run_wrong none (inr (inr (inr (inr (inr (inl check)))))) = other _ _ run_line is (inr (inr (inr (inr (inr (inl check)))))) refl
     run_wrong none (inr (inr (inr (inr (inr (inr (inl archive))))))) = other _ _ run_line is (inr (inr (inr (inr (inr (inr (inl archive))))))) refl
-    run_wrong none (inr (inr (inr (inr (inr (inr (inr verify))))))) = other _ _ run_line is (inr (inr (inr (inr (inr (inr (inr verify))))))) refl
+    run_wrong none (inr (inr (inr (inr (inr (inr (inr (inl verify)))))))) = other _ _ run_line is (inr (inr (inr (inr (inr (inr (inr (inl verify)))))))) refl
+    run_wrong none (inr (inr (inr (inr (inr (inr (inr (inr restore)))))))) = other _ _ run_line is (inr (inr (inr (inr (inr (inr (inr (inr restore)))))))) refl
 
   module _ (is : subcommand_name_of m ≡ Some (codes "new")) where
     pub new_right : (g : Geometry) → AreSizes found g → IsNew words g
@@ -322,7 +338,8 @@ module _ (words : List Text) (m : ArgMatches) (found : Found) (read : IsReadFrom
     new_wrong none (inr (inr (inr (inr (inl trial))))) = other _ _ new_line is (inr (inr (inr (inr (inl trial))))) refl
     new_wrong none (inr (inr (inr (inr (inr (inl check)))))) = other _ _ new_line is (inr (inr (inr (inr (inr (inl check)))))) refl
     new_wrong none (inr (inr (inr (inr (inr (inr (inl archive))))))) = other _ _ new_line is (inr (inr (inr (inr (inr (inr (inl archive))))))) refl
-    new_wrong none (inr (inr (inr (inr (inr (inr (inr verify))))))) = other _ _ new_line is (inr (inr (inr (inr (inr (inr (inr verify))))))) refl
+    new_wrong none (inr (inr (inr (inr (inr (inr (inr (inl verify)))))))) = other _ _ new_line is (inr (inr (inr (inr (inr (inr (inr (inl verify)))))))) refl
+    new_wrong none (inr (inr (inr (inr (inr (inr (inr (inr restore)))))))) = other _ _ new_line is (inr (inr (inr (inr (inr (inr (inr (inr restore)))))))) refl
 
   module _ (is : subcommand_name_of m ≡ Some (codes "load")) where
     pub load_right : (load : Load) → IsLoadOf found load → IsLoad words load
@@ -338,7 +355,8 @@ module _ (words : List Text) (m : ArgMatches) (found : Found) (read : IsReadFrom
     load_wrong none (inr (inr (inr (inr (inl trial))))) = other _ _ load_line is (inr (inr (inr (inr (inl trial))))) refl
     load_wrong none (inr (inr (inr (inr (inr (inl check)))))) = other _ _ load_line is (inr (inr (inr (inr (inr (inl check)))))) refl
     load_wrong none (inr (inr (inr (inr (inr (inr (inl archive))))))) = other _ _ load_line is (inr (inr (inr (inr (inr (inr (inl archive))))))) refl
-    load_wrong none (inr (inr (inr (inr (inr (inr (inr verify))))))) = other _ _ load_line is (inr (inr (inr (inr (inr (inr (inr verify))))))) refl
+    load_wrong none (inr (inr (inr (inr (inr (inr (inr (inl verify)))))))) = other _ _ load_line is (inr (inr (inr (inr (inr (inr (inr (inl verify)))))))) refl
+    load_wrong none (inr (inr (inr (inr (inr (inr (inr (inr restore)))))))) = other _ _ load_line is (inr (inr (inr (inr (inr (inr (inr (inr restore)))))))) refl
 
   module _ (is : subcommand_name_of m ≡ Some (codes "simulate")) where
     pub simulate_right : (s : Simulation) → IsSimulationOf found s → IsSimulate words s
@@ -354,7 +372,8 @@ module _ (words : List Text) (m : ArgMatches) (found : Found) (read : IsReadFrom
     simulate_wrong none (inr (inr (inr (inr (inl trial))))) = other _ _ simulate_line is (inr (inr (inr (inr (inl trial))))) refl
     simulate_wrong none (inr (inr (inr (inr (inr (inl check)))))) = other _ _ simulate_line is (inr (inr (inr (inr (inr (inl check)))))) refl
     simulate_wrong none (inr (inr (inr (inr (inr (inr (inl archive))))))) = other _ _ simulate_line is (inr (inr (inr (inr (inr (inr (inl archive))))))) refl
-    simulate_wrong none (inr (inr (inr (inr (inr (inr (inr verify))))))) = other _ _ simulate_line is (inr (inr (inr (inr (inr (inr (inr verify))))))) refl
+    simulate_wrong none (inr (inr (inr (inr (inr (inr (inr (inl verify)))))))) = other _ _ simulate_line is (inr (inr (inr (inr (inr (inr (inr (inl verify)))))))) refl
+    simulate_wrong none (inr (inr (inr (inr (inr (inr (inr (inr restore)))))))) = other _ _ simulate_line is (inr (inr (inr (inr (inr (inr (inr (inr restore)))))))) refl
 
   module _ (is : subcommand_name_of m ≡ Some (codes "trial")) where
     pub trial_right : (t : TrialSizes) → IsTrialOf found t → IsTrial words t
@@ -373,7 +392,8 @@ module _ (words : List Text) (m : ArgMatches) (found : Found) (read : IsReadFrom
     trial_wrong none (inr (inr (inr (inl simulate)))) = other _ _ trial_line is (inr (inr (inr (inl simulate)))) refl
     trial_wrong none (inr (inr (inr (inr (inr (inl check)))))) = other _ _ trial_line is (inr (inr (inr (inr (inr (inl check)))))) refl
     trial_wrong none (inr (inr (inr (inr (inr (inr (inl archive))))))) = other _ _ trial_line is (inr (inr (inr (inr (inr (inr (inl archive))))))) refl
-    trial_wrong none (inr (inr (inr (inr (inr (inr (inr verify))))))) = other _ _ trial_line is (inr (inr (inr (inr (inr (inr (inr verify))))))) refl
+    trial_wrong none (inr (inr (inr (inr (inr (inr (inr (inl verify)))))))) = other _ _ trial_line is (inr (inr (inr (inr (inr (inr (inr (inl verify)))))))) refl
+    trial_wrong none (inr (inr (inr (inr (inr (inr (inr (inr restore)))))))) = other _ _ trial_line is (inr (inr (inr (inr (inr (inr (inr (inr restore)))))))) refl
 
   module _ (is : subcommand_name_of m ≡ Some (codes "archive")) where
     pub archive_right : (from : ℕ) → IsFrom found from → IsArchive words from
@@ -387,14 +407,15 @@ module _ (words : List Text) (m : ArgMatches) (found : Found) (read : IsReadFrom
     archive_wrong none (inr (inr (inr (inl simulate)))) = other _ _ archive_line is (inr (inr (inr (inl simulate)))) refl
     archive_wrong none (inr (inr (inr (inr (inl trial))))) = other _ _ archive_line is (inr (inr (inr (inr (inl trial))))) refl
     archive_wrong none (inr (inr (inr (inr (inr (inl check)))))) = other _ _ archive_line is (inr (inr (inr (inr (inr (inl check)))))) refl
-    archive_wrong none (inr (inr (inr (inr (inr (inr (inr verify))))))) = other _ _ archive_line is (inr (inr (inr (inr (inr (inr (inr verify))))))) refl
+    archive_wrong none (inr (inr (inr (inr (inr (inr (inr (inl verify)))))))) = other _ _ archive_line is (inr (inr (inr (inr (inr (inr (inr (inl verify)))))))) refl
+    archive_wrong none (inr (inr (inr (inr (inr (inr (inr (inr restore)))))))) = other _ _ archive_line is (inr (inr (inr (inr (inr (inr (inr (inr restore)))))))) refl
 
   module _ (is : subcommand_name_of m ≡ Some (codes "verify")) where
     pub verify_right : (pages : ℕ) → ArePages found pages → IsVerify words pages
     verify_right pages l = record { words_are = told _ _ verify_line is (pages ∷ []) (λ i. l.text i ∷ []); from = l.from; to = l.to }
 
     pub verify_wrong : ((pages : ℕ) → ArePages found pages → ⊥) → IsRight words → ⊥
-    verify_wrong none (inr (inr (inr (inr (inr (inr (inr verify))))))) = none verify.0 (record { text = ap (at 0) (untold _ _ verify_line is (verify.0 ∷ []) verify.1.words_are); from = verify.1.from; to = verify.1.to })
+    verify_wrong none (inr (inr (inr (inr (inr (inr (inr (inl verify)))))))) = none verify.0 (record { text = ap (at 0) (untold _ _ verify_line is (verify.0 ∷ []) verify.1.words_are); from = verify.1.from; to = verify.1.to })
     verify_wrong none (inl run) = other _ _ verify_line is (inl run) refl
     verify_wrong none (inr (inl new)) = other _ _ verify_line is (inr (inl new)) refl
     verify_wrong none (inr (inr (inl load))) = other _ _ verify_line is (inr (inr (inl load))) refl
@@ -402,12 +423,30 @@ module _ (words : List Text) (m : ArgMatches) (found : Found) (read : IsReadFrom
     verify_wrong none (inr (inr (inr (inr (inl trial))))) = other _ _ verify_line is (inr (inr (inr (inr (inl trial))))) refl
     verify_wrong none (inr (inr (inr (inr (inr (inl check)))))) = other _ _ verify_line is (inr (inr (inr (inr (inr (inl check)))))) refl
     verify_wrong none (inr (inr (inr (inr (inr (inr (inl archive))))))) = other _ _ verify_line is (inr (inr (inr (inr (inr (inr (inl archive))))))) refl
+    verify_wrong none (inr (inr (inr (inr (inr (inr (inr (inr restore)))))))) = other _ _ verify_line is (inr (inr (inr (inr (inr (inr (inr (inr restore)))))))) refl
+
+  module _ (is : subcommand_name_of m ≡ Some (codes "restore")) where
+    pub restore_right : (r : Restoring) → IsRestoringOf found r → IsRestore words r
+    restore_right r l = record { words_are = told _ _ restore_line is (r.commits ∷ r.pool ∷ []) (λ i. l.commits i ∷ l.pool i ∷ []); limits = l.limits }
+
+    pub restore_wrong : ((r : Restoring) → IsRestoringOf found r → ⊥) → IsRight words → ⊥
+    restore_wrong none (inr (inr (inr (inr (inr (inr (inr (inr restore)))))))) =
+        let same = untold _ _ restore_line is (restore.0.commits ∷ restore.0.pool ∷ []) restore.1.words_are in
+        none restore.0 (record { commits = ap (at 0) same; pool = ap (at 1) same; limits = restore.1.limits })
+    restore_wrong none (inl run) = other _ _ restore_line is (inl run) refl
+    restore_wrong none (inr (inl new)) = other _ _ restore_line is (inr (inl new)) refl
+    restore_wrong none (inr (inr (inl load))) = other _ _ restore_line is (inr (inr (inl load))) refl
+    restore_wrong none (inr (inr (inr (inl simulate)))) = other _ _ restore_line is (inr (inr (inr (inl simulate)))) refl
+    restore_wrong none (inr (inr (inr (inr (inl trial))))) = other _ _ restore_line is (inr (inr (inr (inr (inl trial))))) refl
+    restore_wrong none (inr (inr (inr (inr (inr (inl check)))))) = other _ _ restore_line is (inr (inr (inr (inr (inr (inl check)))))) refl
+    restore_wrong none (inr (inr (inr (inr (inr (inr (inl archive))))))) = other _ _ restore_line is (inr (inr (inr (inr (inr (inr (inl archive))))))) refl
+    restore_wrong none (inr (inr (inr (inr (inr (inr (inr (inl verify)))))))) = other _ _ restore_line is (inr (inr (inr (inr (inr (inr (inr (inl verify)))))))) refl
 
 -- right words name a subcommand
 pub right_named : (words : List Text) (m : ArgMatches) → IsReadFrom words m → IsRight words
     → (subcommand_name_of m ≡ Some (codes "run")) ⊎ ((subcommand_name_of m ≡ Some (codes "new"))
     ⊎ ((subcommand_name_of m ≡ Some (codes "load")) ⊎ ((subcommand_name_of m ≡ Some (codes "simulate")) ⊎ ((subcommand_name_of m ≡ Some (codes "trial"))
-    ⊎ ((subcommand_name_of m ≡ Some (codes "check")) ⊎ ((subcommand_name_of m ≡ Some (codes "archive")) ⊎ (subcommand_name_of m ≡ Some (codes "verify"))))))))
+    ⊎ ((subcommand_name_of m ≡ Some (codes "check")) ⊎ ((subcommand_name_of m ≡ Some (codes "archive")) ⊎ ((subcommand_name_of m ≡ Some (codes "verify")) ⊎ (subcommand_name_of m ≡ Some (codes "restore")))))))))
 right_named words m read right = by right (written_out right)
   where
     named : (name : Text) (rest : List Text) → IsName name → words ≡ name ∷ rest → subcommand_name_of m ≡ Some name
@@ -416,7 +455,7 @@ right_named words m read right = by right (written_out right)
     by : (right : IsRight words) → words ≡ (line_of right).0 ∷ map decimal (line_of right).1 →
         (subcommand_name_of m ≡ Some (codes "run")) ⊎ ((subcommand_name_of m ≡ Some (codes "new"))
         ⊎ ((subcommand_name_of m ≡ Some (codes "load")) ⊎ ((subcommand_name_of m ≡ Some (codes "simulate")) ⊎ ((subcommand_name_of m ≡ Some (codes "trial"))
-        ⊎ ((subcommand_name_of m ≡ Some (codes "check")) ⊎ ((subcommand_name_of m ≡ Some (codes "archive")) ⊎ (subcommand_name_of m ≡ Some (codes "verify"))))))))
+        ⊎ ((subcommand_name_of m ≡ Some (codes "check")) ⊎ ((subcommand_name_of m ≡ Some (codes "archive")) ⊎ ((subcommand_name_of m ≡ Some (codes "verify")) ⊎ (subcommand_name_of m ≡ Some (codes "restore")))))))))
     by (inl run) same = inl (named _ _ (inr (inl refl)) same)
     by (inr (inl new)) same = inr (inl (named _ _ (inl refl) same))
     by (inr (inr (inl load))) same = inr (inr (inl (named _ _ (inr (inr (inl refl))) same)))
@@ -424,4 +463,5 @@ right_named words m read right = by right (written_out right)
     by (inr (inr (inr (inr (inl trial))))) same = inr (inr (inr (inr (inl (named _ _ (inr (inr (inr (inr (inl refl))))) same)))))
     by (inr (inr (inr (inr (inr (inl check)))))) same = inr (inr (inr (inr (inr (inl (named _ _ (inr (inr (inr (inr (inr (inl refl)))))) same))))))
     by (inr (inr (inr (inr (inr (inr (inl archive))))))) same = inr (inr (inr (inr (inr (inr (inl (named _ _ (inr (inr (inr (inr (inr (inr (inl refl))))))) same)))))))
-    by (inr (inr (inr (inr (inr (inr (inr verify))))))) same = inr (inr (inr (inr (inr (inr (inr (named _ _ (inr (inr (inr (inr (inr (inr (inr refl))))))) same)))))))
+    by (inr (inr (inr (inr (inr (inr (inr (inl verify)))))))) same = inr (inr (inr (inr (inr (inr (inr (inl (named _ _ (inr (inr (inr (inr (inr (inr (inr (inl refl)))))))) same))))))))
+    by (inr (inr (inr (inr (inr (inr (inr (inr restore)))))))) same = inr (inr (inr (inr (inr (inr (inr (inr (named _ _ (inr (inr (inr (inr (inr (inr (inr (inr refl)))))))) same))))))))

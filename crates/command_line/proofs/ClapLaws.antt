@@ -53,7 +53,8 @@ line_of (inr (inr (inr (inl simulate)))) = (codes "simulate", simulate.0.groups 
 line_of (inr (inr (inr (inr (inl trial))))) = (codes "trial", trial.0.geometry.pages ∷ trial.0.geometry.groups ∷ trial.0.geometry.blocks ∷ trial.0.pool ∷ [])
 line_of (inr (inr (inr (inr (inr (inl check)))))) = (codes "check", [])
 line_of (inr (inr (inr (inr (inr (inr (inl archive))))))) = (codes "archive", archive.0 ∷ [])
-line_of (inr (inr (inr (inr (inr (inr (inr verify))))))) = (codes "verify", verify.0 ∷ [])
+line_of (inr (inr (inr (inr (inr (inr (inr (inl verify)))))))) = (codes "verify", verify.0 ∷ [])
+line_of (inr (inr (inr (inr (inr (inr (inr (inr restore)))))))) = (codes "restore", restore.0.commits ∷ restore.0.pool ∷ [])
 
 pub written_out : {words : List Text} (right : IsRight words) → words ≡ (line_of right).0 ∷ map decimal (line_of right).1
 written_out (inl run) = run.1.words_are
@@ -63,7 +64,8 @@ written_out (inr (inr (inr (inl simulate)))) = simulate.1.words_are
 written_out (inr (inr (inr (inr (inl trial))))) = trial.1.words_are
 written_out (inr (inr (inr (inr (inr (inl check)))))) = check
 written_out (inr (inr (inr (inr (inr (inr (inl archive))))))) = archive.1.words_are
-written_out (inr (inr (inr (inr (inr (inr (inr verify))))))) = verify.1.words_are
+written_out (inr (inr (inr (inr (inr (inr (inr (inl verify)))))))) = verify.1.words_are
+written_out (inr (inr (inr (inr (inr (inr (inr (inr restore)))))))) = restore.1.words_are
 
 abbrev pub Fits : ℕ → Type 0
 Fits n = n < 2 ^ 64
@@ -85,7 +87,8 @@ fit (inr (inr (inr (inr (inl trial))))) =
     (omega (arith, pages), (omega (arith, groups), (omega (arith, blocks), (omega (arith, to), tt))))
 fit (inr (inr (inr (inr (inr (inl check)))))) = tt
 fit (inr (inr (inr (inr (inr (inr (inl archive))))))) = (archive.1.fits, tt)
-fit (inr (inr (inr (inr (inr (inr (inr verify))))))) = let to = verify.1.to in (omega (arith, to), tt)
+fit (inr (inr (inr (inr (inr (inr (inr (inl verify)))))))) = let to = verify.1.to in (omega (arith, to), tt)
+fit (inr (inr (inr (inr (inr (inr (inr (inr restore)))))))) = let to = restore.1.limits.to in (restore.1.limits.commits, (omega (arith, to), tt))
 
 named_undashed : {words : List Text} (right : IsRight words) → is_dashed (line_of right).0 ≡ false
 named_undashed (inl run) = refl
@@ -95,7 +98,8 @@ named_undashed (inr (inr (inr (inl simulate)))) = refl
 named_undashed (inr (inr (inr (inr (inl trial))))) = refl
 named_undashed (inr (inr (inr (inr (inr (inl check)))))) = refl
 named_undashed (inr (inr (inr (inr (inr (inr (inl archive))))))) = refl
-named_undashed (inr (inr (inr (inr (inr (inr (inr verify))))))) = refl
+named_undashed (inr (inr (inr (inr (inr (inr (inr (inl verify)))))))) = refl
+named_undashed (inr (inr (inr (inr (inr (inr (inr (inr restore)))))))) = refl
 
 -- a number in decimal begins with a digit
 numeral_undashed : (t : Text) → IsNumeral 10 t → is_dashed t ≡ false
@@ -146,6 +150,10 @@ taken_verify : (t : Text) → Plain t → takes program (codes "verify" ∷ t �
 unfolding clap_on_literals
 taken_verify t p = rw (p.dashes, p.long, p.short) refl
 
+taken_restore : (t u : Text) → Plain t → Plain u → takes program (codes "restore" ∷ t ∷ u ∷ []) ≡ true
+unfolding clap_on_literals
+taken_restore t u p q = rw (p.dashes, p.long, p.short, q.dashes, q.long, q.short) refl
+
 taken_line : {words : List Text} (right : IsRight words) → AllByRecursion Plain (map decimal (line_of right).1) → takes program ((line_of right).0 ∷ map decimal (line_of right).1) ≡ true
 taken_line (inl run) p = taken_run _ p.0
 taken_line (inr (inl new)) p = taken_new _ _ _ p.0 p.1.0 p.1.1.0
@@ -154,7 +162,8 @@ taken_line (inr (inr (inr (inl simulate)))) p = taken_simulate _ _ p.0 p.1.0
 taken_line (inr (inr (inr (inr (inl trial))))) p = taken_trial _ _ _ _ p.0 p.1.0 p.1.1.0 p.1.1.1.0
 taken_line (inr (inr (inr (inr (inr (inl check)))))) p = taken_check
 taken_line (inr (inr (inr (inr (inr (inr (inl archive))))))) p = taken_archive _ p.0
-taken_line (inr (inr (inr (inr (inr (inr (inr verify))))))) p = taken_verify _ p.0
+taken_line (inr (inr (inr (inr (inr (inr (inr (inl verify)))))))) p = taken_verify _ p.0
+taken_line (inr (inr (inr (inr (inr (inr (inr (inr restore)))))))) p = taken_restore _ _ p.0 p.1.0
 
 -- so it takes all right words
 pub right_taken : (words : List Text) → IsRight words → takes program words ≡ true

@@ -59,5 +59,5 @@ one_from words from other first second =
 
 pub one_archive_size : (words : List (List ℕ)) (pages other : ℕ) → IsVerify words pages → IsVerify words other → pages ≡ other
 one_archive_size words pages other first second =
-    let same = one_line {words = words} (inr (inr (inr (inr (inr (inr (inr (pages, first)))))))) (inr (inr (inr (inr (inr (inr (inr (other, second)))))))) in
+    let same = one_line {words = words} (inr (inr (inr (inr (inr (inr (inr (inl (pages, first))))))))) (inr (inr (inr (inr (inr (inr (inr (inl (other, second))))))))) in
     λ i. get_or (same i) 0 0

@@ -10,9 +10,10 @@ use Rattle.clap.specs.declared.parser.matches.Found.{Found}
 use Rattle.site.specs.declared.geometry.Geometry.{Geometry}
 use Rattle.site.specs.Geometry.{HasLimits}
 use Rattle.command_line.specs.declared.request.Load.{Load}
+use Rattle.command_line.specs.declared.request.Restoring.{Restoring}
 use Rattle.command_line.specs.declared.request.Simulation.{Simulation}
 use Rattle.command_line.specs.declared.request.TrialSizes.{TrialSizes}
-use Rattle.command_line.specs.Words.{HasCacheLimits, HasLoadLimits, HasTrialLimits, is_dashed}
+use Rattle.command_line.specs.Words.{HasCacheLimits, HasLoadLimits, HasRestoringLimits, HasTrialLimits, is_dashed}
 use Rattle.clap.specs.declared.builder.command.Command.TheViews.{out-Command}
 
 -- a text that has to be there
@@ -48,6 +49,10 @@ archive_words = with_rule (new_app (codes "archive")) (text (new_rule (codes "fr
 abbrev pub verify_words : App
 verify_words = with_rule (new_app (codes "verify")) (text (new_rule (codes "pages")))
 
+abbrev pub restore_words : App
+restore_words = with_rule (with_rule (new_app (codes "restore")) (text (new_rule (codes "count"))))
+    (text (new_rule (codes "pool")))
+
 abbrev pub bare : App
 bare = on_top (λ s. record s {
   no_binary_name = true;
@@ -67,9 +72,10 @@ earlier_words =
     with_subcommand (with_subcommand (with_subcommand database_words simulate_words.top) trial_words.top)
     check_words.top
 
--- and `archive` and `verify` with one each
+-- and `archive` and `verify` with one each, and `restore` with two
 abbrev pub program : App
-program = with_subcommand (with_subcommand earlier_words archive_words.top) verify_words.top
+program = with_subcommand (with_subcommand (with_subcommand earlier_words archive_words.top) verify_words.top)
+    restore_words.top
 
 -- the command is this one, and no argument of it is global
 abbrev pub IsLike : Command → App → Type 0
@@ -125,3 +131,9 @@ pub record IsTrialOf (found : Found) (t : TrialSizes) : Type 0 where
   pub blocks : first_value found (codes "blocks") ≡ Some (decimal t.geometry.blocks)
   pub pool : first_value found (codes "pool") ≡ Some (decimal t.pool)
   pub limits : HasTrialLimits t
+
+-- the texts behind `restore` say these numbers
+pub record IsRestoringOf (found : Found) (r : Restoring) : Type 0 where
+  pub commits : first_value found (codes "count") ≡ Some (decimal r.commits)
+  pub pool : first_value found (codes "pool") ≡ Some (decimal r.pool)
+  pub limits : HasRestoringLimits r

@@ -7,11 +7,12 @@ use Rattle.std.specs.declared.alloc.Global.{Global}
 use Rattle.site.specs.declared.geometry.Geometry.{Geometry}
 use Rattle.site.specs.Geometry.{HasLimits}
 use Rattle.command_line.specs.declared.request.Load.{Load as Workload}
+use Rattle.command_line.specs.declared.request.Restoring.{Restoring}
 use Rattle.command_line.specs.declared.request.Simulation.{Simulation}
 use Rattle.command_line.specs.declared.request.TrialSizes.{TrialSizes}
 use Rattle.command_line.specs.declared.request.Request.{Request}
 use Rattle.command_line.specs.declared.request.Request.TheVariants.{Run, New, Load, Simulate, Trial, Check, Archive}
-use Rattle.command_line.specs.declared.request.Request.TheVariants.{Verify}
+use Rattle.command_line.specs.declared.request.Request.TheVariants.{Verify, Restore}
 
 -- the octets of each word
 abbrev pub words_of : List (String Global) → List (List ℕ)
@@ -87,13 +88,25 @@ pub record IsVerify (words : List (List ℕ)) (pages : ℕ) : Type 0 where
   pub from : 1 ≤ pages
   pub to : pages ≤ 65536
 
+-- any number of commits of 64 bits, and a pool of at most 4,096 pages
+pub record HasRestoringLimits (r : Restoring) : Type 0 where
+  pub commits : r.commits < 2 ^ 64
+  pub from : 1 ≤ r.pool
+  pub to : r.pool ≤ 4096
+
+-- `restore N POOL` in decimal, within the limits
+pub record IsRestore (words : List (List ℕ)) (r : Restoring) : Type 0 where
+  pub words_are : words ≡ codes "restore" ∷ decimal r.commits ∷ decimal r.pool ∷ []
+  pub limits : HasRestoringLimits r
+
 -- the words are in the table
 abbrev pub IsRight : List (List ℕ) → Type 0
 IsRight words =
     ((pool : ℕ) × IsRun words pool) ⊎ (((g : Geometry) × IsNew words g)
     ⊎ (((load : Workload) × IsLoad words load) ⊎ (((s : Simulation) × IsSimulate words s)
     ⊎ (((t : TrialSizes) × IsTrial words t) ⊎ (IsCheck words
-    ⊎ (((from : ℕ) × IsArchive words from) ⊎ ((pages : ℕ) × IsVerify words pages)))))))
+    ⊎ (((from : ℕ) × IsArchive words from)
+    ⊎ (((pages : ℕ) × IsVerify words pages) ⊎ ((r : Restoring) × IsRestore words r))))))))
 
 -- the words ask for this
 abbrev pub IsRequest : Request → List (List ℕ) → Type 0
@@ -105,6 +118,7 @@ IsRequest (Trial t) words = IsTrial words t
 IsRequest Check words = IsCheck words
 IsRequest (Archive from) words = IsArchive words from
 IsRequest (Verify pages) words = IsVerify words pages
+IsRequest (Restore r) words = IsRestore words r
 
 -- the word begins with a dash
 abbrev pub is_dashed : List ℕ → Bool

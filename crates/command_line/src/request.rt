@@ -7,10 +7,11 @@ ghost use Rattle.command_line.specs.Program.{ArePages, AreSizes, IsFrom, IsLike,
 ghost use Rattle.command_line.specs.Program.{IsSimulationOf, IsTrialOf};
 ghost use Rattle.command_line.specs.Program.{archive_words, bare, check_words, database_words, earlier_words};
 ghost use Rattle.command_line.specs.Program.{load_words, new_words, program, run_words, simulate_words, text};
-ghost use Rattle.command_line.specs.Program.{trial_words, verify_words};
+ghost use Rattle.command_line.specs.Program.{IsRestoringOf, restore_words, trial_words, verify_words};
 ghost use Rattle.command_line.specs.Words.{HasTrialLimits, IsRight, IsRequest, HasCacheLimits, HasDash, HasLoadLimits};
-ghost use Rattle.command_line.specs.Words.{is_dashed, words_of};
+ghost use Rattle.command_line.specs.Words.{HasRestoringLimits, is_dashed, words_of};
 ghost use Rattle.command_line.specs.declared.request.Load.{Load};
+ghost use Rattle.command_line.specs.declared.request.Restoring.{Restoring};
 ghost use Rattle.command_line.specs.declared.request.Simulation.{Simulation};
 ghost use Rattle.command_line.specs.declared.request.TrialSizes.{TrialSizes};
 ghost use Rattle.command_line.specs.declared.request.Unread.{Unread};
@@ -47,6 +48,13 @@ pub struct TrialSizes {
     pub pool: u32,
 }
 
+/// A restore of so many commits, with a pool of so many pages.
+#[derive(Clone, Copy, Debug, PartialEq, Eq, Drop)]
+pub struct Restoring {
+    pub commits: u64,
+    pub pool: u32,
+}
+
 /// What the words ask for.
 #[derive(Clone, Copy, Debug, PartialEq, Eq, Drop)]
 pub enum Request {
@@ -66,6 +74,8 @@ pub enum Request {
     Archive(u64),
     /// How many commits an archive has, of a database with so many pages.
     Verify(u32),
+    /// The table after so many commits of an archive, on blank devices.
+    Restore(Restoring),
 }
 
 /// Why words ask for nothing.
@@ -153,6 +163,15 @@ fn verify_command<'a>(alloc: Global) -> Result<Command<'a>, AllocError>
     Command::new(alloc, "verify").arg(text_argument(alloc, "pages"))
 }
 
+// The words behind `restore`.
+fn restore_command<'a>(alloc: Global) -> Result<Command<'a>, AllocError>
+    ensures { IfOk result (λ c. IsLike c restore_words) }
+{
+    Command::new(alloc, "restore")
+        .arg(text_argument(alloc, "count"))?
+        .arg(text_argument(alloc, "pool"))
+}
+
 // The words are the program's without its own name, and there is no help.
 fn bare_command<'a>(alloc: Global) -> Command<'a>
     ensures { IsLike result bare }
@@ -190,15 +209,17 @@ fn earlier_command<'a>(alloc: Global) -> Result<Command<'a>, AllocError>
         .subcommand(check_command(alloc))
 }
 
-// The program's command line: these words, and `archive` and `verify` with a text each.
+// The program's command line: these words, `archive` and `verify` with a text each, and `restore` with two.
 fn command<'a>(alloc: Global) -> Result<Command<'a>, AllocError>
     ensures { IfOk result (λ c. IsLike c program) }
 {
     let archive = archive_command(alloc)?;
     let verify = verify_command(alloc)?;
+    let restore = restore_command(alloc)?;
     earlier_command(alloc)?
         .subcommand(archive)?
-        .subcommand(verify)
+        .subcommand(verify)?
+        .subcommand(restore)
 }
 
 fn begins_with_dash(word: &[u8]) -> bool
@@ -257,6 +278,36 @@ fn archive_pages_in(verify: &ArgMatches<'_>) -> Option<u32>
         return None;
     };
     number_within(pages.as_bytes(), 1, PAGES_MAX)
+}
+
+// The numbers that two words write, if they are within the limits.
+fn restoring_of(count: &str, pool: &str) -> Option<Restoring>
+    ensures restoring { IfSome result (λ r. HasRestoringLimits r × (count.now ≡ decimal r.commits)
+        × (pool.now ≡ decimal r.pool)) }
+    ensures none { IfNone result ((r : Restoring) → HasRestoringLimits r → count.now ≡ decimal r.commits
+        → pool.now ≡ decimal r.pool → ⊥) }
+{
+    let Some(commits) = number_in(count) else {
+        return None;
+    };
+    let Some(pool) = number_within(pool.as_bytes(), 1, POOL_MAX) else {
+        return None;
+    };
+    Some(Restoring { commits, pool })
+}
+
+// The numbers that the texts behind `restore` give.
+fn restoring_in(restore: &ArgMatches<'_>) -> Option<Restoring>
+    ensures restoring { IfSome result (λ r. IsRestoringOf (found_of restore.now) r) }
+    ensures none { IfNone result ((r : Restoring) → IsRestoringOf (found_of restore.now) r → ⊥) }
+{
+    let Some(count) = restore.get_str("count") else {
+        return None;
+    };
+    let Some(pool) = restore.get_str("pool") else {
+        return None;
+    };
+    restoring_of(count, pool)
 }
 
 // The sizes that the texts behind `new` give.
@@ -444,6 +495,12 @@ fn request_in(matches: &ArgMatches<'_>) -> Option<Request>
             return None;
         };
         return Some(Request::Verify(pages));
+    }
+    if let Some(restore) = matches.subcommand_matches("restore") {
+        let Some(restoring) = restoring_in(restore) else {
+            return None;
+        };
+        return Some(Request::Restore(restoring));
     }
     None
 }
