@@ -1,13 +1,14 @@
--- The words of `run`, `new`, `load`, `simulate`, `trial`, `archive` and `verify` each say one thing.
+-- The words of `run`, `new`, `load`, `simulate`, `trial`, `archive`, `verify` and `restore` each say one thing.
 use Rattle.std.proofs.Common.{◌≡◌, ◌∙◌, ℕ, List, [], ◌∷◌, map, get_or, inl, inr, refl, sym}
 use Rattle.std.specs.Prelude.{decimal}
 use Rattle.std.specs.List.{AllByRecursion}
 use Rattle.std.proofs.lemmas.Fmt.{decimal_injective}
 use Rattle.site.specs.declared.geometry.Geometry.{Geometry}
 use Rattle.command_line.specs.declared.request.Load.{Load}
+use Rattle.command_line.specs.declared.request.Restoring.{Restoring}
 use Rattle.command_line.specs.declared.request.Simulation.{Simulation}
 use Rattle.command_line.specs.declared.request.TrialSizes.{TrialSizes}
-use Rattle.command_line.specs.Words.{IsArchive, IsVerify, IsRun, IsNew, IsLoad, IsSimulate, IsTrial, IsRight}
+use Rattle.command_line.specs.Words.{IsArchive, IsRestore, IsVerify, IsRun, IsNew, IsLoad, IsSimulate, IsTrial, IsRight}
 use Rattle.command_line.proofs.ClapLaws.{Fits, fit, line_of, written_out}
 
 -- numbers whose texts are the same are the same
@@ -61,3 +62,8 @@ pub one_archive_size : (words : List (List ℕ)) (pages other : ℕ) → IsVerif
 one_archive_size words pages other first second =
     let same = one_line {words = words} (inr (inr (inr (inr (inr (inr (inr (inl (pages, first))))))))) (inr (inr (inr (inr (inr (inr (inr (inl (other, second))))))))) in
     λ i. get_or (same i) 0 0
+
+pub one_restore : (words : List (List ℕ)) (r other : Restoring) → IsRestore words r → IsRestore words other → r ≡ other
+one_restore words r other first second =
+    let same = one_line {words = words} (inr (inr (inr (inr (inr (inr (inr (inr (r, first))))))))) (inr (inr (inr (inr (inr (inr (inr (inr (other, second))))))))) in
+    λ i. record { commits = get_or (same i) 0 0; pool = get_or (same i) 1 0 }
