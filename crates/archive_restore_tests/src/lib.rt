@@ -1,0 +1,5 @@
+//! Tests of `archive_restore`.
+#![tactic(auto)]
+
+#[cfg(test)]
+mod tests;
