@@ -1,6 +1,6 @@
 -- What words are that `clap` has read.
 use Rattle.std.proofs.Common.{◌≡◌, ◌++◌, ◌∙◌, ap, refl, sym, subst, inl, inr, ◌⊎◌, ℕ, Bool, true, false, List, [], ◌∷◌, map, codes, fold, get_or, append_assoc}
-use Rattle.std.specs.Prelude.{Option, Some, None, option_map, decimal}
+use Rattle.std.specs.Prelude.{Option, Some, None, IfNone, option_map, decimal}
 use Rattle.std.specs.Str.{bytes_eq}
 use Rattle.std.specs.List.{list_any}
 use Rattle.std.proofs.lemmas.Bool.{or_parts}
@@ -22,7 +22,7 @@ use Rattle.command_line.specs.declared.request.Load.{Load}
 use Rattle.command_line.specs.declared.request.Restoring.{Restoring}
 use Rattle.command_line.specs.declared.request.Simulation.{Simulation}
 use Rattle.command_line.specs.declared.request.TrialSizes.{TrialSizes}
-use Rattle.command_line.specs.Words.{IsArchive, IsVerify, IsRestore, IsRun, IsNew, IsLoad, IsSimulate, IsTrial, IsCheck, IsRight, is_dashed}
+use Rattle.command_line.specs.Words.{IsArchive, IsVerify, IsRestore, IsRun, IsNew, IsLoad, IsSimulate, IsTrial, IsCheck, IsOfArchive, IsRight, is_dashed}
 use Rattle.command_line.specs.Program.{ArePages, AreSizes, IsFrom, IsLoadOf, IsPool, IsReadFrom, IsRestoringOf, IsSimulationOf, IsTrialOf, program}
 use Rattle.command_line.proofs.ClapLaws.{Plain, plain, plains, line_of, written_out}
 
@@ -442,26 +442,29 @@ module _ (words : List Text) (m : ArgMatches) (found : Found) (read : IsReadFrom
     restore_wrong none (inr (inr (inr (inr (inr (inr (inl archive))))))) = other _ _ restore_line is (inr (inr (inr (inr (inr (inr (inl archive))))))) refl
     restore_wrong none (inr (inr (inr (inr (inr (inr (inr (inl verify)))))))) = other _ _ restore_line is (inr (inr (inr (inr (inr (inr (inr (inl verify)))))))) refl
 
--- right words name a subcommand
-pub right_named : (words : List Text) (m : ArgMatches) → IsReadFrom words m → IsRight words
-    → (subcommand_name_of m ≡ Some (codes "run")) ⊎ ((subcommand_name_of m ≡ Some (codes "new"))
-    ⊎ ((subcommand_name_of m ≡ Some (codes "load")) ⊎ ((subcommand_name_of m ≡ Some (codes "simulate")) ⊎ ((subcommand_name_of m ≡ Some (codes "trial"))
-    ⊎ ((subcommand_name_of m ≡ Some (codes "check")) ⊎ ((subcommand_name_of m ≡ Some (codes "archive")) ⊎ ((subcommand_name_of m ≡ Some (codes "verify")) ⊎ (subcommand_name_of m ≡ Some (codes "restore")))))))))
-right_named words m read right = by right (written_out right)
-  where
-    named : (name : Text) (rest : List Text) → IsName name → words ≡ name ∷ rest → subcommand_name_of m ≡ Some name
-    named name rest is same = sym (has_name m) ∙ ap name_in (read.rows ∙ ap (subcommand_of program) same) ∙ own_name name rest is
+-- the words name the subcommand
+named : (words : List Text) (m : ArgMatches) → IsReadFrom words m → (name : Text) (rest : List Text) → IsName name → words ≡ name ∷ rest → subcommand_name_of m ≡ Some name
+named words m read name rest is same = sym (has_name m) ∙ ap name_in (read.rows ∙ ap (subcommand_of program) same) ∙ own_name name rest is
 
-    by : (right : IsRight words) → words ≡ (line_of right).0 ∷ map decimal (line_of right).1 →
-        (subcommand_name_of m ≡ Some (codes "run")) ⊎ ((subcommand_name_of m ≡ Some (codes "new"))
-        ⊎ ((subcommand_name_of m ≡ Some (codes "load")) ⊎ ((subcommand_name_of m ≡ Some (codes "simulate")) ⊎ ((subcommand_name_of m ≡ Some (codes "trial"))
-        ⊎ ((subcommand_name_of m ≡ Some (codes "check")) ⊎ ((subcommand_name_of m ≡ Some (codes "archive")) ⊎ ((subcommand_name_of m ≡ Some (codes "verify")) ⊎ (subcommand_name_of m ≡ Some (codes "restore")))))))))
-    by (inl run) same = inl (named _ _ (inr (inl refl)) same)
-    by (inr (inl new)) same = inr (inl (named _ _ (inl refl) same))
-    by (inr (inr (inl load))) same = inr (inr (inl (named _ _ (inr (inr (inl refl))) same)))
-    by (inr (inr (inr (inl simulate)))) same = inr (inr (inr (inl (named _ _ (inr (inr (inr (inl refl)))) same))))
-    by (inr (inr (inr (inr (inl trial))))) same = inr (inr (inr (inr (inl (named _ _ (inr (inr (inr (inr (inl refl))))) same)))))
-    by (inr (inr (inr (inr (inr (inl check)))))) same = inr (inr (inr (inr (inr (inl (named _ _ (inr (inr (inr (inr (inr (inl refl)))))) same))))))
-    by (inr (inr (inr (inr (inr (inr (inl archive))))))) same = inr (inr (inr (inr (inr (inr (inl (named _ _ (inr (inr (inr (inr (inr (inr (inl refl))))))) same)))))))
-    by (inr (inr (inr (inr (inr (inr (inr (inl verify)))))))) same = inr (inr (inr (inr (inr (inr (inr (inl (named _ _ (inr (inr (inr (inr (inr (inr (inr (inl refl)))))))) same))))))))
-    by (inr (inr (inr (inr (inr (inr (inr (inr restore)))))))) same = inr (inr (inr (inr (inr (inr (inr (inr (named _ _ (inr (inr (inr (inr (inr (inr (inr (inr refl)))))))) same))))))))
+-- right words of an archive name one of three
+pub archive_named : (words : List Text) (m : ArgMatches) → IsReadFrom words m → IsOfArchive words
+    → (subcommand_name_of m ≡ Some (codes "archive")) ⊎ ((subcommand_name_of m ≡ Some (codes "verify")) ⊎ (subcommand_name_of m ≡ Some (codes "restore")))
+archive_named words m read (inl archive) = inl (named words m read _ _ (inr (inr (inr (inr (inr (inr (inl refl))))))) archive.1.words_are)
+archive_named words m read (inr (inl verify)) = inr (inl (named words m read _ _ (inr (inr (inr (inr (inr (inr (inr (inl refl)))))))) verify.1.words_are))
+archive_named words m read (inr (inr restore)) = inr (inr (named words m read _ _ (inr (inr (inr (inr (inr (inr (inr (inr refl)))))))) restore.1.words_are))
+
+-- the other right words name one of six
+pub right_named : (words : List Text) (m : ArgMatches) → IsReadFrom words m → (IsOfArchive words → ⊥) → IsRight words
+    → (subcommand_name_of m ≡ Some (codes "run")) ⊎ ((subcommand_name_of m ≡ Some (codes "new")) ⊎ ((subcommand_name_of m ≡ Some (codes "load")) ⊎ ((subcommand_name_of m ≡ Some (codes "simulate")) ⊎ ((subcommand_name_of m ≡ Some (codes "trial")) ⊎ (subcommand_name_of m ≡ Some (codes "check"))))))
+right_named words m read none (inl run) = inl (named words m read _ _ (inr (inl refl)) run.1.words_are)
+right_named words m read none (inr (inl new)) = inr (inl (named words m read _ _ (inl refl) new.1.words_are))
+right_named words m read none (inr (inr (inl load))) = inr (inr (inl (named words m read _ _ (inr (inr (inl refl))) load.1.words_are)))
+right_named words m read none (inr (inr (inr (inl simulate)))) = inr (inr (inr (inl (named words m read _ _ (inr (inr (inr (inl refl)))) simulate.1.words_are))))
+right_named words m read none (inr (inr (inr (inr (inl trial))))) = inr (inr (inr (inr (inl (named words m read _ _ (inr (inr (inr (inr (inl refl))))) trial.1.words_are)))))
+right_named words m read none (inr (inr (inr (inr (inr (inl check)))))) = inr (inr (inr (inr (inr (named words m read _ _ (inr (inr (inr (inr (inr (inl refl)))))) check)))))
+right_named words m read none (inr (inr (inr (inr (inr (inr archive)))))) = absurd (none archive)
+
+-- what follows from none
+pub if_none : {A P Q : Type 0} (o : Option A) → (P → Q) → IfNone o P → IfNone o Q
+if_none (Some a) f p = tt
+if_none None f p = f p

@@ -8,7 +8,7 @@ use Rattle.command_line.specs.declared.request.Load.{Load}
 use Rattle.command_line.specs.declared.request.Restoring.{Restoring}
 use Rattle.command_line.specs.declared.request.Simulation.{Simulation}
 use Rattle.command_line.specs.declared.request.TrialSizes.{TrialSizes}
-use Rattle.command_line.specs.Words.{IsArchive, IsRestore, IsVerify, IsRun, IsNew, IsLoad, IsSimulate, IsTrial, IsRight}
+use Rattle.command_line.specs.Words.{IsArchive, IsVerify, IsRestore, IsRun, IsNew, IsLoad, IsSimulate, IsTrial, IsRight}
 use Rattle.command_line.proofs.ClapLaws.{Fits, fit, line_of, written_out}
 
 -- numbers whose texts are the same are the same

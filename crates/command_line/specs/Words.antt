@@ -99,14 +99,17 @@ pub record IsRestore (words : List (List ℕ)) (r : Restoring) : Type 0 where
   pub words_are : words ≡ codes "restore" ∷ decimal r.commits ∷ decimal r.pool ∷ []
   pub limits : HasRestoringLimits r
 
+-- the words are right and of an archive
+abbrev pub IsOfArchive : List (List ℕ) → Type 0
+IsOfArchive words =
+    ((from : ℕ) × IsArchive words from) ⊎ (((pages : ℕ) × IsVerify words pages) ⊎ ((r : Restoring) × IsRestore words r))
+
 -- the words are in the table
 abbrev pub IsRight : List (List ℕ) → Type 0
 IsRight words =
     ((pool : ℕ) × IsRun words pool) ⊎ (((g : Geometry) × IsNew words g)
     ⊎ (((load : Workload) × IsLoad words load) ⊎ (((s : Simulation) × IsSimulate words s)
-    ⊎ (((t : TrialSizes) × IsTrial words t) ⊎ (IsCheck words
-    ⊎ (((from : ℕ) × IsArchive words from)
-    ⊎ (((pages : ℕ) × IsVerify words pages) ⊎ ((r : Restoring) × IsRestore words r))))))))
+    ⊎ (((t : TrialSizes) × IsTrial words t) ⊎ (IsCheck words ⊎ IsOfArchive words)))))
 
 -- the words ask for this
 abbrev pub IsRequest : Request → List (List ℕ) → Type 0

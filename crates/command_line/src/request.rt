@@ -9,7 +9,7 @@ ghost use Rattle.command_line.specs.Program.{archive_words, bare, check_words, d
 ghost use Rattle.command_line.specs.Program.{load_words, new_words, program, run_words, simulate_words, text};
 ghost use Rattle.command_line.specs.Program.{IsRestoringOf, restore_words, trial_words, verify_words};
 ghost use Rattle.command_line.specs.Words.{HasTrialLimits, IsRight, IsRequest, HasCacheLimits, HasDash, HasLoadLimits};
-ghost use Rattle.command_line.specs.Words.{HasRestoringLimits, is_dashed, words_of};
+ghost use Rattle.command_line.specs.Words.{HasRestoringLimits, IsOfArchive, is_dashed, words_of};
 ghost use Rattle.command_line.specs.declared.request.Load.{Load};
 ghost use Rattle.command_line.specs.declared.request.Restoring.{Restoring};
 ghost use Rattle.command_line.specs.declared.request.Simulation.{Simulation};
@@ -445,6 +445,33 @@ fn unread_by(kind: ErrorKind) -> Unread
     }
 }
 
+// What words of an archive ask for that `clap` has read.
+fn archive_request_in(matches: &ArgMatches<'_>) -> Option<Request>
+    ensures some { (words : List (List ℕ)) → IsReadFrom words matches.now
+        → IfSome result (λ request. IsRequest request words) }
+    ensures none { (words : List (List ℕ)) → IsReadFrom words matches.now → IfNone result (IsOfArchive words → ⊥) }
+{
+    if let Some(archive) = matches.subcommand_matches("archive") {
+        let Some(from) = from_in(archive) else {
+            return None;
+        };
+        return Some(Request::Archive(from));
+    }
+    if let Some(verify) = matches.subcommand_matches("verify") {
+        let Some(pages) = archive_pages_in(verify) else {
+            return None;
+        };
+        return Some(Request::Verify(pages));
+    }
+    if let Some(restore) = matches.subcommand_matches("restore") {
+        let Some(restoring) = restoring_in(restore) else {
+            return None;
+        };
+        return Some(Request::Restore(restoring));
+    }
+    None
+}
+
 // What words ask for that `clap` has read.
 fn request_in(matches: &ArgMatches<'_>) -> Option<Request>
     ensures some { (words : List (List ℕ)) → IsReadFrom words matches.now
@@ -484,25 +511,7 @@ fn request_in(matches: &ArgMatches<'_>) -> Option<Request>
     if let Some(_check) = matches.subcommand_matches("check") {
         return Some(Request::Check);
     }
-    if let Some(archive) = matches.subcommand_matches("archive") {
-        let Some(from) = from_in(archive) else {
-            return None;
-        };
-        return Some(Request::Archive(from));
-    }
-    if let Some(verify) = matches.subcommand_matches("verify") {
-        let Some(pages) = archive_pages_in(verify) else {
-            return None;
-        };
-        return Some(Request::Verify(pages));
-    }
-    if let Some(restore) = matches.subcommand_matches("restore") {
-        let Some(restoring) = restoring_in(restore) else {
-            return None;
-        };
-        return Some(Request::Restore(restoring));
-    }
-    None
+    archive_request_in(matches)
 }
 
 /// What the words ask for. Words of which one begins with a dash aren't handed to `clap`.

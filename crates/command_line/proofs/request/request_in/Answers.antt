@@ -1,7 +1,7 @@
 use Rattle.std.proofs.Common.{rules, ◌≡◌, codes, ⊎_elim, sym, true≢false}
 use Rattle.std.specs.Prelude.{Some}
 use Rattle.clap.specs.Words.{found_of, subcommand_name_of}
-use Rattle.command_line.proofs.ClapInverse.{run_right, run_wrong, new_right, new_wrong, load_right, load_wrong, simulate_right, simulate_wrong, trial_right, trial_wrong, check_right, archive_right, archive_wrong, verify_right, verify_wrong, restore_right, restore_wrong, right_named}
+use Rattle.command_line.proofs.ClapInverse.{run_right, run_wrong, new_right, new_wrong, load_right, load_wrong, simulate_right, simulate_wrong, trial_right, trial_wrong, check_right, if_none, right_named}
 use Rattle.command_line.proofs.request.request_in.Goals as goal
 
 pub returns-in_default-pool_in-clause-none : goal.returns-in_default-pool_in-clause-none
@@ -59,38 +59,8 @@ returns-in-Some-subcommand_matches-5-clause-some c words read =
     let is : subcommand_name_of c.args.matches.now ≡ Some (codes "check") = search rules in
     check_right words c.args.matches.now read is
 
-pub returns-in_default-from_in-clause-none : goal.returns-in_default-from_in-clause-none
-returns-in_default-from_in-clause-none c words read =
-    let is : subcommand_name_of c.args.matches.now ≡ Some (codes "archive") = search rules in
-    archive_wrong words c.args.matches.now (found_of c.in-Some-subcommand_matches-6.archive.now) read c.in-Some-subcommand_matches-6.ensures.rows is c.in_default-from_in.ensures.none
-
-pub returns-in-Some-subcommand_matches-6-clause-some : goal.returns-in-Some-subcommand_matches-6-clause-some
-returns-in-Some-subcommand_matches-6-clause-some c words read =
-    let is : subcommand_name_of c.args.matches.now ≡ Some (codes "archive") = search rules in
-    archive_right words c.args.matches.now (found_of c.in-Some-subcommand_matches-6.archive.now) read c.in-Some-subcommand_matches-6.ensures.rows is c.in-Some-from_in.from c.in-Some-from_in.ensures.from
-
-pub returns-in_default-archive_pages_in-clause-none : goal.returns-in_default-archive_pages_in-clause-none
-returns-in_default-archive_pages_in-clause-none c words read =
-    let is : subcommand_name_of c.args.matches.now ≡ Some (codes "verify") = search rules in
-    verify_wrong words c.args.matches.now (found_of c.in-Some-subcommand_matches-7.verify.now) read c.in-Some-subcommand_matches-7.ensures.rows is c.in_default-archive_pages_in.ensures.none
-
-pub returns-in-Some-subcommand_matches-7-clause-some : goal.returns-in-Some-subcommand_matches-7-clause-some
-returns-in-Some-subcommand_matches-7-clause-some c words read =
-    let is : subcommand_name_of c.args.matches.now ≡ Some (codes "verify") = search rules in
-    verify_right words c.args.matches.now (found_of c.in-Some-subcommand_matches-7.verify.now) read c.in-Some-subcommand_matches-7.ensures.rows is c.in-Some-archive_pages_in.pages c.in-Some-archive_pages_in.ensures.pages
-
-pub returns-in_default-restoring_in-clause-none : goal.returns-in_default-restoring_in-clause-none
-returns-in_default-restoring_in-clause-none c words read =
-    let is : subcommand_name_of c.args.matches.now ≡ Some (codes "restore") = search rules in
-    restore_wrong words c.args.matches.now (found_of c.in-Some-subcommand_matches-8.restore.now) read c.in-Some-subcommand_matches-8.ensures.rows is c.in_default-restoring_in.ensures.none
-
-pub returns-in-Some-subcommand_matches-8-clause-some : goal.returns-in-Some-subcommand_matches-8-clause-some
-returns-in-Some-subcommand_matches-8-clause-some c words read =
-    let is : subcommand_name_of c.args.matches.now ≡ Some (codes "restore") = search rules in
-    restore_right words c.args.matches.now (found_of c.in-Some-subcommand_matches-8.restore.now) read c.in-Some-subcommand_matches-8.ensures.rows is c.in-Some-restoring_in.restoring c.in-Some-restoring_in.ensures.restoring
-
 pub returns-clause-none : goal.returns-clause-none
-returns-clause-none c words read right = ⊎_elim
+returns-clause-none c words read = if_none c.archive_request_in.result (λ none right. ⊎_elim
     (λ run. absurd (true≢false (sym (c.in_default.ensures.found.1 run))))
     (λ other. ⊎_elim
     (λ new. absurd (true≢false (sym (c.in_default-subcommand_matches.ensures.found.1 new))))
@@ -100,11 +70,6 @@ returns-clause-none c words read right = ⊎_elim
     (λ simulate. absurd (true≢false (sym (c.in_default-subcommand_matches-3.ensures.found.1 simulate))))
     (λ end. ⊎_elim
     (λ trial. absurd (true≢false (sym (c.in_default-subcommand_matches-4.ensures.found.1 trial))))
-    (λ both. ⊎_elim
-    (λ check. absurd (true≢false (sym (c.in_default-subcommand_matches-5.ensures.found.1 check))))
-    (λ rest6. ⊎_elim
-    (λ archive. absurd (true≢false (sym (c.in_default-subcommand_matches-6.ensures.found.1 archive))))
-    (λ rest7. ⊎_elim
-    (λ verify. absurd (true≢false (sym (c.in_default-subcommand_matches-7.ensures.found.1 verify))))
-    (λ restore. absurd (true≢false (sym (c.in_default-subcommand_matches-8.ensures.found.1 restore)))) rest7) rest6) both) end) last) others) other)
-    (right_named words c.args.matches.now read right)
+    (λ check. absurd (true≢false (sym (c.in_default-subcommand_matches-5.ensures.found.1 check)))) end) last) others) other)
+    (right_named words c.args.matches.now read none right))
+    (c.archive_request_in.ensures.none words read)
