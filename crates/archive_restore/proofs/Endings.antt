@@ -1,7 +1,7 @@
 -- The last line is told.
 use Rattle.std.proofs.Common.{◌≡◌, ◌≢◌, ◌⊎◌, inl, inr, ⊎_elim, ℕ, zero, suc, List, [], ◌++◌, take, refl, sym, ◌∙◌, ap, subst, append-nil, IsTrue, Result, Ok, Err}
 use Rattle.std.specs.Prelude.{⊤}
-use Rattle.site.specs.State.{State as Site, Image, Snapshot, no_loose}
+use Rattle.site.specs.State.{State as Site, Image, Input, Snapshot, no_loose}
 use Rattle.site.specs.Calls.{Preserves}
 use Rattle.site.specs.Moments.{Leaves, LeavesOnly}
 use Rattle.site.specs.Telling.{SameDevices}
@@ -22,7 +22,7 @@ use Rattle.archive_restore.specs.declared.fault.Fault.{Fault}
 use Rattle.archive_restore.specs.declared.fault.Fault.TheVariants as fault
 use Rattle.archive_restore.specs.Contract.{EndsSo, RestoreHeadline, RestoreOutcome}
 use Rattle.archive_restore.specs.Refusing.{RefusesFilled, RefusesSizes, RefusesWritten}
-use Rattle.archive_restore.specs.Restores.{EndsBy, IsLeft, StandsAfter, StandsNear}
+use Rattle.archive_restore.specs.Restores.{EndsBy, IsLeft, StandsAfter, StandsNear, TakesFew}
 use Rattle.archive_restore.specs.Texts.{fault_line, fault_status, restored_line}
 
 unfit_then : (u : Unfit) (a b c : Site) → IsNotBlank u a b → Preserves b c → IsNotBlank u a c
@@ -84,6 +84,7 @@ module _ (count : ℕ) (g : Geometry) (old mid new : Site) {T : Type 0} (result 
     ends = ends_with old.told line old mid new told goes honest o.told tells;
     moments = moments_told;
     quiet = λ ne. same.loose ∙ quiet ne;
+    takes = subst (λ (x : Input). TakesFew g.pages count old.input x) (sym same.left) o.takes;
   }
 
 -- it is all restored

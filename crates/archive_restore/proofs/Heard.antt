@@ -1,5 +1,5 @@
 -- A line more is heard.
-use Rattle.std.proofs.Common.{◌≡◌, inl, inr, ℕ, ◌+◌, ◌-◌, ◌^◌, ◌<◌, ◌≤◌, Bool, true, List, [], ◌∷◌, ◌++◌, length, take, drop, refl, sym, ◌∙◌, ap, subst, arith, append_assoc, length-append, IsTrue}
+use Rattle.std.proofs.Common.{◌≡◌, inl, inr, ℕ, ◌+◌, ◌-◌, ◌^◌, ◌<◌, ◌≤◌, Bool, true, true≢false, List, [], ◌∷◌, ◌++◌, length, take, drop, refl, sym, ◌∙◌, ap, subst, arith, append_assoc, length-append, IsTrue}
 use Rattle.std.specs.Prelude.{codes, decimal}
 use Rattle.std.proofs.lemmas.Fmt.{length-decimal-le}
 use Rattle.hex.specs.Hex.{encode_lower, lower_digits}
@@ -98,11 +98,17 @@ accepted_push pages (x ∷ lines) line s mid now (next, first, rest) after = (ne
 
 -- a line more was heard
 pub heard_more : (g : Geometry) (lines : List (List ℕ)) (line : List ℕ) (s now : Stream) (entry mid new : Site) (r r' : Restoring) → HasHeard g lines s entry mid r → IsSource r'.source → HasEnded r'.source new
-    → HearsLine line r.source.ended r'.source.ended (to_hear r.source mid) (to_hear r'.source new) → total r'.source new ≡ total r.source mid → AfterLine g.pages line s now → HasHeard g (lines ++ line ∷ []) now entry new r'
-heard_more g lines line s now entry mid new r r' h source ended heard count after = record {
+    → HearsLine line r.source.ended r'.source.ended (to_hear r.source mid) (to_hear r'.source new) → total r'.source new ≡ total r.source mid → new.input.heard + length new.input.left ≡ mid.input.heard + length mid.input.left → AfterLine g.pages line s now → HasHeard g (lines ++ line ∷ []) now entry new r'
+heard_more g lines line s now entry mid new r r' h source ended heard count octets after = record {
   all = h.all ∙ ap (λ l. lines ++ l) (ap (lines_of true) heard.all ∙ heard.is_line (to_hear r'.source new) true (λ over. (none_behind r'.source new source ended over, refl)))
       ∙ sym (append_assoc lines (line ∷ []) (lines_of true (to_hear r'.source new)));
   count = count ∙ h.count;
+  consumed = h.consumed ++ heard.octets;
+  parts = h.parts ∙ ap (λ l. h.consumed ++ l) heard.all ∙ sym (append_assoc h.consumed heard.octets (to_hear r'.source new));
+  whole = λ more e over.
+      ap (lines_of e) (append_assoc h.consumed heard.octets more) ∙ h.whole (heard.octets ++ more) e (λ was. absurd (true≢false (sym was ∙ heard.going)))
+      ∙ ap (λ l. lines ++ l) (heard.is_line more e over) ∙ sym (append_assoc lines (line ∷ []) (lines_of e more));
+  heard = octets ∙ h.heard;
   each =
       let before = length-append (pending r.source) mid.input.left in
       let behind = length-append (pending r'.source) new.input.left in
@@ -180,14 +186,14 @@ goes_on_heard entry mid new r replay source line goes keeps same faults usable (
 
 -- what is heard of an honest site, and what comes of it
 pub hears_on : (pool : ℕ) (g : Geometry) (s : Stream) (entry mid new : Site) (r : Restoring) (replay : Replay) (source : Source) (lines : List (List ℕ)) (line : List ℕ) → HasWritten pool g s entry mid r → HasHeard g lines s entry mid r → Preserves mid new → HearsOnly mid new
-    → IsSource source → HasEnded source new → HearsLine line r.source.ended source.ended (to_hear r.source mid) (to_hear source new) → total source new ≡ total r.source mid
+    → IsSource source → HasEnded source new → HearsLine line r.source.ended source.ended (to_hear r.source mid) (to_hear source new) → total source new ≡ total r.source mid → new.input.heard + length new.input.left ≡ mid.input.heard + length mid.input.left
     → ((now : Stream) × AfterLine g.pages line s now × StandsFor g.pages now (take r.written s.nets) replay)
     → (l : List ℕ) × (now : Stream) × HasWritten pool g now entry new (record r { replay = replay; source = source }) × HasHeard g (lines ++ l ∷ []) now entry new (record r { replay = replay; source = source })
-hears_on pool g s entry mid new r replay source lines line h heard keeps same usable ended hears count (now, after, stands) = (
+hears_on pool g s entry mid new r replay source lines line h heard keeps same usable ended hears count octets (now, after, stands) = (
   line,
   now,
   written_heard pool g s now entry mid new r h (line_grows g.pages line s now after) keeps same replay source stands,
-  heard_more g lines line s now entry mid new r (record r { replay = replay; source = source }) heard usable ended hears count after,
+  heard_more g lines line s now entry mid new r (record r { replay = replay; source = source }) heard usable ended hears count octets after,
 )
 
 -- the lines that are left begin with this one

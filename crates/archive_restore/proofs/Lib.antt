@@ -5,6 +5,7 @@ mod Writes
 mod Growing
 mod Heard
 mod Starts
+mod Taken
 mod Outcomes
 mod Endings
 mod Faults

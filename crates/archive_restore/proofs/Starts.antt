@@ -1,5 +1,5 @@
 -- A restore begins: the devices are blank.
-use Rattle.std.proofs.Common.{◌≡◌, ◌≢◌, inl, ℕ, zero, suc, ◌*◌, ◌-◌, ◌<◌, max, List, [], ◌∷◌, ◌++◌, length, take, drop, None, true, false, true≢false, refl, sym, ◌∙◌, ap, subst, arith}
+use Rattle.std.proofs.Common.{◌≡◌, ◌≢◌, inl, ℕ, zero, suc, ◌+◌, ◌*◌, ◌-◌, ◌<◌, max, List, [], ◌∷◌, ◌++◌, length, take, drop, None, true, false, true≢false, refl, sym, ◌∙◌, ap, subst, arith}
 use Rattle.std.specs.Prelude.{replicate, slice_index_or}
 use Rattle.std.proofs.lemmas.List.{length-replicate}
 use Rattle.site.specs.State.{State as Site, Image, Input, Snapshot, MayLeave, now_of, no_loose}
@@ -202,6 +202,10 @@ heard_none g entry now r empty taken going same =
       all = sym (ap (lines_of true) ((λ i. take (none i) (drop r.source.from r.source.buffer) ++ (same i).left)));
       accepted = refl;
       ended = λ over. absurd (true≢false (sym over ∙ going));
+      consumed = [];
+      parts = sym (λ i. take (none i) (drop r.source.from r.source.buffer) ++ (same i).left);
+      whole = λ more e over. refl;
+      heard = ap (λ (x : Input). x.heard + length x.left) same;
       count = let left : length now.input.left ≡ length entry.input.left = ap (λ (x : Input). length x.left) same in omega (arith, taken, left);
       each = let long : length (pending r.source) ≡ 0 = (λ i. length (take (none i) (drop r.source.from r.source.buffer))) in omega (arith, long);
     }

@@ -8,7 +8,7 @@ use Rattle.front_end.specs.Tells.{EndsWith}
 use Rattle.archive_restore.specs.declared.fault.Fault.{Fault}
 use Rattle.archive_restore.specs.Texts.{fault_line, fault_status, restored_line}
 use Rattle.archive_restore.specs.Restores.{EndsBy, HaveFit, IsBetween, IsHeard, IsLeft, IsTarget}
-use Rattle.archive_restore.specs.Restores.{StandsAfter, StandsNear}
+use Rattle.archive_restore.specs.Restores.{StandsAfter, StandsNear, TakesFew}
 
 -- What comes of a restore over a target before its last line.
 pub record RestoreOutcome {T : Type 0} (count : ℕ) (g : Geometry) (old new : Site) (result : Result T Fault)
@@ -25,6 +25,8 @@ pub record RestoreOutcome {T : Type 0} (count : ℕ) (g : Geometry) (old new : S
   pub fit : HaveFit g s begun
   pub moments : LeavesOnly old new (IsLeft g s begun [] old.told)
   pub told : new.told ≡ old.told
+  -- no input is taken behind the last commit
+  pub takes : TakesFew g.pages count old.input new.input
   pub near : (snapshot : Snapshot) → MayLeave (now_of new) snapshot → StandsNear g s begun snapshot.image
   pub stops : IfErr result (λ f. EndsBy f g lines behind s begun old new
       × (IsBetween f → (begun < count) × StandsAfter g s begun new.image)
@@ -55,6 +57,8 @@ pub record RestoreHeadline (count : ℕ) (g : Geometry) (old new : Site) (status
   -- a crash at any moment leaves the table after some of the commits
   pub moments : LeavesOnly old new (IsLeft g s begun line old.told)
   pub quiet : status ≢ 3 → new.loose ≡ no_loose
+  -- no input is taken behind the last commit
+  pub takes : TakesFew g.pages count old.input new.input
 
 -- What `restore` does up to this commit.
 pub record RestoreContract (count : ℕ) (old new : Site) (status : ℕ) : Type 0 where

@@ -1,5 +1,5 @@
 -- A restore under way.
-use Rattle.std.specs.Prelude.{◌≡◌, ◌≢◌, ℕ, ◌+◌, ◌-◌, ◌*◌, ◌≤◌, ◌<◌, List, [], ◌∷◌, ◌++◌, length, take, true}
+use Rattle.std.specs.Prelude.{◌≡◌, ◌≢◌, Bool, ℕ, ◌+◌, ◌-◌, ◌*◌, ◌≤◌, ◌<◌, List, [], ◌∷◌, ◌++◌, length, take, true}
 use Rattle.site.specs.State.{State as Site, Snapshot, MayLeave, now_of, no_loose}
 use Rattle.site.specs.declared.geometry.Geometry.{Geometry}
 use Rattle.site.specs.Calls.{IsUnchanged, Preserves}
@@ -12,7 +12,8 @@ use Rattle.net_lines.specs.Nets.{AreLengths, idle, while_writing}
 use Rattle.stream_lines.specs.Lines.{HasEnded, IsSource, pending, to_hear, total}
 use Rattle.face.specs.Image.{blank_table}
 use Rattle.face.specs.RunInProgress.{GoesOn}
-use Rattle.archive_restore.specs.Restores.{EndsBy, HaveFit, IsBetween, IsLeft, StandsAfter, StandsNear, lines_of_nets}
+use Rattle.archive_restore.specs.Restores.{EndsBy, HaveFit, IsBetween, IsLeft, StandsAfter, StandsNear, TakesFew}
+use Rattle.archive_restore.specs.Restores.{lines_of_nets}
 use Rattle.archive_restore.specs.Writing.{HasCarried, blank_state}
 use Rattle.archive_restore.specs.Texts.{fault_status}
 use Rattle.archive_restore.specs.declared.fault.Fault.{Fault}
@@ -62,6 +63,12 @@ pub record HasHeard (g : Geometry) (lines : List (List ℕ)) (s : Stream) (entry
   pub accepted : Accepted g.pages lines (blank_stream g.pages) s
   pub ended : HasEnded r.source now
   pub count : total r.source now ≡ length entry.input.left
+  -- they stand in these octets, whatever comes behind them
+  pub consumed : List ℕ
+  pub parts : entry.input.left ≡ consumed ++ to_hear r.source now
+  pub whole : (more : List ℕ) (e : Bool) → (r.source.ended ≡ true → (more ≡ []) × (e ≡ true))
+      → lines_of e (consumed ++ more) ≡ lines ++ lines_of e more
+  pub heard : now.input.heard + length now.input.left ≡ entry.input.heard + length entry.input.left
   -- each of them has an octet at least
   pub each : length lines + length (pending r.source) ≤ r.source.taken
 
@@ -80,7 +87,7 @@ pub record StopsRestoring (g : Geometry) (lines behind : List (List ℕ)) (s : S
   pub quiet : fault_status f ≢ 3 → now.loose ≡ no_loose
 
 -- A restore under way over a target: these lines were heard, and nets of their stream are written.
-pub record IsUnderWay (pool : ℕ) (g : Geometry) (old now : Site) (r : Restoring) (number : ℕ) : Type 0 where
+pub record IsUnderWay (pool count : ℕ) (g : Geometry) (old now : Site) (r : Restoring) (number : ℕ) : Type 0 where
   pub tested : Site
   pub same : IsUnchanged old tested
   pub kept : Preserves old tested
@@ -90,3 +97,4 @@ pub record IsUnderWay (pool : ℕ) (g : Geometry) (old now : Site) (r : Restorin
   pub written : HasWritten pool g s tested now r
   pub heard : HasHeard g lines s tested now r
   pub long : length lines ≡ number
+  pub takes : TakesFew g.pages count tested.input now.input

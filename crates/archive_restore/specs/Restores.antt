@@ -1,7 +1,9 @@
 -- What a restore does with blank devices, and what a crash at any moment of it leaves.
 use Rattle.std.specs.Prelude.{◌≡◌, ◌⊎◌, ℕ, ◌+◌, ◌-◌, ◌≤◌, ◌<◌, List, [], ◌∷◌, ◌++◌, length, slice_index_or}
-use Rattle.std.specs.Prelude.{take, true, IsTrue}
-use Rattle.site.specs.State.{State as Site, Image, Snapshot, no_loose}
+use Rattle.std.specs.Prelude.{false, take, true, IsTrue}
+use Rattle.std.specs.List.{AllByRecursion}
+use Rattle.site.specs.State.{State as Site, Image, Input, Snapshot, no_loose}
+use Rattle.site.specs.declared.outside.Take.{Take}
 use Rattle.site.specs.declared.geometry.Geometry.{Geometry}
 use Rattle.site.specs.Geometry.{HasLimits, HasLengths}
 use Rattle.record_model.specs.State.{State, Write}
@@ -89,3 +91,18 @@ IsBetween (fault.Halt halt.Input) = Unit {0}
 IsBetween (fault.Halt halt.Limit) = Unit {0}
 IsBetween (fault.Halt h) = ⊥
 IsBetween (fault.Unfit unfit) = ⊥
+
+-- Input was asked for where so many octets of what was left at entry were heard: the lines that stand whole in them are
+-- an archive with fewer commits.
+pub record IsWanted (pages count : ℕ) (old : Input) (t : Take) : Type 0 where
+  pub heard : ℕ
+  pub here : t.heard ≡ old.heard + heard
+  pub s : Stream
+  pub accepted : Accepted pages (lines_of false (take heard old.left)) (blank_stream pages) s
+  pub few : length s.nets < count
+
+-- so it was wherever input was asked for: none is taken behind the last commit
+pub record TakesFew (pages count : ℕ) (old new : Input) : Type 0 where
+  pub takes : List Take
+  pub are : new.takes ≡ old.takes ++ takes
+  pub wanted : AllByRecursion (IsWanted pages count old) takes

@@ -17,7 +17,7 @@ ghost use Rattle.archive_restore.specs.declared.fault.Fault.{Fault};
 ghost use Rattle.engine.specs.Leaves.{HasNoSizes};
 ghost use Rattle.archive_restore.specs.Faults.{RestoreFaults};
 ghost use Rattle.archive_restore.specs.Refusing.{IsWritten, RefusesSizes, RefusesWritten};
-ghost use Rattle.archive_restore.specs.Restores.{IsTarget};
+ghost use Rattle.archive_restore.specs.Restores.{IsTarget, TakesFew};
 ghost use Rattle.archive_restore.specs.Progress.{GoesOnRestoring, HasHeard, HasWritten, IsPopped, StopsRestoring};
 
 use crate::beginning::begin;
@@ -93,6 +93,7 @@ impl Restoring {
             × SameFaults (S.state site.old) tested × GoesOnRestoring tested (S.state site.new) r) }
         ensures none { IfOk result (λ r. r.written ≡ 0) }
         ensures faults { RestoreFaults result (S.state site.old) (S.state site.new) }
+        ensures left { IsTrue (S.state site.old).honest → (S.state site.new).input ≡ (S.state site.old).input }
         ensures refuses { HasNoSizes (S.state site.old) → RefusesSizes result (S.state site.old) (S.state site.new) }
         ensures unfit { IsTrue (S.state site.old).honest → IsWritten (S.state site.old)
             → RefusesWritten result (S.state site.old) (S.state site.new) }
@@ -217,6 +218,11 @@ impl Restoring {
             → self.old.written < count → number ≡ length lines + 1
             → IfErr result (λ fault. (behind : List (List ℕ)) × (lines_of true entry.input.left ≡ lines ++ behind)
             × StopsRestoring g lines behind s count entry (S.state site.new) fault) }
+        ensures takes { (pool : ℕ) (g : Geometry) (s : Stream) (entry : Site) (lines : List (List ℕ)) (count : ℕ)
+            → HasWritten pool g s entry (S.state site.old) self.old
+            → HasHeard g lines s entry (S.state site.old) self.old → self.old.written ≡ length s.nets
+            → self.old.written < count → TakesFew g.pages count entry.input (S.state site.old).input
+            → TakesFew g.pages count entry.input (S.state site.new).input }
         ensures written { self.new.written ≡ self.old.written }
         ensures faults { RestoreFaults result (S.state site.old) (S.state site.new) }
         ensures preserves { Preserves (S.state site.old) (S.state site.new) }

@@ -1,11 +1,13 @@
-use Rattle.std.proofs.Common.{◌+◌, ◌++◌, ◌∷◌, [], length-append, refl, sym, ◌∙◌, ap, true, arith}
+use Rattle.std.proofs.Common.{◌+◌, ◌++◌, ◌∷◌, [], length-append, refl, sym, ◌∙◌, ap, subst, true, arith}
 use Rattle.site.specs.declared.geometry.Geometry.{Geometry}
 use Rattle.site.specs.Faults.{Faults}
+use Rattle.site.specs.State.{Input}
 use Rattle.site.proofs.Laws.{goes_in_sequence}
 use Rattle.shell_text.specs.Runs.{lines_of}
 use Rattle.stream_lines.specs.Lines.{to_hear}
 use Rattle.archive_restore.specs.Progress.{GoesOnRestoring, HasHeard, HasWritten, IsUnderWay}
-use Rattle.archive_restore.specs.Restores.{IsTarget}
+use Rattle.archive_restore.specs.Restores.{IsTarget, TakesFew}
+use Rattle.archive_restore.proofs.Taken.{takes_none}
 use Rattle.archive_restore.proofs.Heard.{honest_of}
 use Rattle.archive_restore.proofs.Outcomes.{heard_still, outcome_done, outcome_never, outcome_stopped, too_many}
 use Rattle.archive_restore.proofs.restored.restore_commits.Given.{Over}
@@ -21,14 +23,14 @@ loop-line-init g c = record {
   going = (c.in-Ok.ensures.going.0, c.in-Ok.ensures.going.3);
   progress = λ geometry t.
       let b = c.in-Ok.ensures.begins geometry t in
-      record { tested = b.0; same = b.1; kept = b.2; lines = []; s = _; goes = b.3; written = b.4; heard = b.5; long = refl };
+      record { tested = b.0; same = b.1; kept = b.2; lines = []; s = _; goes = b.3; written = b.4; heard = b.5; long = refl; takes = takes_none geometry.pages c.args.count _ _ (c.start.ensures.left t.honest ∙ sym b.1.left) };
 }
 
 pub returns-in-Err-clause-restores : goal.returns-in-Err-clause-restores
 returns-in-Err-clause-restores g c geometry t =
     let old = g.S.Site.state c.args.site.now in
     let new = g.S.Site.state c.start.new.site in
-    outcome_never c.args.count geometry old new c.in-Err.fault (c.in-Err.ensures.never geometry _ c.args.count t)
+    outcome_never c.args.count geometry old new c.in-Err.fault (c.start.ensures.left t.honest) (c.in-Err.ensures.never geometry _ c.args.count t)
 
 pub write_waiting-requires : goal.write_waiting-requires
 write_waiting-requires g c = record { going = c.loop-line.invariant.going; most = c.loop-line.invariant.most }
@@ -40,18 +42,19 @@ pub returns-in-Ok-true-clause-restores : goal.returns-in-Ok-true-clause-restores
 returns-in-Ok-true-clause-restores g c geometry t =
     let u = c.loop-line.invariant.progress geometry t in
     outcome_done c.args.count c.args.pool geometry (g.S.Site.state c.args.site.now) (g.S.Site.state c.loop-line.site) (g.S.Site.state c.write_waiting.new.site) c.loop-line.restoring c.write_waiting.new.self c.loop-line.line u
-    (c.in-Ok-true.ensures.writes c.args.pool geometry u.s u.tested u.written) (c.in-Ok-true.ensures.all c.in-Ok-true.field-0-test) _
+    (c.in-Ok-true.ensures.writes c.args.pool geometry u.s u.tested u.written) (c.in-Ok-true.ensures.all c.in-Ok-true.field-0-test) (c.write_waiting.ensures.left (honest_of c.args.pool geometry u.s u.tested (g.S.Site.state c.loop-line.site) c.loop-line.restoring u.written)) _
 
 pub returns-in-Err-write_waiting-clause-restores : goal.returns-in-Err-write_waiting-clause-restores
 returns-in-Err-write_waiting-clause-restores g c geometry t =
     let u = c.loop-line.invariant.progress geometry t in
     let behind = lines_of true (to_hear c.loop-line.restoring.source (g.S.Site.state c.loop-line.site)) in
     outcome_stopped c.args.count geometry (g.S.Site.state c.args.site.now) u.tested (g.S.Site.state c.write_waiting.new.site) u.lines behind u.s c.in-Err-write_waiting.fault u.same u.kept u.heard.accepted u.heard.all
+    (subst (λ (x : Input). TakesFew geometry.pages c.args.count u.tested.input x) (sym (c.write_waiting.ensures.left (honest_of c.args.pool geometry u.s u.tested (g.S.Site.state c.loop-line.site) c.loop-line.restoring u.written))) u.takes)
     (c.in-Err-write_waiting.ensures.stops c.args.pool geometry u.s u.tested u.lines behind u.goes u.written)
 
 -- All that waited is written.
 module _ (g : Over) (c : After-hear g) (geometry : Geometry) (t : IsTarget geometry (g.S.Site.state c.args.site.now)) where
-  abbrev u : IsUnderWay c.args.pool geometry (g.S.Site.state c.args.site.now) (g.S.Site.state c.loop-line.site) c.loop-line.restoring c.loop-line.line
+  abbrev u : IsUnderWay c.args.pool c.args.count geometry (g.S.Site.state c.args.site.now) (g.S.Site.state c.loop-line.site) c.loop-line.restoring c.loop-line.line
   u = c.loop-line.invariant.progress geometry t
 
   goes : GoesOnRestoring u.tested (g.S.Site.state c.write_waiting.new.site) c.write_waiting.new.self
@@ -64,13 +67,17 @@ module _ (g : Over) (c : After-hear g) (geometry : Geometry) (t : IsTarget geome
   heard = heard_still geometry u.lines u.s u.tested (g.S.Site.state c.loop-line.site) (g.S.Site.state c.write_waiting.new.site) c.loop-line.restoring c.write_waiting.new.self u.heard c.in-Ok-false.ensures.source
       (c.write_waiting.ensures.left (honest_of c.args.pool geometry u.s u.tested (g.S.Site.state c.loop-line.site) c.loop-line.restoring u.written))
 
+  takes : TakesFew geometry.pages c.args.count u.tested.input (g.S.Site.state c.write_waiting.new.site).input
+  takes = subst (λ (x : Input). TakesFew geometry.pages c.args.count u.tested.input x) (sym (c.write_waiting.ensures.left (honest_of c.args.pool geometry u.s u.tested (g.S.Site.state c.loop-line.site) c.loop-line.restoring u.written))) u.takes
+
 pub returns-in-Err-hear-clause-restores : goal.returns-in-Err-hear-clause-restores
 returns-in-Err-hear-clause-restores g c geometry t =
     let s = (goal.at.returns-in-Err-hear-clause-restores g c).After-hear in
     let u = c.loop-line.invariant.progress geometry t in
     let none = c.in-Ok-false.ensures.none c.args.pool geometry u.s u.tested u.written c.in-Ok-false.field-0-test in
     let st = c.in-Err-hear.ensures.stops c.args.pool geometry u.s u.tested u.lines c.args.count (goes g s geometry t) (written g s geometry t) (heard g s geometry t) none.0 none.1 (ap (λ n. n + 1) (sym u.long)) in
-    outcome_stopped c.args.count geometry (g.S.Site.state c.args.site.now) u.tested (g.S.Site.state c.hear.new.site) u.lines st.0 u.s c.in-Err-hear.fault u.same u.kept u.heard.accepted st.1 st.2
+    outcome_stopped c.args.count geometry (g.S.Site.state c.args.site.now) u.tested (g.S.Site.state c.hear.new.site) u.lines st.0 u.s c.in-Err-hear.fault u.same u.kept u.heard.accepted st.1
+    (c.hear.ensures.takes c.args.pool geometry u.s u.tested u.lines c.args.count (written g s geometry t) (heard g s geometry t) none.0 none.1 (takes g s geometry t)) st.2
 
 pub loop-line-preserved : goal.loop-line-preserved
 loop-line-preserved g c =
@@ -82,6 +89,7 @@ loop-line-preserved g c =
       going = (c.loop-line.invariant.going.0, c.in_default.ensures.going c.loop-line.invariant.going.0 (c.in-Ok-false.ensures.going c.loop-line.invariant.going.0 c.loop-line.invariant.going.1));
       progress = λ geometry t.
           let u = c.loop-line.invariant.progress geometry t in
+          let none = c.in-Ok-false.ensures.none c.args.pool geometry u.s u.tested u.written c.in-Ok-false.field-0-test in
           let h = c.in_default.ensures.hears c.args.pool geometry u.s u.tested u.lines (written g s geometry t) (heard g s geometry t) in
           record {
             tested = u.tested;
@@ -92,6 +100,7 @@ loop-line-preserved g c =
             goes = c.in_default.ensures.going u.tested (goes g s geometry t);
             written = h.2;
             heard = h.3;
+            takes = c.hear.ensures.takes c.args.pool geometry u.s u.tested u.lines c.args.count (written g s geometry t) (heard g s geometry t) none.0 none.1 (takes g s geometry t);
             long = let all = length-append u.lines (h.0 ∷ []) in let long = u.long in omega (arith, all, long);
           };
     }

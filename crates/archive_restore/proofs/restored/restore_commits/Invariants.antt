@@ -16,5 +16,5 @@ invariant-loop-line g l =
       faults : SameFaults old now;
       most : l.restoring.written ≤ l.count;
       going : (entry : Site) × GoesOnRestoring entry now l.restoring;
-      progress : (geometry : Geometry) → IsTarget geometry old → IsUnderWay l.pool geometry old now l.restoring l.line;
+      progress : (geometry : Geometry) → IsTarget geometry old → IsUnderWay l.pool l.count geometry old now l.restoring l.line;
     }

@@ -1,4 +1,4 @@
-use Rattle.std.proofs.Common.{◌≡◌, ◌++◌, ◌∷◌, [], List, ℕ, true, refl, sym, ◌∙◌, ap, subst, Err}
+use Rattle.std.proofs.Common.{◌≡◌, ◌++◌, ◌∷◌, [], List, ℕ, true, refl, sym, ◌∙◌, ap, subst, arith, Err}
 use Rattle.std.specs.Prelude.{take}
 use Rattle.site.specs.Faults.{faults_in}
 use Rattle.site.proofs.Laws.{rose_since}
@@ -10,6 +10,7 @@ use Rattle.stream_lines.specs.declared.source.Fault.TheVariants as taking
 use Rattle.stream_lines.specs.declared.source.Heard.TheVariants as kind
 use Rattle.archive_restore.specs.declared.fault.Fault.{Fault}
 use Rattle.archive_restore.specs.Progress.{StopsRestoring}
+use Rattle.archive_restore.proofs.Taken.{takes_more}
 use Rattle.archive_restore.proofs.Heard.{cut_as, goes_on_heard, heard_as, hears_on, honest_of, left_with, line_first, long_refused, over_limit, stops_here}
 use Rattle.archive_restore.specs.Faults.{after_fault}
 use Rattle.archive_restore.proofs.restoring.Restoring.hear.Goals as goal
@@ -75,7 +76,7 @@ returns-in-Ok-clause-hears g c pool geometry s entry lines h heard =
     let honest = honest_of pool geometry s entry mid r h in
     let first = heard_as c.in-Ok-Line.field-0 kind.Line _ _ _ _ _ (c.in-Ok-Line.ensures.heard honest heard.ended) c.in-Ok-Line.field-0-is in
     hears_on pool geometry s entry mid new r c.line.new.self c.next.new.self lines c.as_slice.result.now h heard c.next.ensures.preserves (c.next.ensures.same honest) c.next.ensures.source (c.in-Ok-Line.ensures.ended honest heard.ended)
-    (subst (λ (l : List ℕ). HearsLine l r.source.ended c.next.new.self.ended (to_hear r.source mid) (to_hear c.next.new.self new)) (sym c.as_slice.ensures.value) first) (c.in-Ok-Line.ensures.count honest)
+    (subst (λ (l : List ℕ). HearsLine l r.source.ended c.next.new.self.ended (to_hear r.source mid) (to_hear c.next.new.self new)) (sym c.as_slice.ensures.value) first) (c.in-Ok-Line.ensures.count honest) (c.next.ensures.takes honest heard.ended).count
     (c.in-Ok.ensures.accepted geometry.pages s (take r.written s.nets) h.replay)
 
 pub returns-in-Err-BadStream-clause-stops : goal.returns-in-Err-BadStream-clause-stops
@@ -114,3 +115,38 @@ returns-in-Err-Limit-clause-faults g c = c.in-Err-Limit.ensures.faults ∙ ap (�
 
 pub returns-in-Err-Memory-clause-faults : goal.returns-in-Err-Memory-clause-faults
 returns-in-Err-Memory-clause-faults g c = subst (λ (f : Fault). faults_in (g.S.Site.state c.next.new.site) ≡ after_fault f (faults_in (g.S.Site.state c.args.site.now))) (sym c.lacks_memory.ensures) c.in-Ok-Line.ensures.faults
+
+pub returns-in-Err-Input-clause-takes : goal.returns-in-Err-Input-clause-takes
+returns-in-Err-Input-clause-takes g c pool geometry s entry lines count h heard all less before =
+    takes_more geometry lines s entry (g.S.Site.state c.args.site.now) c.args.self.now heard count (omega (arith, all, less)) (g.S.Site.state c.next.new.site)
+    (c.next.ensures.takes (honest_of pool geometry s entry (g.S.Site.state c.args.site.now) c.args.self.now h) heard.ended) before
+
+pub returns-in-Err-Limit-clause-takes : goal.returns-in-Err-Limit-clause-takes
+returns-in-Err-Limit-clause-takes g c pool geometry s entry lines count h heard all less before =
+    takes_more geometry lines s entry (g.S.Site.state c.args.site.now) c.args.self.now heard count (omega (arith, all, less)) (g.S.Site.state c.next.new.site)
+    (c.next.ensures.takes (honest_of pool geometry s entry (g.S.Site.state c.args.site.now) c.args.self.now h) heard.ended) before
+
+pub returns-in-Ok-End-clause-takes : goal.returns-in-Ok-End-clause-takes
+returns-in-Ok-End-clause-takes g c pool geometry s entry lines count h heard all less before =
+    takes_more geometry lines s entry (g.S.Site.state c.args.site.now) c.args.self.now heard count (omega (arith, all, less)) (g.S.Site.state c.next.new.site)
+    (c.next.ensures.takes (honest_of pool geometry s entry (g.S.Site.state c.args.site.now) c.args.self.now h) heard.ended) before
+
+pub returns-in-Ok-Long-clause-takes : goal.returns-in-Ok-Long-clause-takes
+returns-in-Ok-Long-clause-takes g c pool geometry s entry lines count h heard all less before =
+    takes_more geometry lines s entry (g.S.Site.state c.args.site.now) c.args.self.now heard count (omega (arith, all, less)) (g.S.Site.state c.next.new.site)
+    (c.next.ensures.takes (honest_of pool geometry s entry (g.S.Site.state c.args.site.now) c.args.self.now h) heard.ended) before
+
+pub returns-in-Ok-clause-takes : goal.returns-in-Ok-clause-takes
+returns-in-Ok-clause-takes g c pool geometry s entry lines count h heard all less before =
+    takes_more geometry lines s entry (g.S.Site.state c.args.site.now) c.args.self.now heard count (omega (arith, all, less)) (g.S.Site.state c.next.new.site)
+    (c.next.ensures.takes (honest_of pool geometry s entry (g.S.Site.state c.args.site.now) c.args.self.now h) heard.ended) before
+
+pub returns-in-Err-BadStream-clause-takes : goal.returns-in-Err-BadStream-clause-takes
+returns-in-Err-BadStream-clause-takes g c pool geometry s entry lines count h heard all less before =
+    takes_more geometry lines s entry (g.S.Site.state c.args.site.now) c.args.self.now heard count (omega (arith, all, less)) (g.S.Site.state c.next.new.site)
+    (c.next.ensures.takes (honest_of pool geometry s entry (g.S.Site.state c.args.site.now) c.args.self.now h) heard.ended) before
+
+pub returns-in-Err-Memory-clause-takes : goal.returns-in-Err-Memory-clause-takes
+returns-in-Err-Memory-clause-takes g c pool geometry s entry lines count h heard all less before =
+    takes_more geometry lines s entry (g.S.Site.state c.args.site.now) c.args.self.now heard count (omega (arith, all, less)) (g.S.Site.state c.next.new.site)
+    (c.next.ensures.takes (honest_of pool geometry s entry (g.S.Site.state c.args.site.now) c.args.self.now h) heard.ended) before

@@ -3,7 +3,7 @@ use Rattle.std.specs.Prelude.{replicate}
 use Rattle.std.proofs.lemmas.List.{length-replicate}
 use Rattle.site.specs.Faults.{Faults, faults_in}
 use Rattle.front_end.specs.Faults.{after_halt}
-use Rattle.site.proofs.Laws.{goes_in_sequence}
+use Rattle.site.proofs.Laws.{goes_in_sequence, stays_honest}
 use Rattle.site.specs.declared.geometry.Geometry.{Geometry}
 use Rattle.log_archive.specs.Accepted.{blank_stream}
 use Rattle.log_replay.specs.Stands.{StandsFor}
@@ -120,3 +120,22 @@ returns-in-Ok-begin-clause-faults g c = c.in-Ok-begin.ensures.ends.faults ∙ c.
 
 pub returns-in-Err-begin-clause-faults : goal.returns-in-Err-begin-clause-faults
 returns-in-Err-begin-clause-faults g c = c.in-Err-begin.ensures.ends.faults ∙ ap (λ (f : Faults). after_halt c.in-Err-begin.halt f) c.in-Ok.ensures.faults
+
+pub returns-in_default-clause-left : goal.returns-in_default-clause-left
+returns-in_default-clause-left g c honest = (c.blank_sizes.ensures.same honest).left
+
+pub returns-in_default-blank-clause-left : goal.returns-in_default-blank-clause-left
+returns-in_default-blank-clause-left g c honest = (c.blank_sizes.ensures.same honest).left
+
+pub returns-in-Err-clause-left : goal.returns-in-Err-clause-left
+returns-in-Err-clause-left g c honest = (c.blank_sizes.ensures.same honest).left
+
+pub returns-in-Ok-begin-clause-left : goal.returns-in-Ok-begin-clause-left
+returns-in-Ok-begin-clause-left g c honest =
+    let mid = g.S.Site.state c.blank_sizes.new.site in
+    c.begin.ensures.left (stays_honest (g.S.Site.state c.args.site.now) mid c.blank_sizes.ensures.preserves honest) ∙ (c.blank_sizes.ensures.same honest).left
+
+pub returns-in-Err-begin-clause-left : goal.returns-in-Err-begin-clause-left
+returns-in-Err-begin-clause-left g c honest =
+    let mid = g.S.Site.state c.blank_sizes.new.site in
+    c.begin.ensures.left (stays_honest (g.S.Site.state c.args.site.now) mid c.blank_sizes.ensures.preserves honest) ∙ (c.blank_sizes.ensures.same honest).left
