@@ -22,6 +22,10 @@ printf 'set 5 0a\n' | "$face" run 1 >/dev/null
 verdict 'two archives' $?
 [ "$("$root/bin/backup" --check "$folder/kept")" = 'verified 2' ]
 verdict 'they are read' $?
+mkdir "$folder/again" && (cd "$folder/again" && "$face" new 16 8 64 >/dev/null && "$root/bin/restore" "$folder/kept" 1) >"$folder/out" 2>&1
+[ $? -eq 0 ] && [ "$(tail -n 1 "$folder/out")" = 'restored 1' ] &&
+    [ "$(cd "$folder/again" && printf 'get 5\nget 6\n' | "$face" run 1 | tr '\n' ' ')" = 'open 1 value 0a none ' ]
+verdict 'the first commit is restored' $?
 seq 0 99 | awk '{ print "set", $1, "aa" }' | "$face" run 4 >/dev/null
 "$root/bin/backup" "$folder/kept" >/dev/null 2>"$folder/said"
 [ $? -eq 12 ] && grep -q 'written over blocks 2 to 38' "$folder/said" && [ "$(ls "$folder/kept" | wc -l)" -eq 2 ]

@@ -7,16 +7,18 @@
 mkdir "$folder/db"
 cd "$folder/db" || exit 1
 says 'no words' 2 "face: there are no words, or one of them isn't UTF-8 text"
-known='and not new, run, load, simulate, trial, check, archive or verify'
+known='and not new, run, load, simulate, trial, check, archive, verify or restore'
 says 'help' 2 "face: word 1 is \"help\", $known" help
 says 'a word that ends with a newline' 2 "face: word 1 is \"run\\\\n\", $known" $'run\n'
 says 'a flag' 2 "face: word 1 is \"--help\", $known" --help
 says 'the usage' 2 'usage: face new PAGES GROUPS BLOCKS .*' --help
-[ "$(grep -v -c '^face: ' "$folder/said")" -eq 15 ] && [ "$(cat "$folder/out")" = 'fault words' ]
-verdict 'the usage has fifteen lines' $?
+[ "$(grep -v -c '^face: ' "$folder/said")" -eq 16 ] && [ "$(cat "$folder/out")" = 'fault words' ]
+verdict 'the usage has sixteen lines' $?
 says 'a number that is none' 2 'face: word 3 is "10", which is no GROUPS' new 16 10 64
 says 'a word that is missing' 2 'face: SEED is missing' load 1
 says 'no pool' 2 'face: POOL is missing' run
+says 'a restore without its pool' 2 'face: POOL is missing' restore 1
+says 'a number of commits that is none' 2 'face: word 2 is "-1", which is no N' restore -1 1
 says 'a word too many' 2 'face: word 3 is "2", which is one too many' run 1 2
 
 # --- no database

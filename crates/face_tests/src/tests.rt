@@ -667,7 +667,7 @@ const LARGEST_SEED: &[Step<'static>] = &[
 ];
 
 // The tests by their names.
-const TESTS: [(&str, &[Step<'static>]); 29] = [
+const TESTS: [(&str, &[Step<'static>]); 30] = [
     ("the_largest_pool_is_served", LARGEST_POOL),
     ("a_long_input_is_heard_to_its_end", LONG_INPUT),
     ("lines_are_answered", LINES),
