@@ -41,4 +41,21 @@ if has flock; then
 else
     skip 'a backup beside a run: needs flock'
 fi
+
+# --- a client that drives the program by a pipe
+fresh
+mkdir "$folder/served"
+printf 'set 5 0a\nbackup\nbegin 0\nwrite 0 7 aa\nset 6 0b\nbackup\nget 6\nget 7\nread 0 7\nbackup\nquit\nset 1 01\n' |
+    "$root/bin/serve" 4 "$folder/served" >"$folder/out" 2>/dev/null
+[ $? -eq 0 ] && [ "$(tr '\n' ',' <"$folder/out")" = 'open 0,committed 1,backup 0,open 1,ok,ok,committed 2,backup 0,open 2,value 0b,none,refused session,backup 0,open 2,bye,' ]
+verdict 'backups between runs for one client' $?
+[ "$("$root/bin/backup" --check "$folder/served")" = 'verified 2' ]
+verdict 'what they have archived is whole' $?
+printf 'get 5\nget 6' | "$root/bin/serve" 4 "$folder/served" >"$folder/out" 2>/dev/null
+[ $? -eq 0 ] && [ "$(tr '\n' ',' <"$folder/out")" = 'open 2,value 0a,value 0b,' ]
+verdict 'a last line without its end is answered' $?
+printf 'not what the files are' >face.log
+printf 'get 5\n' | "$root/bin/serve" 4 "$folder/served" >"$folder/out" 2>/dev/null
+[ $? -eq 9 ]
+verdict "the program's status is told" $?
 finish
