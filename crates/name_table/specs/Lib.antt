@@ -1,3 +1,4 @@
 pub mod Probing
 pub mod Laws
 pub mod Rows
+pub mod Tidying

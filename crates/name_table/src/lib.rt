@@ -5,6 +5,7 @@ mod buckets;
 mod laws;
 mod probe;
 mod rows;
+mod tidying;
 
 pub use buckets::{NAME_MAX, VALUE_MAX};
 pub use laws::{
@@ -14,3 +15,4 @@ pub use laws::{
 pub use probe::Probe;
 pub use record_model::{Ask, NameAnswer};
 pub use rows::{rows_of_buckets, rows_of_names};
+pub use tidying::{TidyAsk, Tidying};
