@@ -2,3 +2,4 @@ pub mod Probing
 pub mod Laws
 pub mod Rows
 pub mod Tidying
+pub mod Tidies
