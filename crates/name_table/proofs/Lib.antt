@@ -7,3 +7,4 @@ pub mod NameLaws
 pub mod FirstLaws
 pub mod MetLaws
 pub mod TidyRuns
+pub mod TidyLaws

@@ -1,10 +1,10 @@
 -- Where a tidy comes to over the values of a table.
-use Rattle.name_table.proofs.Names.{◌≡◌, ℕ, zero, suc, ◌+◌, ◌<◌, ◌≤◌, ◌%◌, Bool, true, false, List, Option, Some, None, inl, inr, refl, ap, sym, ◌∙◌, subst, arith, mod-lt, mod-eq_of_lt, below_more, cases_lt, ltb-true, ltb-false, nat_lt, if◌then◌else◌, bucket_of, bucket_count, Content, content_at, Bucket, Free, Tombstone, Entry, Strange}
-use Rattle.std.proofs.Math.Nat.{min-le_left, min-le_right}
+use Rattle.name_table.proofs.Names.{◌≡◌, ℕ, zero, suc, ◌+◌, ◌<◌, ◌≤◌, ◌%◌, Bool, true, false, List, Some, None, inl, inr, refl, ap, sym, ◌∙◌, subst, arith, below_more, cases_lt, ltb-true, ltb-false, nat_lt, if◌then◌else◌, bucket_of, bucket_count, Content, content_at, Bucket, Free, Tombstone, Entry, Strange}
+use Rattle.std.proofs.Math.Nat.{min-le_left}
 use Rattle.name_table.specs.declared.tidying.TidyAsk.{TidyAsk}
 use Rattle.name_table.specs.declared.tidying.TidyAsk.TheVariants as asks
-use Rattle.name_table.specs.Tidying.{Tidying, up, looks, leads_over, look_on, read_on, octets_in, after_looked, after_behind, after_entry, asking, tidy_told_of, tidy_told_times, tidy_begun, tidy_over, most_reads, AsksRead}
-use Rattle.name_table.specs.Tidies.{bucket_up, HasNoTombstone, Stays, AllStay, Frees, Moves, Halts, Behind, frees, moves, halts, TidyEnds, finds_none, meets_one, tidied, TidyIsTold, TidiesAreTold}
+use Rattle.name_table.specs.Tidying.{Tidying, up, looks, leads_over, look_on, read_on, octets_in, after_looked, after_behind, asking, tidy_told_of, tidy_told_times, most_reads, AsksRead}
+use Rattle.name_table.specs.Tidies.{bucket_up, HasNoTombstone, Stays, AllStay, Behind, frees, moves, halts, TidyEnds, finds_none, meets_one, tidied, TidiesAreTold}
 
 -- a tidy that asks for no read is told no more
 untold : (table : List Content) (next : TidyAsk) (t : Tidying) → (AsksRead next → ⊥) → tidy_told_of table next t ≡ t
