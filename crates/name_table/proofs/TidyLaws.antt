@@ -5,7 +5,7 @@ use Rattle.std.proofs.lemmas.Bool.{lt-ltb}
 use Rattle.std.proofs.lemmas.List.{get_or-set_other, get_or-set_same, length-set}
 use Rattle.name_table.specs.declared.tidying.TidyAsk.{TidyAsk}
 use Rattle.name_table.specs.declared.tidying.TidyAsk.TheVariants as asks
-use Rattle.name_table.specs.Tidying.{up, way, leads_over}
+use Rattle.name_table.specs.Tidying.{Tidying, up, way, leads_over}
 use Rattle.name_table.specs.Tidies.{Stays, Frees, Behind, frees, moves, halts, TidyEnds, finds_none, meets_one, TidiesKeepNames, KeepsNames, tombstones, tombstones_among, one_tombstone}
 use Rattle.name_table.proofs.Ring.{around, steps_to}
 use Rattle.name_table.proofs.Values.{stands, stands_alike, under_other}
@@ -231,9 +231,9 @@ module _ (table changed : List Content) (counts : bucket_count changed ≡ bucke
 module _ (table : List Content) (some : 1 ≤ bucket_count table) (formed : IsWellFormed table) (tombstone : ℕ) (under : tombstone < bucket_count table)
     (is : bucket_at table tombstone ≡ Tombstone) where
   -- no entry's way leads over a tombstone that is freed
-  unused : (next : TidyAsk) → Frees table tombstone next → (own more : List ℕ) (steps fewer : ℕ) → steps < bucket_count table → fewer < steps →
+  unused : (t : Tidying) → Frees table tombstone t → (own more : List ℕ) (steps fewer : ℕ) → steps < bucket_count table → fewer < steps →
       bucket_at table (probed own (bucket_count table) steps) ≡ Entry own more → probed own (bucket_count table) fewer ≡ tombstone → ⊥
-  unused next f own more steps fewer few before e at = elim (cases_lt (steps - fewer) f.steps) [
+  unused t f own more steps fewer few before e at = elim (cases_lt (steps - fewer) f.steps) [
     | inl early ↦
         let kept : Stays n tombstone (probed own n steps) (Entry own more) =
         subst (Stays n tombstone (probed own n steps)) e
@@ -275,11 +275,11 @@ module _ (table : List Content) (some : 1 ≤ bucket_count table) (formed : IsWe
   fits : bucket_count table + tombstone < length table
   fits = omega arith
 
-  free_keeps : (next : TidyAsk) → Frees table tombstone next → KeepsNames table next
-  free_keeps next f = subst (KeepsNames table) (sym f.asks) (record {
-    well_formed = table_formed table after counts (freed_formed (bucket_at table) (buckets_of after (bucket_count table)) (bucket_count table) formed tombstone is change (unused next f));
+  free_keeps : (t : Tidying) → Frees table tombstone t → KeepsNames table t.next
+  free_keeps t f = subst (KeepsNames table) (sym f.asks) (record {
+    well_formed = table_formed table after counts (freed_formed (bucket_at table) (buckets_of after (bucket_count table)) (bucket_count table) formed tombstone is change (unused t f));
     same = λ name. table_names table after counts name
-        (freed_names (bucket_at table) (buckets_of after (bucket_count table)) (bucket_count table) formed tombstone is change (unused next f) name);
+        (freed_names (bucket_at table) (buckets_of after (bucket_count table)) (bucket_count table) formed tombstone is change (unused t f) name);
     elsewhere = λ number apart. get_or-set_other table (bucket_count table + tombstone) number None None apart;
     fewer = omega (arith, table_tombstones table after counts, one, total);
   })
@@ -357,18 +357,18 @@ nothing_keeps : (table : List Content) → IsWellFormed table → (from : ℕ) (
 nothing_keeps table formed from next e =
     subst (KeepsNames table) (sym e) (record { well_formed = formed; same = λ name. refl; elsewhere = λ number apart. refl; fewer = omega arith })
 
-keeps : (table : List Content) (from : ℕ) → 1 ≤ bucket_count table → IsWellFormed table → (next : TidyAsk) → TidyEnds table from next → KeepsNames table next
-keeps table from some formed next (finds_none none e) = nothing_keeps table formed _ next e
-keeps table from some formed next (meets_one steps few none is behind) = by behind
+keeps : (table : List Content) (from : ℕ) → 1 ≤ bucket_count table → IsWellFormed table → (t : Tidying) → TidyEnds table from t → KeepsNames table t.next
+keeps table from some formed t (finds_none none e) = nothing_keeps table formed _ t.next e
+keeps table from some formed t (meets_one steps few none is behind) = by behind
   where
     under : up from steps (bucket_count table) < bucket_count table
     under = mod-lt _ some
 
-    by : Behind table (up from steps (bucket_count table)) next → KeepsNames table next
-    by (frees f) = free_keeps table some formed (up from steps (bucket_count table)) under is next f
+    by : Behind table (up from steps (bucket_count table)) t → KeepsNames table t.next
+    by (frees f) = free_keeps table some formed (up from steps (bucket_count table)) under is t f
     by (moves m) = subst (KeepsNames table) (sym m.asks)
         (move_keeps table some formed (up from steps (bucket_count table)) under is _ (mod-lt _ some) m.name m.more m.octets m.is m.has m.over)
-    by (halts s) = nothing_keeps table formed _ next s.asks
+    by (halts s) = nothing_keeps table formed _ t.next s.asks
 
 pub tidies_keep_names : TidiesKeepNames
 tidies_keep_names table from some formed = keeps table _ some formed _ (tidies_are_told table from some).ends

@@ -3,8 +3,8 @@ use Rattle.name_table.proofs.Names.{◌≡◌, ℕ, zero, suc, ◌+◌, ◌<◌,
 use Rattle.std.proofs.Math.Nat.{min-le_left}
 use Rattle.name_table.specs.declared.tidying.TidyAsk.{TidyAsk}
 use Rattle.name_table.specs.declared.tidying.TidyAsk.TheVariants as asks
-use Rattle.name_table.specs.Tidying.{Tidying, up, looks, leads_over, look_on, read_on, octets_in, after_looked, after_behind, asking, tidy_told_of, tidy_told_times, most_reads, AsksRead}
-use Rattle.name_table.specs.Tidies.{bucket_up, HasNoTombstone, Stays, AllStay, Behind, frees, moves, halts, TidyEnds, finds_none, meets_one, tidied, TidiesAreTold}
+use Rattle.name_table.specs.Tidying.{Tidying, tidy_over, up, looks, tidy_ask, tidy_changed, leads_over, look_on, read_on, octets_in, after_looked, after_behind, asking, tidy_told_of, tidy_told_times, most_reads, AsksRead}
+use Rattle.name_table.specs.Tidies.{bucket_up, HasNoTombstone, Stays, AllStay, HasDone, Behind, frees, moves, halts, TidyEnds, finds_none, meets_one, TidiesAreTold}
 
 -- a tidy that asks for no read is told no more
 untold : (table : List Content) (next : TidyAsk) (t : Tidying) → (AsksRead next → ⊥) → tidy_told_of table next t ≡ t
@@ -22,13 +22,18 @@ abbrev at_step : List Content → ℕ → ℕ → Bool → TidyAsk → Tidying
 at_step table from steps behind next = record { buckets = bucket_count table; from = from; steps = steps; behind = behind; next = next }
 
 -- what it comes to
-abbrev outcome : List Content → ℕ → Tidying → TidyAsk
-outcome table times t = (tidy_told_times table times t).next
+abbrev outcome : List Content → ℕ → Tidying → Tidying
+outcome table times t = tidy_told_times table times t
 
 settled_outcome : (table : List Content) (times from steps : ℕ) (behind : Bool) (next : TidyAsk) → (AsksRead next → ⊥) →
-    outcome table times (at_step table from steps behind next) ≡ next
+    (outcome table times (at_step table from steps behind next)).next ≡ next
 settled_outcome table times from steps behind next settled =
     ap (λ (t : Tidying). t.next) (stays table times (at_step table from steps behind next) settled)
+
+settled_done : (table : List Content) (times tombstone steps : ℕ) (next : TidyAsk) → (AsksRead next → ⊥) →
+    HasDone table tombstone (outcome table times (at_step table tombstone steps true next))
+settled_done table times tombstone steps next settled =
+    ap (λ (t : Tidying). tidy_ask (tidy_changed t)) (stays table times (at_step table tombstone steps true next) settled)
 
 has_octets : (value : Content) (name more : List ℕ) → bucket_of value ≡ Entry name more → value ≡ Some (octets_in value)
 has_octets None name more e = absurd cc
@@ -63,6 +68,7 @@ module _ (table : List Content) (tombstone : ℕ) where
         stay = stay;
         ends = inl (omega arith);
         asks = settled_outcome table times tombstone steps true (asks.Free (bucket_count table + tombstone)) (λ h. h);
+        done = settled_done table times tombstone steps (asks.Free (bucket_count table + tombstone)) (λ h. h);
       })
 
   -- one more value
@@ -94,6 +100,7 @@ module _ (table : List Content) (tombstone : ℕ) where
       has = has_octets (value_up steps) name more is;
       over = over;
       asks = settled_outcome table times tombstone steps true _ (λ h. h);
+      done = settled_done table times tombstone steps _ (λ h. h);
     })
     at_entry name more is false over =
         goes_on (subst (Stays (bucket_count table) tombstone (up tombstone steps (bucket_count table))) (sym is) over)
@@ -106,6 +113,7 @@ module _ (table : List Content) (tombstone : ℕ) where
       stay = stay;
       ends = inr (few, is);
       asks = settled_outcome table times tombstone steps true _ (λ h. h);
+      done = settled_done table times tombstone steps _ (λ h. h);
     })
     at_bucket Tombstone is = goes_on (subst (Stays (bucket_count table) tombstone (up tombstone steps (bucket_count table))) (sym is) tt)
     at_bucket (Entry name more) is =
@@ -172,14 +180,14 @@ module _ (table : List Content) (from : ℕ) (some : 1 ≤ bucket_count table) w
   runs (suc times) steps few sum none =
       look_at times steps few (omega arith) none (λ still less. runs times (steps + 1) less (omega arith) still) (bucket_up table from steps) refl
 
-behind_settled : (table : List Content) (tombstone : ℕ) (next : TidyAsk) → Behind table tombstone next → AsksRead next → ⊥
-behind_settled table tombstone next (frees f) h = subst AsksRead f.asks h
-behind_settled table tombstone next (moves m) h = subst AsksRead m.asks h
-behind_settled table tombstone next (halts s) h = subst AsksRead s.asks h
+behind_settled : (table : List Content) (tombstone : ℕ) (t : Tidying) → Behind table tombstone t → AsksRead t.next → ⊥
+behind_settled table tombstone t (frees f) h = subst AsksRead f.asks h
+behind_settled table tombstone t (moves m) h = subst AsksRead m.asks h
+behind_settled table tombstone t (halts s) h = subst AsksRead s.asks h
 
-settled : (table : List Content) (from : ℕ) (next : TidyAsk) → TidyEnds table from next → AsksRead next → ⊥
-settled table from next (finds_none none e) h = subst AsksRead e h
-settled table from next (meets_one steps few none is way) h = behind_settled table _ next way h
+settled : (table : List Content) (from : ℕ) (t : Tidying) → TidyEnds table from t → AsksRead t.next → ⊥
+settled table from t (finds_none none e) h = subst AsksRead e h
+settled table from t (meets_one steps few none is way) h = behind_settled table _ t way h
 
 pub tidies_are_told : TidiesAreTold
 tidies_are_told table from some = record { ends = ends; no_more = settled table _ _ ends }
@@ -190,5 +198,5 @@ tidies_are_told table from some = record { ends = ends; no_more = settled table 
     least : 0 < looks (bucket_count table)
     least = omega (arith, some)
 
-    ends : TidyEnds table (from % bucket_count table) (tidied table from)
+    ends : TidyEnds table (from % bucket_count table) (tidy_over table from)
     ends = runs table (from % bucket_count table) some (most_reads (bucket_count table)) 0 least (omega (arith, most)) (λ fewer less. absurd (omega arith))

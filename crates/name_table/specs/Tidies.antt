@@ -6,7 +6,7 @@ use Rattle.name_table.specs.declared.tidying.TidyAsk.{TidyAsk}
 use Rattle.name_table.specs.declared.tidying.TidyAsk.TheVariants as asks
 use Rattle.record_model.specs.State.{Content, content_at}
 use Rattle.record_model.specs.Names.{bucket_count, bucket_at, names, IsWellFormed}
-use Rattle.name_table.specs.Tidying.{up, leads_over, looks, tidy_over, tidy_ask, with_change, AsksRead}
+use Rattle.name_table.specs.Tidying.{Tidying, tidy_changed, up, leads_over, looks, tidy_over, tidy_ask, with_change, AsksRead}
 
 -- the bucket so many steps up from a place
 abbrev pub bucket_up : List Content → ℕ → ℕ → Bucket
@@ -28,17 +28,22 @@ abbrev pub AllStay : List Content → ℕ → ℕ → Type 0
 AllStay table tombstone steps = (fewer : ℕ) → 1 ≤ fewer → fewer < steps →
     Stays (bucket_count table) tombstone (up tombstone fewer (bucket_count table)) (bucket_up table tombstone fewer)
 
+-- When the change was made, the next tidy looks from the bucket behind the tombstone.
+abbrev pub HasDone : List Content → ℕ → Tidying → Type 0
+HasDone table tombstone t = tidy_ask (tidy_changed t) ≡ asks.End true (up tombstone 1 (bucket_count table))
+
 -- It is freed: up to the next free bucket, or all around, there is no entry whose way leads over it.
-pub record Frees (table : List Content) (tombstone : ℕ) (next : TidyAsk) : Type 0 where
+pub record Frees (table : List Content) (tombstone : ℕ) (t : Tidying) : Type 0 where
   pub steps : ℕ
   pub some : 1 ≤ steps
   pub stay : AllStay table tombstone steps
   pub ends : (steps ≡ bucket_count table)
       ⊎ ((steps < bucket_count table) × (bucket_up table tombstone steps ≡ Free))
-  pub asks : next ≡ asks.Free (bucket_count table + tombstone)
+  pub asks : tidy_ask t ≡ asks.Free (bucket_count table + tombstone)
+  pub done : HasDone table tombstone t
 
 -- The first such entry moves into it.
-pub record Moves (table : List Content) (tombstone : ℕ) (next : TidyAsk) : Type 0 where
+pub record Moves (table : List Content) (tombstone : ℕ) (t : Tidying) : Type 0 where
   pub steps : ℕ
   pub some : 1 ≤ steps
   pub few : steps < bucket_count table
@@ -49,38 +54,36 @@ pub record Moves (table : List Content) (tombstone : ℕ) (next : TidyAsk) : Typ
   pub is : bucket_up table tombstone steps ≡ Entry name more
   pub has : content_at table (bucket_count table + up tombstone steps (bucket_count table)) ≡ Some octets
   pub over : leads_over name (bucket_count table) tombstone (up tombstone steps (bucket_count table)) ≡ true
-  pub asks : next ≡ asks.Move (bucket_count table + up tombstone steps (bucket_count table))
+  pub asks : tidy_ask t ≡ asks.Move (bucket_count table + up tombstone steps (bucket_count table))
       (bucket_count table + tombstone) octets
+  pub done : HasDone table tombstone t
 
 -- Nothing is changed: there is a bucket of another form before.
-pub record Halts (table : List Content) (tombstone : ℕ) (next : TidyAsk) : Type 0 where
+pub record Halts (table : List Content) (tombstone : ℕ) (t : Tidying) : Type 0 where
   pub steps : ℕ
   pub some : 1 ≤ steps
   pub few : steps < bucket_count table
   pub stay : AllStay table tombstone steps
   pub is : bucket_up table tombstone steps ≡ Strange
-  pub asks : next ≡ asks.End false (up tombstone 1 (bucket_count table))
+  pub asks : tidy_ask t ≡ asks.End false (up tombstone 1 (bucket_count table))
 
-pub data Behind (table : List Content) (tombstone : ℕ) (next : TidyAsk) : Type 0 where
-  frees : Frees table tombstone next → Behind table tombstone next
-  moves : Moves table tombstone next → Behind table tombstone next
-  halts : Halts table tombstone next → Behind table tombstone next
+pub data Behind (table : List Content) (tombstone : ℕ) (t : Tidying) : Type 0 where
+  frees : Frees table tombstone t → Behind table tombstone t
+  moves : Moves table tombstone t → Behind table tombstone t
+  halts : Halts table tombstone t → Behind table tombstone t
 
 -- what a tidy comes to that looks from this place: no tombstone among so many buckets, or the first of them
-pub data TidyEnds (table : List Content) (from : ℕ) (next : TidyAsk) : Type 0 where
+pub data TidyEnds (table : List Content) (from : ℕ) (t : Tidying) : Type 0 where
   finds_none : HasNoTombstone table from (looks (bucket_count table)) →
-      next ≡ asks.End false (up from (looks (bucket_count table)) (bucket_count table)) → TidyEnds table from next
+      tidy_ask t ≡ asks.End false (up from (looks (bucket_count table)) (bucket_count table)) → TidyEnds table from t
   meets_one : (steps : ℕ) → steps < looks (bucket_count table) → HasNoTombstone table from steps →
-      bucket_up table from steps ≡ Tombstone → Behind table (up from steps (bucket_count table)) next →
-      TidyEnds table from next
+      bucket_up table from steps ≡ Tombstone → Behind table (up from steps (bucket_count table)) t →
+      TidyEnds table from t
 
 -- Over any table it comes to that, and reads no more then.
-abbrev pub tidied : List Content → ℕ → TidyAsk
-tidied table from = tidy_ask (tidy_over table from)
-
 pub record TidyIsTold (table : List Content) (from : ℕ) : Type 0 where
-  pub ends : TidyEnds table (from % bucket_count table) (tidied table from)
-  pub no_more : ¬ AsksRead (tidied table from)
+  pub ends : TidyEnds table (from % bucket_count table) (tidy_over table from)
+  pub no_more : ¬ AsksRead (tidy_ask (tidy_over table from))
 
 abbrev pub TidiesAreTold : Type 0
 TidiesAreTold = (table : List Content) (from : ℕ) → 1 ≤ bucket_count table → TidyIsTold table from
@@ -123,4 +126,4 @@ pub record KeepsNames (table : List Content) (next : TidyAsk) : Type 0 where
 
 abbrev pub TidiesKeepNames : Type 0
 TidiesKeepNames = (table : List Content) (from : ℕ) → 1 ≤ bucket_count table → IsWellFormed table →
-    KeepsNames table (tidied table from)
+    KeepsNames table (tidy_ask (tidy_over table from))
