@@ -3,3 +3,4 @@ pub mod Laws
 pub mod Rows
 pub mod Tidying
 pub mod Tidies
+pub mod TidyRows

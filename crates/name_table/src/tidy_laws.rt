@@ -1,5 +1,8 @@
 // Facts about tidies. The functions do nothing: each states its law as a clause.
 ghost use Rattle.name_table.specs.Tidies.{TidiesAreTold, TidiesKeepNames};
+ghost use Rattle.name_table.specs.TidyRows.{
+    AroundTheEnd, AtHome, EndOfARun, FullTable, MovingBack, NothingToDo, StrangeBuckets,
+};
 
 /// Over any table a tidy comes to the first tombstone, of 64 buckets at most, and frees it, or moves into it the first
 /// entry behind it, before the next free bucket, whose way from home leads over it. It reads 63 values at most more than
@@ -12,4 +15,15 @@ pub fn tidies_are_told()
 /// and one tombstone fewer where it freed one.
 pub fn tidies_keep_names()
     ensures { TidiesKeepNames }
+{}
+
+/// Tidies that were worked out by hand.
+pub fn rows_of_tidies()
+    ensures end_of_a_run { EndOfARun }
+    ensures moving_back { MovingBack }
+    ensures around_the_end { AroundTheEnd }
+    ensures at_home { AtHome }
+    ensures full_table { FullTable }
+    ensures nothing_to_do { NothingToDo }
+    ensures strange_buckets { StrangeBuckets }
 {}
