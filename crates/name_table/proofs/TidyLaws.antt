@@ -338,9 +338,14 @@ module _ (table : List Content) (some : 1 ≤ bucket_count table) (formed : IsWe
     as_many =
         let one : one_tombstone (bucket_at table tombstone) ≡ 1 = ap one_tombstone is in
         let none : one_tombstone (buckets_of half (bucket_count table) place) ≡ 0 = ap one_tombstone (first.elsewhere place differ ∙ own) in
-        omega (arith, table_tombstones table after counts, one, none,
-        count_changed (bucket_at table) (buckets_of half (bucket_count table)) (bucket_count table) tombstone (Entry name more) first under,
-        count_changed (buckets_of half (bucket_count table)) (buckets_of after (bucket_count table)) (bucket_count table) place Tombstone second low)
+        omega (
+          arith,
+          table_tombstones table after counts,
+          one,
+          none,
+          count_changed (bucket_at table) (buckets_of half (bucket_count table)) (bucket_count table) tombstone (Entry name more) first under,
+          count_changed (buckets_of half (bucket_count table)) (buckets_of after (bucket_count table)) (bucket_count table) place Tombstone second low,
+        )
 
     move_keeps : KeepsNames table (asks.Move (bucket_count table + place) (bucket_count table + tombstone) octets)
     move_keeps = record {

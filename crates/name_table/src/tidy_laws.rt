@@ -1,7 +1,13 @@
 // Facts about tidies. The functions do nothing: each states its law as a clause.
 ghost use Rattle.name_table.specs.Tidies.{TidiesAreTold, TidiesKeepNames};
 ghost use Rattle.name_table.specs.TidyRows.{
-    AroundTheEnd, AtHome, EndOfARun, FullTable, MovingBack, NothingToDo, StrangeBuckets,
+  AroundTheEnd,
+  AtHome,
+  EndOfARun,
+  FullTable,
+  MovingBack,
+  NothingToDo,
+  StrangeBuckets,
 };
 
 /// Over any table a tidy comes to the first tombstone, of 64 buckets at most, and frees it, or moves into it the first

@@ -1,8 +1,27 @@
 // The tidy, which keeps probes short where names come and go.
 ghost use Rattle.std.specs.Prelude.{◌≡◌, ◌<◌, ◌≤◌, ◌^◌};
 ghost use Rattle.name_table.specs.Tidying.{
-    after_behind, after_entry, after_looked, asking, leads_over, look_on, looked_on, met_tombstone, octets_in, passed_behind, read_on, tidy_ask, tidy_begun, tidy_changed, tidy_told,
-    up, way, AsksChange, AsksRead, IsTidying, IsWalk,
+  after_behind,
+  after_entry,
+  after_looked,
+  asking,
+  leads_over,
+  look_on,
+  looked_on,
+  met_tombstone,
+  octets_in,
+  passed_behind,
+  read_on,
+  tidy_ask,
+  tidy_begun,
+  tidy_changed,
+  tidy_told,
+  up,
+  way,
+  AsksChange,
+  AsksRead,
+  IsTidying,
+  IsWalk,
 };
 ghost use Rattle.name_table.specs.declared.tidying.TidyAsk.TheVariants as asks;
 
@@ -21,11 +40,18 @@ pub enum TidyAsk {
     Read(u32),
     /// That this value, of the entry in the record `entry`, is written to the record `tombstone`, and then the empty
     /// value to `entry`.
-    Move { entry: u32, tombstone: u32, octets: Octets },
+    Move {
+        entry: u32,
+        tombstone: u32,
+        octets: Octets,
+    },
     /// That the record of this number is erased.
     Free(u32),
     /// Nothing: whether it changed something, and the bucket from which the next tidy looks.
-    End { changed: bool, from: u32 },
+    End {
+        changed: bool,
+        from: u32,
+    },
 }
 
 // Among how many buckets, the place from which steps are counted, how many are behind, and whether that place has the
@@ -164,7 +190,11 @@ impl Tidying {
     {
         match &self.next {
             TidyAsk::Read(number) => TidyAsk::Read(*number),
-            TidyAsk::Move { entry, tombstone, octets } => TidyAsk::Move {
+            TidyAsk::Move {
+                entry,
+                tombstone,
+                octets,
+            } => TidyAsk::Move {
                 entry: *entry,
                 tombstone: *tombstone,
                 octets: copied(octets),
