@@ -1,14 +1,7 @@
 // Facts about tidies. The functions do nothing: each states its law as a clause.
 ghost use Rattle.name_table.specs.Tidies.{TidiesAreTold, TidiesKeepNames};
-ghost use Rattle.name_table.specs.TidyRows.{
-  AroundTheEnd,
-  AtHome,
-  EndOfARun,
-  FullTable,
-  MovingBack,
-  NothingToDo,
-  StrangeBuckets,
-};
+ghost use Rattle.name_table.specs.TidyRows.{EndOfARun, MovingBack, AroundTheEnd, AtHome, FullTable, NothingToDo};
+ghost use Rattle.name_table.specs.TidyRows.{StrangeBuckets};
 
 /// Over any table a tidy comes to the first tombstone, of 64 buckets at most, and frees it, or moves into it the first
 /// entry behind it, before the next free bucket, whose way from home leads over it. It reads 63 values at most more than

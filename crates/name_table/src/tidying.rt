@@ -1,28 +1,9 @@
 // The tidy, which keeps probes short where names come and go.
 ghost use Rattle.std.specs.Prelude.{◌≡◌, ◌<◌, ◌≤◌, ◌^◌};
-ghost use Rattle.name_table.specs.Tidying.{
-  after_behind,
-  after_entry,
-  after_looked,
-  asking,
-  leads_over,
-  look_on,
-  looked_on,
-  met_tombstone,
-  octets_in,
-  passed_behind,
-  read_on,
-  tidy_ask,
-  tidy_begun,
-  tidy_changed,
-  tidy_told,
-  up,
-  way,
-  AsksChange,
-  AsksRead,
-  IsTidying,
-  IsWalk,
-};
+ghost use Rattle.name_table.specs.Tidying.{tidy_ask, tidy_begun, tidy_told, tidy_changed, after_looked, after_behind};
+ghost use Rattle.name_table.specs.Tidying.{after_entry, asking, looked_on, met_tombstone, passed_behind, look_on};
+ghost use Rattle.name_table.specs.Tidying.{read_on, up, way, leads_over, octets_in, AsksRead, AsksChange, IsTidying};
+ghost use Rattle.name_table.specs.Tidying.{IsWalk};
 ghost use Rattle.name_table.specs.declared.tidying.TidyAsk.TheVariants as asks;
 
 use crate::buckets::{bucket_in, copied, home_of};
@@ -244,6 +225,7 @@ impl Tidying {
         Tidying { walk, next }
     }
 
+    // It asks for this.
     fn asking(&self, next: TidyAsk) -> Tidying
         requires { AsksRead next → ⊥ }
         ensures { result ≡ asking self.now next }
@@ -254,6 +236,7 @@ impl Tidying {
         }
     }
 
+    // What a bucket leaves where it looks.
     fn after_looked(&self, bucket: &Bucket) -> Tidying
         requires { AsksRead (tidy_ask self.now) }
         ensures { result ≡ after_looked self.now bucket.now }
@@ -264,6 +247,7 @@ impl Tidying {
         }
     }
 
+    // What an entry behind the tombstone leaves, with the octets of its record.
     fn after_entry(&self, octets: Octets, name: &Octets) -> Tidying
         requires { AsksRead (tidy_ask self.now) }
         ensures { result ≡ after_entry self.now octets name.now }
@@ -280,6 +264,7 @@ impl Tidying {
         self.passing()
     }
 
+    // What a bucket behind the tombstone leaves, with the octets of its record.
     fn after_behind(&self, octets: Octets, bucket: &Bucket) -> Tidying
         requires { AsksRead (tidy_ask self.now) }
         ensures { result ≡ after_behind self.now octets bucket.now }
@@ -292,6 +277,7 @@ impl Tidying {
         }
     }
 
+    // What the value of the record leaves that was asked for.
     fn after(&self, value: Option<Octets>) -> Tidying
         requires { AsksRead (tidy_ask self.now) }
         ensures { result ≡ tidy_told self.now value }
