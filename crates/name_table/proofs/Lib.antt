@@ -6,3 +6,5 @@ pub mod Runs
 pub mod NameLaws
 pub mod FirstLaws
 pub mod MetLaws
+pub mod TidyRuns
+pub mod TidyLaws

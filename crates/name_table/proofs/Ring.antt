@@ -1,7 +1,7 @@
 -- Places on a ring: what is so many steps up from home, from the last place on to the first.
 use Rattle.name_table.proofs.Names.{◌≡◌, ℕ, ◌+◌, ◌<◌, ◌≤◌, inl, inr, sym, ◌∙◌, arith, mod-eq_of_lt, mod-eq-sub-mod, cases_lt, ◌-◌, ◌%◌}
 
-around : (n x : ℕ) → n ≤ x → x < n + n → x % n ≡ x - n
+pub around : (n x : ℕ) → n ≤ x → x < n + n → x % n ≡ x - n
 around n x over below = let rest : x - n < n = omega arith in mod-eq-sub-mod over ∙ mod-eq_of_lt rest
 
 pub same_steps : (n h d e : ℕ) → h < n → d < n → e < n → (h + d) % n ≡ (h + e) % n → d ≡ e

@@ -5,6 +5,8 @@ mod buckets;
 mod laws;
 mod probe;
 mod rows;
+mod tidy_laws;
+mod tidying;
 
 pub use buckets::{NAME_MAX, VALUE_MAX};
 pub use laws::{
@@ -14,3 +16,5 @@ pub use laws::{
 pub use probe::Probe;
 pub use record_model::{Ask, NameAnswer};
 pub use rows::{rows_of_buckets, rows_of_names};
+pub use tidy_laws::{rows_of_tidies, tidies_are_told, tidies_keep_names};
+pub use tidying::{TidyAsk, Tidying};

@@ -72,7 +72,7 @@ fn answered(reached: &NameAnswer) -> NameAnswer
     }
 }
 
-fn no_octets() -> Octets
+pub fn no_octets() -> Octets
     ensures { result ≡ [] }
 {
     match Octets::from_slice(&[]) {

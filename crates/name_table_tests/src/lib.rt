@@ -2,4 +2,8 @@
 #![tactic(auto)]
 
 #[cfg(test)]
+mod table;
+#[cfg(test)]
 mod tests;
+#[cfg(test)]
+mod tidies;

@@ -1,6 +1,7 @@
-use name_table::{Ask, NAME_MAX, NameAnswer, Probe, VALUE_MAX};
+use crate::table::{blank, carry_out, set_value};
+use name_table::{NAME_MAX, NameAnswer, Probe, VALUE_MAX};
 use record_model::Octets;
-use std::alloc::{AllocError, Global};
+use std::alloc::AllocError;
 
 // A line about a name.
 enum Line {
@@ -21,14 +22,6 @@ enum Wanted {
 // The tables have 32 records, so 16 buckets.
 const BUCKETS: u32 = 16;
 
-fn blank(alloc: Global) -> Result<Vec<Option<Octets>>, AllocError> {
-    let mut table = Vec::new(alloc);
-    for _ in 0..2 * BUCKETS {
-        table.push(None)?;
-    }
-    Ok(table)
-}
-
 fn begin(line: &Line) -> Option<Probe> {
     let name = match line {
         Line::Find(name) => *name,
@@ -46,35 +39,6 @@ fn begin(line: &Line) -> Option<Probe> {
     }
 }
 
-fn value_of(table: &[Option<Octets>], number: u32) -> Option<Octets> {
-    match table.get(number as usize) {
-        Some(Some(octets)) => Octets::from_slice(octets.as_slice()),
-        _ => None,
-    }
-}
-
-fn put_value(table: &mut [Option<Octets>], number: u32, value: Octets) {
-    if let Some(slot) = table.get_mut(number as usize) {
-        *slot = Some(value);
-    }
-}
-
-// The answer to a line, and how often the probe asked for something before it.
-fn play(line: &Line, table: &mut [Option<Octets>]) -> Option<(NameAnswer, u32)> {
-    let mut probe = begin(line)?;
-    for asked in 0..40 {
-        match probe.ask() {
-            Ask::Read(number) => probe.told(value_of(table, number)),
-            Ask::Write(number, value) => {
-                put_value(table, number, value);
-                probe.written();
-            }
-            Ask::End(reached) => return Some((reached, asked)),
-        }
-    }
-    None
-}
-
 fn is_wanted(reached: &NameAnswer, wanted: &Wanted) -> bool {
     match (reached, wanted) {
         (NameAnswer::Found(value), Wanted::Found(octets)) => value.as_slice() == *octets,
@@ -88,7 +52,10 @@ fn is_wanted(reached: &NameAnswer, wanted: &Wanted) -> bool {
 
 // Whether the line is answered so, when the probe has asked so often.
 fn plays(line: &Line, table: &mut [Option<Octets>], wanted: &Wanted, asks: u32) -> bool {
-    match play(line, table) {
+    let Some(probe) = begin(line) else {
+        return false;
+    };
+    match carry_out(probe, table) {
         Some((reached, asked)) => asked == asks && is_wanted(&reached, wanted),
         None => false,
     }
@@ -114,7 +81,7 @@ const ONE_NAME: [(Line, Wanted, u32); 8] = [
 
 #[test]
 fn one_name(rt: HostRuntime) -> Result<(), AllocError> {
-    let mut table = blank(rt.alloc())?;
+    let mut table = blank(2 * BUCKETS, rt.alloc())?;
     for (line, wanted, asks) in &ONE_NAME {
         assert!(rt; plays(line, &mut table, wanted, *asks));
     }
@@ -147,7 +114,7 @@ const SEVENTEEN_NAMES: [(Line, Wanted, u32); 20] = [
 
 #[test]
 fn seventeen_names(rt: HostRuntime) -> Result<(), AllocError> {
-    let mut table = blank(rt.alloc())?;
+    let mut table = blank(2 * BUCKETS, rt.alloc())?;
     for (line, wanted, asks) in &SEVENTEEN_NAMES {
         assert!(rt; plays(line, &mut table, wanted, *asks));
     }
@@ -157,9 +124,9 @@ fn seventeen_names(rt: HostRuntime) -> Result<(), AllocError> {
 // The name's home, in the last record, has an octet that is no bucket's form.
 #[test]
 fn strange_home(rt: HostRuntime) -> Result<(), AllocError> {
-    let mut table = blank(rt.alloc())?;
+    let mut table = blank(2 * BUCKETS, rt.alloc())?;
     if let Some(octets) = Octets::from_slice(&[5]) {
-        put_value(&mut table, 31, octets);
+        set_value(&mut table, 31, Some(octets));
     }
     assert!(rt; plays(&Line::Find(&[0]), &mut table, &Wanted::Strange(31), 1));
     assert!(rt; plays(&Line::Put(&[0], ONE), &mut table, &Wanted::Strange(31), 1));
