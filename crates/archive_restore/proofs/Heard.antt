@@ -1,5 +1,5 @@
 -- A line more is heard.
-use Rattle.std.proofs.Common.{◌≡◌, inl, inr, ℕ, ◌+◌, ◌-◌, ◌^◌, ◌<◌, ◌≤◌, Bool, true, true≢false, List, [], ◌∷◌, ◌++◌, length, take, drop, refl, sym, ◌∙◌, ap, subst, arith, append_assoc, length-append, IsTrue}
+use Rattle.std.proofs.Common.{◌≡◌, inl, inr, ℕ, ◌+◌, ◌-◌, ◌^◌, ◌<◌, ◌≤◌, Bool, true, List, [], ◌∷◌, ◌++◌, length, take, drop, refl, sym, ◌∙◌, ap, subst, arith, append_assoc, length-append, IsTrue}
 use Rattle.std.specs.Prelude.{codes, decimal}
 use Rattle.std.proofs.lemmas.Fmt.{length-decimal-le}
 use Rattle.hex.specs.Hex.{encode_lower, lower_digits}
@@ -20,6 +20,7 @@ use Rattle.front_end.specs.Lines as front
 use Rattle.front_end.specs.Faults.{SameFaults}
 use Rattle.face.proofs.Going.{goes_heard}
 use Rattle.stream_lines.specs.Lines.{HasEnded, Hears, HearsLine, HearsOnly, IsCutOff, IsSource, limit, pending, to_hear, total}
+use Rattle.stream_lines.proofs.Asked.{cut_more}
 use Rattle.stream_lines.specs.declared.source.Fault.{Fault as Taking}
 use Rattle.stream_lines.specs.declared.source.Fault.TheVariants.{Limit}
 use Rattle.stream_lines.specs.declared.source.Heard.{Heard}
@@ -103,12 +104,7 @@ heard_more g lines line s now entry mid new r r' h source ended heard count octe
   all = h.all ∙ ap (λ l. lines ++ l) (ap (lines_of true) heard.all ∙ heard.is_line (to_hear r'.source new) true (λ over. (none_behind r'.source new source ended over, refl)))
       ∙ sym (append_assoc lines (line ∷ []) (lines_of true (to_hear r'.source new)));
   count = count ∙ h.count;
-  consumed = h.consumed ++ heard.octets;
-  parts = h.parts ∙ ap (λ l. h.consumed ++ l) heard.all ∙ sym (append_assoc h.consumed heard.octets (to_hear r'.source new));
-  whole = λ more e over.
-      ap (lines_of e) (append_assoc h.consumed heard.octets more) ∙ h.whole (heard.octets ++ more) e (λ was. absurd (true≢false (sym was ∙ heard.going)))
-      ∙ ap (λ l. lines ++ l) (heard.is_line more e over) ∙ sym (append_assoc lines (line ∷ []) (lines_of e more));
-  heard = octets ∙ h.heard;
+  cut = cut_more lines line r.source r'.source entry mid new h.cut heard octets;
   each =
       let before = length-append (pending r.source) mid.input.left in
       let behind = length-append (pending r'.source) new.input.left in

@@ -7,7 +7,8 @@ use Rattle.site.specs.Moments.{EachMoment, Leaves, LeavesOnly}
 use Rattle.site.proofs.Laws.{goes_nowhere, image_is, rose_since, stays_honest, unchanged}
 use Rattle.site.specs.declared.geometry.Geometry.{Geometry}
 use Rattle.shell_text.specs.Runs.{lines_of}
-use Rattle.stream_lines.specs.Lines.{IsSource, pending, to_hear}
+use Rattle.stream_lines.specs.Lines.{AsksFor, IsSource, pending, to_hear}
+use Rattle.stream_lines.proofs.Asked.{asks_none}
 use Rattle.log_archive.specs.Accepted.{Accepted, Stream, blank_stream}
 use Rattle.front_end.specs.New.{IsFirstOfAll, IsNotBlank}
 use Rattle.front_end.specs.declared.halt.Halt.TheVariants as halt
@@ -18,10 +19,10 @@ use Rattle.archive_restore.specs.declared.fault.Fault.TheVariants as fault
 use Rattle.archive_restore.specs.declared.restoring.Restoring.{Restoring}
 use Rattle.archive_restore.specs.Contract.{RestoreOutcome}
 use Rattle.archive_restore.specs.Progress.{HasHeard, HasWritten, IsUnderWay, StopsRestoring}
-use Rattle.archive_restore.specs.Restores.{EndsBy, IsLeft, StandsAfter, TakesFew}
+use Rattle.archive_restore.specs.Restores.{EndsBy, HasFewCommits, IsLeft, StandsAfter}
 use Rattle.archive_restore.proofs.Carried.{carried_quiet, carried_stands}
 use Rattle.archive_restore.proofs.Starts.{cause_since}
-use Rattle.archive_restore.proofs.Taken.{takes_none}
+use Rattle.archive_restore.proofs.Taken.{asks_since, asks_still}
 
 moments_since : (a b c : Site) (Q : Moment → Type 0) → b.past ≡ a.past → EachMoment b c Q → EachMoment a c Q
 moments_since a b c Q same e = record {
@@ -50,8 +51,8 @@ lines_since a b lines same is = ap (λ (x : Input). lines_of true x.left) (sym s
 
 -- it ends before its last commit
 pub outcome_stopped : {T : Type 0} (count : ℕ) (g : Geometry) (old tested new : Site) (lines behind : List (List ℕ)) (s : Stream) (f : Fault) → IsUnchanged old tested → Preserves old tested → Accepted g.pages lines (blank_stream g.pages) s → lines_of true tested.input.left ≡ lines ++ behind
-    → TakesFew g.pages count tested.input new.input → StopsRestoring g lines behind s count tested new f → RestoreOutcome {T = T} count g old new (Err f)
-outcome_stopped count g old tested new lines behind s f same goes accepted all takes stops = record {
+    → AsksFor (HasFewCommits g.pages count) tested new → StopsRestoring g lines behind s count tested new f → RestoreOutcome {T = T} count g old new (Err f)
+outcome_stopped count g old tested new lines behind s f same goes accepted all asks stops = record {
   lines = lines;
   behind = behind;
   s = s;
@@ -62,7 +63,7 @@ outcome_stopped count g old tested new lines behind s f same goes accepted all t
   fit = stops.fit;
   moments = moments_since old tested new (Leaves (IsLeft g s stops.begun [] old.told)) same.past (subst (λ t. LeavesOnly tested new (IsLeft g s stops.begun [] t)) same.told stops.moments);
   told = stops.told ∙ same.told;
-  takes = subst (λ (x : Input). TakesFew g.pages count x new.input) same.left takes;
+  asks = asks_since (HasFewCommits g.pages count) old tested new same asks;
   near = stops.near;
   stops = (ends_since f g lines behind s stops.begun old tested new same goes stops.ends, stops.between, stops.quiet);
   done = tt;
@@ -70,7 +71,7 @@ outcome_stopped count g old tested new lines behind s f same goes accepted all t
 
 -- so it ends before a line was heard
 pub outcome_never : {T : Type 0} (count : ℕ) (g : Geometry) (old new : Site) (f : Fault) → new.input ≡ old.input → StopsRestoring g [] (lines_of true old.input.left) (blank_stream g.pages) count old new f → RestoreOutcome {T = T} count g old new (Err f)
-outcome_never count g old new f left stops = outcome_stopped count g old old new [] (lines_of true old.input.left) (blank_stream g.pages) f (unchanged old) (goes_nowhere old) refl refl (takes_none g.pages count old.input new.input left) stops
+outcome_never count g old new f left stops = outcome_stopped count g old old new [] (lines_of true old.input.left) (blank_stream g.pages) f (unchanged old) (goes_nowhere old) refl refl (asks_none (HasFewCommits g.pages count) old new left) stops
 
 -- all commits are written
 pub outcome_done : {T : Type 0} (count pool : ℕ) (g : Geometry) (old mid new : Site) (r r' : Restoring) (number : ℕ) (u : IsUnderWay pool count g old mid r number) → HasWritten pool g u.s u.tested new r' → r'.written ≡ count → new.input ≡ mid.input → (x : T) → RestoreOutcome {T = T} count g old new (Ok x)
@@ -88,7 +89,7 @@ outcome_done count pool g old mid new r r' number u h all input x =
       fit = h.fit;
       moments = moments_since old u.tested new (Leaves (IsLeft g u.s r'.written [] old.told)) u.same.past (subst (λ t. LeavesOnly u.tested new (IsLeft g u.s r'.written [] t)) u.same.told h.moments);
       told = h.told ∙ u.same.told;
-      takes = subst (λ (x : Input). TakesFew g.pages count x new.input) u.same.left (subst (λ (x : Input). TakesFew g.pages count u.tested.input x) (sym input) u.takes);
+      asks = asks_since (HasFewCommits g.pages count) old u.tested new u.same (asks_still (HasFewCommits g.pages count) u.tested mid new u.asks input);
       near = λ snapshot left. (r'.written, omega arith, omega arith, subst (λ (x : Image). StandsAfter g u.s r'.written x) (sym (image_is (now_of new) snapshot (carried_quiet pool g u.tested new r'.engine _ _ h.carried) left)) (carried_stands pool g u.tested new r'.engine _ _ h.carried));
       stops = tt;
       done = (all, subst (λ n. StandsAfter g u.s n new.image) all (carried_stands pool g u.tested new r'.engine _ _ h.carried), carried_quiet pool g u.tested new r'.engine _ _ h.carried);
@@ -101,10 +102,13 @@ heard_still g lines s entry mid new r r' h source input = record {
   accepted = h.accepted;
   ended = λ over. ap (λ (x : Input). x.left) input ∙ h.ended (ap (λ x. x.ended) (sym source) ∙ over);
   count = (λ i. (source i).taken + length (input i).left) ∙ h.count;
-  consumed = h.consumed;
-  parts = h.parts ∙ (λ i. h.consumed ++ (pending (sym source i) ++ (sym input i).left));
-  whole = λ more e over. h.whole more e (λ was. over (ap (λ x. x.ended) source ∙ was));
-  heard = ap (λ (x : Input). x.heard + length x.left) input ∙ h.heard;
+  cut = record {
+    short = h.cut.short;
+    consumed = h.cut.consumed;
+    parts = h.cut.parts ∙ (λ i. h.cut.consumed ++ (pending (sym source i) ++ (sym input i).left));
+    whole = λ more e over. h.cut.whole more e (λ was. over (ap (λ x. x.ended) source ∙ was));
+    heard = ap (λ (x : Input). x.heard + length x.left) input ∙ h.cut.heard;
+  };
   each = subst (λ x. length lines + length (pending x) ≤ x.taken) (sym source) h.each;
 }
 

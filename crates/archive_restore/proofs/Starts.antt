@@ -9,6 +9,7 @@ use Rattle.site.specs.Geometry.{HasLengths, HasLimits, blank_image}
 use Rattle.site.specs.declared.outside.Stop.TheVariants.{Device, Foreign, Memory, Worn}
 use Rattle.shell_text.specs.Runs.{lines_of}
 use Rattle.stream_lines.specs.Lines.{pending}
+use Rattle.stream_lines.proofs.Asked.{cut_none}
 use Rattle.front_end.specs.declared.halt.Halt.{Halt}
 use Rattle.front_end.specs.declared.halt.Halt.TheVariants as halt
 use Rattle.face.specs.Causes.{HasCause}
@@ -202,10 +203,7 @@ heard_none g entry now r empty taken going same =
       all = sym (ap (lines_of true) ((λ i. take (none i) (drop r.source.from r.source.buffer) ++ (same i).left)));
       accepted = refl;
       ended = λ over. absurd (true≢false (sym over ∙ going));
-      consumed = [];
-      parts = sym (λ i. take (none i) (drop r.source.from r.source.buffer) ++ (same i).left);
-      whole = λ more e over. refl;
-      heard = ap (λ (x : Input). x.heard + length x.left) same;
+      cut = cut_none r.source entry now empty same;
       count = let left : length now.input.left ≡ length entry.input.left = ap (λ (x : Input). length x.left) same in omega (arith, taken, left);
       each = let long : length (pending r.source) ≡ 0 = (λ i. length (take (none i) (drop r.source.from r.source.buffer))) in omega (arith, long);
     }

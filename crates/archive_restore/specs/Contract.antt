@@ -4,11 +4,12 @@ use Rattle.site.specs.State.{State as Site, MayLeave, Snapshot, now_of, no_loose
 use Rattle.site.specs.declared.geometry.Geometry.{Geometry}
 use Rattle.site.specs.Moments.{LeavesOnly}
 use Rattle.log_archive.specs.Accepted.{Stream}
+use Rattle.stream_lines.specs.Lines.{AsksFor}
 use Rattle.front_end.specs.Tells.{EndsWith}
 use Rattle.archive_restore.specs.declared.fault.Fault.{Fault}
 use Rattle.archive_restore.specs.Texts.{fault_line, fault_status, restored_line}
-use Rattle.archive_restore.specs.Restores.{EndsBy, HaveFit, IsBetween, IsHeard, IsLeft, IsTarget}
-use Rattle.archive_restore.specs.Restores.{StandsAfter, StandsNear, TakesFew}
+use Rattle.archive_restore.specs.Restores.{EndsBy, HasSealed, HaveFit, IsBetween, IsHeard, IsLeft, IsTarget}
+use Rattle.archive_restore.specs.Restores.{HasFewCommits, StandsAfter, StandsNear}
 
 -- What comes of a restore over a target before its last line.
 pub record RestoreOutcome {T : Type 0} (count : ℕ) (g : Geometry) (old new : Site) (result : Result T Fault)
@@ -25,8 +26,8 @@ pub record RestoreOutcome {T : Type 0} (count : ℕ) (g : Geometry) (old new : S
   pub fit : HaveFit g s begun
   pub moments : LeavesOnly old new (IsLeft g s begun [] old.told)
   pub told : new.told ≡ old.told
-  -- no input is taken behind the last commit
-  pub takes : TakesFew g.pages count old.input new.input
+  -- input is asked for only where the lines that were heard whole are accepted and have fewer commits
+  pub asks : AsksFor (HasFewCommits g.pages count) old new
   pub near : (snapshot : Snapshot) → MayLeave (now_of new) snapshot → StandsNear g s begun snapshot.image
   pub stops : IfErr result (λ f. EndsBy f g lines behind s begun old new
       × (IsBetween f → (begun < count) × StandsAfter g s begun new.image)
@@ -36,9 +37,9 @@ pub record RestoreOutcome {T : Type 0} (count : ℕ) (g : Geometry) (old new : S
 -- a status, the line that is told with it, and why it comes
 abbrev pub EndsSo : ℕ → List ℕ → ℕ → Geometry → List (List ℕ) → List (List ℕ) → Stream → ℕ → Site → Site → Type 0
 EndsSo status line count g lines behind s begun old new =
-    ((status ≡ 0) ⊎ (status ≡ 6)) × (line ≡ restored_line count) × (begun ≡ count) × StandsAfter g s count new.image
+    ((status ≡ 0) ⊎ (status ≡ 6)) × (line ≡ restored_line count) × (begun ≡ count) × HasSealed g s count old new
     ⊎ ((f : Fault) × (status ≡ fault_status f) × (line ≡ fault_line f) × EndsBy f g lines behind s begun old new
-    × (IsBetween f → (begun < count) × StandsAfter g s begun new.image))
+    × (IsBetween f → (begun < count) × HasSealed g s begun old new))
 
 -- What comes of a restore over a target.
 pub record RestoreHeadline (count : ℕ) (g : Geometry) (old new : Site) (status : ℕ) : Type 0 where
@@ -57,8 +58,8 @@ pub record RestoreHeadline (count : ℕ) (g : Geometry) (old new : Site) (status
   -- a crash at any moment leaves the table after some of the commits
   pub moments : LeavesOnly old new (IsLeft g s begun line old.told)
   pub quiet : status ≢ 3 → new.loose ≡ no_loose
-  -- no input is taken behind the last commit
-  pub takes : TakesFew g.pages count old.input new.input
+  -- input is asked for only where the lines that were heard whole are accepted and have fewer commits
+  pub asks : AsksFor (HasFewCommits g.pages count) old new
 
 -- What `restore` does up to this commit.
 pub record RestoreContract (count : ℕ) (old new : Site) (status : ℕ) : Type 0 where

@@ -1,5 +1,5 @@
 -- A restore under way.
-use Rattle.std.specs.Prelude.{◌≡◌, ◌≢◌, Bool, ℕ, ◌+◌, ◌-◌, ◌*◌, ◌≤◌, ◌<◌, List, [], ◌∷◌, ◌++◌, length, take, true}
+use Rattle.std.specs.Prelude.{◌≡◌, ◌≢◌, ℕ, ◌+◌, ◌-◌, ◌*◌, ◌≤◌, ◌<◌, List, [], ◌∷◌, ◌++◌, length, take, true}
 use Rattle.site.specs.State.{State as Site, Snapshot, MayLeave, now_of, no_loose}
 use Rattle.site.specs.declared.geometry.Geometry.{Geometry}
 use Rattle.site.specs.Calls.{IsUnchanged, Preserves}
@@ -9,10 +9,10 @@ use Rattle.record_model.specs.State.{Write}
 use Rattle.log_archive.specs.Accepted.{Accepted, Stream, archive_table, blank_stream}
 use Rattle.log_replay.specs.Stands.{StandsFor}
 use Rattle.net_lines.specs.Nets.{AreLengths, idle, while_writing}
-use Rattle.stream_lines.specs.Lines.{HasEnded, IsSource, pending, to_hear, total}
+use Rattle.stream_lines.specs.Lines.{AsksFor, HasCut, HasEnded, IsSource, pending, to_hear, total}
 use Rattle.face.specs.Image.{blank_table}
 use Rattle.face.specs.RunInProgress.{GoesOn}
-use Rattle.archive_restore.specs.Restores.{EndsBy, HaveFit, IsBetween, IsLeft, StandsAfter, StandsNear, TakesFew}
+use Rattle.archive_restore.specs.Restores.{EndsBy, HasFewCommits, HaveFit, IsBetween, IsLeft, StandsAfter, StandsNear}
 use Rattle.archive_restore.specs.Restores.{lines_of_nets}
 use Rattle.archive_restore.specs.Writing.{HasCarried, blank_state}
 use Rattle.archive_restore.specs.Texts.{fault_status}
@@ -63,12 +63,7 @@ pub record HasHeard (g : Geometry) (lines : List (List ℕ)) (s : Stream) (entry
   pub accepted : Accepted g.pages lines (blank_stream g.pages) s
   pub ended : HasEnded r.source now
   pub count : total r.source now ≡ length entry.input.left
-  -- they stand in these octets, whatever comes behind them
-  pub consumed : List ℕ
-  pub parts : entry.input.left ≡ consumed ++ to_hear r.source now
-  pub whole : (more : List ℕ) (e : Bool) → (r.source.ended ≡ true → (more ≡ []) × (e ≡ true))
-      → lines_of e (consumed ++ more) ≡ lines ++ lines_of e more
-  pub heard : now.input.heard + length now.input.left ≡ entry.input.heard + length entry.input.left
+  pub cut : HasCut lines r.source entry now
   -- each of them has an octet at least
   pub each : length lines + length (pending r.source) ≤ r.source.taken
 
@@ -97,4 +92,4 @@ pub record IsUnderWay (pool count : ℕ) (g : Geometry) (old now : Site) (r : Re
   pub written : HasWritten pool g s tested now r
   pub heard : HasHeard g lines s tested now r
   pub long : length lines ≡ number
-  pub takes : TakesFew g.pages count tested.input now.input
+  pub asks : AsksFor (HasFewCommits g.pages count) tested now

@@ -8,7 +8,7 @@ ghost use Rattle.site.specs.declared.geometry.Geometry.{Geometry};
 ghost use Rattle.site.specs.Geometry.{HasLimits, HasLengths};
 ghost use Rattle.shell_text.specs.Runs.{lines_of};
 ghost use Rattle.log_archive.specs.Accepted.{Stream, blank_stream};
-ghost use Rattle.stream_lines.specs.Lines.{IsSource};
+ghost use Rattle.stream_lines.specs.Lines.{AsksFor, IsSource};
 ghost use Rattle.front_end.specs.Faults.{SameFaults};
 ghost use Rattle.front_end.specs.New.{IsBlank, IsNotBlank};
 ghost use Rattle.site.specs.declared.outside.Stop.{Stop};
@@ -17,7 +17,7 @@ ghost use Rattle.archive_restore.specs.declared.fault.Fault.{Fault};
 ghost use Rattle.engine.specs.Leaves.{HasNoSizes};
 ghost use Rattle.archive_restore.specs.Faults.{RestoreFaults};
 ghost use Rattle.archive_restore.specs.Refusing.{IsWritten, RefusesSizes, RefusesWritten};
-ghost use Rattle.archive_restore.specs.Restores.{IsTarget, TakesFew};
+ghost use Rattle.archive_restore.specs.Restores.{HasFewCommits, IsTarget};
 ghost use Rattle.archive_restore.specs.Progress.{GoesOnRestoring, HasHeard, HasWritten, IsPopped, StopsRestoring};
 
 use crate::beginning::begin;
@@ -218,11 +218,11 @@ impl Restoring {
             → self.old.written < count → number ≡ length lines + 1
             → IfErr result (λ fault. (behind : List (List ℕ)) × (lines_of true entry.input.left ≡ lines ++ behind)
             × StopsRestoring g lines behind s count entry (S.state site.new) fault) }
-        ensures takes { (pool : ℕ) (g : Geometry) (s : Stream) (entry : Site) (lines : List (List ℕ)) (count : ℕ)
+        ensures asks { (pool : ℕ) (g : Geometry) (s : Stream) (entry : Site) (lines : List (List ℕ)) (count : ℕ)
             → HasWritten pool g s entry (S.state site.old) self.old
             → HasHeard g lines s entry (S.state site.old) self.old → self.old.written ≡ length s.nets
-            → self.old.written < count → TakesFew g.pages count entry.input (S.state site.old).input
-            → TakesFew g.pages count entry.input (S.state site.new).input }
+            → self.old.written < count → AsksFor (HasFewCommits g.pages count) entry (S.state site.old)
+            → AsksFor (HasFewCommits g.pages count) entry (S.state site.new) }
         ensures written { self.new.written ≡ self.old.written }
         ensures faults { RestoreFaults result (S.state site.old) (S.state site.new) }
         ensures preserves { Preserves (S.state site.old) (S.state site.new) }

@@ -1,13 +1,13 @@
 use Rattle.std.proofs.Common.{◌+◌, ◌++◌, ◌∷◌, [], length-append, refl, sym, ◌∙◌, ap, subst, true, arith}
 use Rattle.site.specs.declared.geometry.Geometry.{Geometry}
 use Rattle.site.specs.Faults.{Faults}
-use Rattle.site.specs.State.{Input}
 use Rattle.site.proofs.Laws.{goes_in_sequence}
 use Rattle.shell_text.specs.Runs.{lines_of}
-use Rattle.stream_lines.specs.Lines.{to_hear}
+use Rattle.stream_lines.specs.Lines.{AsksFor, to_hear}
+use Rattle.stream_lines.proofs.Asked.{asks_none}
 use Rattle.archive_restore.specs.Progress.{GoesOnRestoring, HasHeard, HasWritten, IsUnderWay}
-use Rattle.archive_restore.specs.Restores.{IsTarget, TakesFew}
-use Rattle.archive_restore.proofs.Taken.{takes_none}
+use Rattle.archive_restore.specs.Restores.{HasFewCommits, IsTarget}
+use Rattle.archive_restore.proofs.Taken.{asks_still}
 use Rattle.archive_restore.proofs.Heard.{honest_of}
 use Rattle.archive_restore.proofs.Outcomes.{heard_still, outcome_done, outcome_never, outcome_stopped, too_many}
 use Rattle.archive_restore.proofs.restored.restore_commits.Given.{Over}
@@ -23,7 +23,7 @@ loop-line-init g c = record {
   going = (c.in-Ok.ensures.going.0, c.in-Ok.ensures.going.3);
   progress = λ geometry t.
       let b = c.in-Ok.ensures.begins geometry t in
-      record { tested = b.0; same = b.1; kept = b.2; lines = []; s = _; goes = b.3; written = b.4; heard = b.5; long = refl; takes = takes_none geometry.pages c.args.count _ _ (c.start.ensures.left t.honest ∙ sym b.1.left) };
+      record { tested = b.0; same = b.1; kept = b.2; lines = []; s = _; goes = b.3; written = b.4; heard = b.5; long = refl; asks = asks_none (HasFewCommits geometry.pages c.args.count) _ _ (c.start.ensures.left t.honest ∙ sym b.1.left) };
 }
 
 pub returns-in-Err-clause-restores : goal.returns-in-Err-clause-restores
@@ -49,7 +49,7 @@ returns-in-Err-write_waiting-clause-restores g c geometry t =
     let u = c.loop-line.invariant.progress geometry t in
     let behind = lines_of true (to_hear c.loop-line.restoring.source (g.S.Site.state c.loop-line.site)) in
     outcome_stopped c.args.count geometry (g.S.Site.state c.args.site.now) u.tested (g.S.Site.state c.write_waiting.new.site) u.lines behind u.s c.in-Err-write_waiting.fault u.same u.kept u.heard.accepted u.heard.all
-    (subst (λ (x : Input). TakesFew geometry.pages c.args.count u.tested.input x) (sym (c.write_waiting.ensures.left (honest_of c.args.pool geometry u.s u.tested (g.S.Site.state c.loop-line.site) c.loop-line.restoring u.written))) u.takes)
+    (asks_still (HasFewCommits geometry.pages c.args.count) u.tested (g.S.Site.state c.loop-line.site) (g.S.Site.state c.write_waiting.new.site) u.asks (c.write_waiting.ensures.left (honest_of c.args.pool geometry u.s u.tested (g.S.Site.state c.loop-line.site) c.loop-line.restoring u.written)))
     (c.in-Err-write_waiting.ensures.stops c.args.pool geometry u.s u.tested u.lines behind u.goes u.written)
 
 -- All that waited is written.
@@ -67,8 +67,8 @@ module _ (g : Over) (c : After-hear g) (geometry : Geometry) (t : IsTarget geome
   heard = heard_still geometry u.lines u.s u.tested (g.S.Site.state c.loop-line.site) (g.S.Site.state c.write_waiting.new.site) c.loop-line.restoring c.write_waiting.new.self u.heard c.in-Ok-false.ensures.source
       (c.write_waiting.ensures.left (honest_of c.args.pool geometry u.s u.tested (g.S.Site.state c.loop-line.site) c.loop-line.restoring u.written))
 
-  takes : TakesFew geometry.pages c.args.count u.tested.input (g.S.Site.state c.write_waiting.new.site).input
-  takes = subst (λ (x : Input). TakesFew geometry.pages c.args.count u.tested.input x) (sym (c.write_waiting.ensures.left (honest_of c.args.pool geometry u.s u.tested (g.S.Site.state c.loop-line.site) c.loop-line.restoring u.written))) u.takes
+  asks : AsksFor (HasFewCommits geometry.pages c.args.count) u.tested (g.S.Site.state c.write_waiting.new.site)
+  asks = asks_still (HasFewCommits geometry.pages c.args.count) u.tested (g.S.Site.state c.loop-line.site) (g.S.Site.state c.write_waiting.new.site) u.asks (c.write_waiting.ensures.left (honest_of c.args.pool geometry u.s u.tested (g.S.Site.state c.loop-line.site) c.loop-line.restoring u.written))
 
 pub returns-in-Err-hear-clause-restores : goal.returns-in-Err-hear-clause-restores
 returns-in-Err-hear-clause-restores g c geometry t =
@@ -77,7 +77,7 @@ returns-in-Err-hear-clause-restores g c geometry t =
     let none = c.in-Ok-false.ensures.none c.args.pool geometry u.s u.tested u.written c.in-Ok-false.field-0-test in
     let st = c.in-Err-hear.ensures.stops c.args.pool geometry u.s u.tested u.lines c.args.count (goes g s geometry t) (written g s geometry t) (heard g s geometry t) none.0 none.1 (ap (λ n. n + 1) (sym u.long)) in
     outcome_stopped c.args.count geometry (g.S.Site.state c.args.site.now) u.tested (g.S.Site.state c.hear.new.site) u.lines st.0 u.s c.in-Err-hear.fault u.same u.kept u.heard.accepted st.1
-    (c.hear.ensures.takes c.args.pool geometry u.s u.tested u.lines c.args.count (written g s geometry t) (heard g s geometry t) none.0 none.1 (takes g s geometry t)) st.2
+    (c.hear.ensures.asks c.args.pool geometry u.s u.tested u.lines c.args.count (written g s geometry t) (heard g s geometry t) none.0 none.1 (asks g s geometry t)) st.2
 
 pub loop-line-preserved : goal.loop-line-preserved
 loop-line-preserved g c =
@@ -100,7 +100,7 @@ loop-line-preserved g c =
             goes = c.in_default.ensures.going u.tested (goes g s geometry t);
             written = h.2;
             heard = h.3;
-            takes = c.hear.ensures.takes c.args.pool geometry u.s u.tested u.lines c.args.count (written g s geometry t) (heard g s geometry t) none.0 none.1 (takes g s geometry t);
+            asks = c.hear.ensures.asks c.args.pool geometry u.s u.tested u.lines c.args.count (written g s geometry t) (heard g s geometry t) none.0 none.1 (asks g s geometry t);
             long = let all = length-append u.lines (h.0 ∷ []) in let long = u.long in omega (arith, all, long);
           };
     }

@@ -10,7 +10,7 @@ use Rattle.stream_lines.specs.declared.source.Fault.TheVariants as taking
 use Rattle.stream_lines.specs.declared.source.Heard.TheVariants as kind
 use Rattle.archive_restore.specs.declared.fault.Fault.{Fault}
 use Rattle.archive_restore.specs.Progress.{StopsRestoring}
-use Rattle.archive_restore.proofs.Taken.{takes_more}
+use Rattle.archive_restore.proofs.Taken.{asks_next}
 use Rattle.archive_restore.proofs.Heard.{cut_as, goes_on_heard, heard_as, hears_on, honest_of, left_with, line_first, long_refused, over_limit, stops_here}
 use Rattle.archive_restore.specs.Faults.{after_fault}
 use Rattle.archive_restore.proofs.restoring.Restoring.hear.Goals as goal
@@ -116,37 +116,37 @@ returns-in-Err-Limit-clause-faults g c = c.in-Err-Limit.ensures.faults ∙ ap (�
 pub returns-in-Err-Memory-clause-faults : goal.returns-in-Err-Memory-clause-faults
 returns-in-Err-Memory-clause-faults g c = subst (λ (f : Fault). faults_in (g.S.Site.state c.next.new.site) ≡ after_fault f (faults_in (g.S.Site.state c.args.site.now))) (sym c.lacks_memory.ensures) c.in-Ok-Line.ensures.faults
 
-pub returns-in-Err-Input-clause-takes : goal.returns-in-Err-Input-clause-takes
-returns-in-Err-Input-clause-takes g c pool geometry s entry lines count h heard all less before =
-    takes_more geometry lines s entry (g.S.Site.state c.args.site.now) c.args.self.now heard count (omega (arith, all, less)) (g.S.Site.state c.next.new.site)
+pub returns-in-Err-Input-clause-asks : goal.returns-in-Err-Input-clause-asks
+returns-in-Err-Input-clause-asks g c pool geometry s entry lines count h heard all less before =
+    asks_next geometry lines s entry (g.S.Site.state c.args.site.now) (g.S.Site.state c.next.new.site) c.args.self.now count heard (omega (arith, all, less)) h.told
     (c.next.ensures.takes (honest_of pool geometry s entry (g.S.Site.state c.args.site.now) c.args.self.now h) heard.ended) before
 
-pub returns-in-Err-Limit-clause-takes : goal.returns-in-Err-Limit-clause-takes
-returns-in-Err-Limit-clause-takes g c pool geometry s entry lines count h heard all less before =
-    takes_more geometry lines s entry (g.S.Site.state c.args.site.now) c.args.self.now heard count (omega (arith, all, less)) (g.S.Site.state c.next.new.site)
+pub returns-in-Err-Limit-clause-asks : goal.returns-in-Err-Limit-clause-asks
+returns-in-Err-Limit-clause-asks g c pool geometry s entry lines count h heard all less before =
+    asks_next geometry lines s entry (g.S.Site.state c.args.site.now) (g.S.Site.state c.next.new.site) c.args.self.now count heard (omega (arith, all, less)) h.told
     (c.next.ensures.takes (honest_of pool geometry s entry (g.S.Site.state c.args.site.now) c.args.self.now h) heard.ended) before
 
-pub returns-in-Ok-End-clause-takes : goal.returns-in-Ok-End-clause-takes
-returns-in-Ok-End-clause-takes g c pool geometry s entry lines count h heard all less before =
-    takes_more geometry lines s entry (g.S.Site.state c.args.site.now) c.args.self.now heard count (omega (arith, all, less)) (g.S.Site.state c.next.new.site)
+pub returns-in-Ok-End-clause-asks : goal.returns-in-Ok-End-clause-asks
+returns-in-Ok-End-clause-asks g c pool geometry s entry lines count h heard all less before =
+    asks_next geometry lines s entry (g.S.Site.state c.args.site.now) (g.S.Site.state c.next.new.site) c.args.self.now count heard (omega (arith, all, less)) h.told
     (c.next.ensures.takes (honest_of pool geometry s entry (g.S.Site.state c.args.site.now) c.args.self.now h) heard.ended) before
 
-pub returns-in-Ok-Long-clause-takes : goal.returns-in-Ok-Long-clause-takes
-returns-in-Ok-Long-clause-takes g c pool geometry s entry lines count h heard all less before =
-    takes_more geometry lines s entry (g.S.Site.state c.args.site.now) c.args.self.now heard count (omega (arith, all, less)) (g.S.Site.state c.next.new.site)
+pub returns-in-Ok-Long-clause-asks : goal.returns-in-Ok-Long-clause-asks
+returns-in-Ok-Long-clause-asks g c pool geometry s entry lines count h heard all less before =
+    asks_next geometry lines s entry (g.S.Site.state c.args.site.now) (g.S.Site.state c.next.new.site) c.args.self.now count heard (omega (arith, all, less)) h.told
     (c.next.ensures.takes (honest_of pool geometry s entry (g.S.Site.state c.args.site.now) c.args.self.now h) heard.ended) before
 
-pub returns-in-Ok-clause-takes : goal.returns-in-Ok-clause-takes
-returns-in-Ok-clause-takes g c pool geometry s entry lines count h heard all less before =
-    takes_more geometry lines s entry (g.S.Site.state c.args.site.now) c.args.self.now heard count (omega (arith, all, less)) (g.S.Site.state c.next.new.site)
+pub returns-in-Ok-clause-asks : goal.returns-in-Ok-clause-asks
+returns-in-Ok-clause-asks g c pool geometry s entry lines count h heard all less before =
+    asks_next geometry lines s entry (g.S.Site.state c.args.site.now) (g.S.Site.state c.next.new.site) c.args.self.now count heard (omega (arith, all, less)) h.told
     (c.next.ensures.takes (honest_of pool geometry s entry (g.S.Site.state c.args.site.now) c.args.self.now h) heard.ended) before
 
-pub returns-in-Err-BadStream-clause-takes : goal.returns-in-Err-BadStream-clause-takes
-returns-in-Err-BadStream-clause-takes g c pool geometry s entry lines count h heard all less before =
-    takes_more geometry lines s entry (g.S.Site.state c.args.site.now) c.args.self.now heard count (omega (arith, all, less)) (g.S.Site.state c.next.new.site)
+pub returns-in-Err-BadStream-clause-asks : goal.returns-in-Err-BadStream-clause-asks
+returns-in-Err-BadStream-clause-asks g c pool geometry s entry lines count h heard all less before =
+    asks_next geometry lines s entry (g.S.Site.state c.args.site.now) (g.S.Site.state c.next.new.site) c.args.self.now count heard (omega (arith, all, less)) h.told
     (c.next.ensures.takes (honest_of pool geometry s entry (g.S.Site.state c.args.site.now) c.args.self.now h) heard.ended) before
 
-pub returns-in-Err-Memory-clause-takes : goal.returns-in-Err-Memory-clause-takes
-returns-in-Err-Memory-clause-takes g c pool geometry s entry lines count h heard all less before =
-    takes_more geometry lines s entry (g.S.Site.state c.args.site.now) c.args.self.now heard count (omega (arith, all, less)) (g.S.Site.state c.next.new.site)
+pub returns-in-Err-Memory-clause-asks : goal.returns-in-Err-Memory-clause-asks
+returns-in-Err-Memory-clause-asks g c pool geometry s entry lines count h heard all less before =
+    asks_next geometry lines s entry (g.S.Site.state c.args.site.now) (g.S.Site.state c.next.new.site) c.args.self.now count heard (omega (arith, all, less)) h.told
     (c.next.ensures.takes (honest_of pool geometry s entry (g.S.Site.state c.args.site.now) c.args.self.now h) heard.ended) before
