@@ -1,46 +1,36 @@
--- No input is taken behind the last commit.
-use Rattle.std.proofs.Common.{◌≡◌, ℕ, zero, suc, ◌+◌, ◌<◌, Bool, true, false, true≢false, List, [], ◌∷◌, ◌++◌, length, take, refl, sym, ◌∙◌, ap, subst, arith, append_assoc, append-nil, length-append}
-use Rattle.std.proofs.lemmas.List.{take_at}
-use Rattle.std_lemmas.proofs.AllOf.{all_append, all_weaker}
+-- Where input is asked for.
+use Rattle.std.proofs.Common.{◌≡◌, ℕ, ◌+◌, ◌<◌, List, ◌++◌, length, take, true, false, ◌∙◌, ap, subst}
+use Rattle.std.specs.List.{AllByRecursion}
+use Rattle.std_lemmas.proofs.AllOf.{all_weaker}
 use Rattle.site.specs.State.{State as Site, Input}
+use Rattle.site.specs.Calls.{IsUnchanged}
 use Rattle.site.specs.declared.outside.Take.{Take}
 use Rattle.site.specs.declared.geometry.Geometry.{Geometry}
 use Rattle.shell_text.specs.Runs.{lines_of}
-use Rattle.shell_text.proofs.Lines.{lines_of-waits}
-use Rattle.log_archive.specs.Accepted.{Accepted, Stream, blank_stream}
-use Rattle.stream_lines.specs.Lines.{TakesWithin, TookWithin, pending, to_hear}
+use Rattle.log_archive.specs.Accepted.{Stream}
+use Rattle.stream_lines.specs.Lines.{AsksFor, IsAskedFor, TakesWithin, long}
+use Rattle.stream_lines.proofs.Asked.{asks_more}
 use Rattle.archive_restore.specs.declared.restoring.Restoring.{Restoring}
 use Rattle.archive_restore.specs.Progress.{HasHeard}
-use Rattle.archive_restore.specs.Restores.{IsWanted, TakesFew}
+use Rattle.archive_restore.specs.Restores.{HasFewCommits}
 
-pub takes_none : (pages count : ℕ) (old new : Input) → new ≡ old → TakesFew pages count old new
-takes_none pages count old new same = record { takes = []; are = ap (λ (x : Input). x.takes) same ∙ sym (append-nil old.takes); wanted = tt }
+-- nothing is taken meanwhile
+pub asks_still : (P : List (List ℕ) → Type 0) (entry mid new : Site) → AsksFor P entry mid → new.input ≡ mid.input → AsksFor P entry new
+asks_still P entry mid new a same = record { takes = a.takes; are = ap (λ (x : Input). x.takes) same ∙ a.are; each = a.each }
 
--- What is asked for within a line: the lines before it stand whole in what was heard.
-module _ (g : Geometry) (lines : List (List ℕ)) (s : Stream) (entry mid : Site) (r : Restoring) (h : HasHeard g lines s entry mid r) (count : ℕ) (less : length s.nets < count) where
-  wanted : (t : Take) → TookWithin r.source mid t → IsWanted g.pages count entry.input t
-  wanted t w =
-      let octets = h.consumed ++ w.octets in
-      let all : entry.input.left ≡ octets ++ w.rest = h.parts ∙ ap (λ (l : List ℕ). h.consumed ++ l) w.all ∙ sym (append_assoc h.consumed w.octets w.rest) in
-      let front : take (length octets) entry.input.left ≡ octets = ap (take (length octets)) all ∙ take_at octets w.rest (length octets) refl in
-      let whole : lines_of false octets ≡ lines = h.whole w.octets false (λ over. absurd (true≢false (sym over ∙ w.going))) ∙ ap (λ (l : List (List ℕ)). lines ++ l) (lines_of-waits w.octets w.none) ∙ append-nil lines in
-      record {
-        heard = length octets;
-        here =
-            let here = w.here in
-            let long = length-append h.consumed w.octets in
-            let left = length-append (pending r.source) mid.input.left in
-            let parts = ap length h.parts ∙ length-append h.consumed (to_hear r.source mid) in
-            let heard = h.heard in
-            omega (arith, here, long, left, parts, heard);
-        s = s;
-        accepted = subst (λ (l : List (List ℕ)). Accepted g.pages l (blank_stream g.pages) s) (sym (ap (lines_of false) front ∙ whole)) h.accepted;
-        few = less;
-      }
+-- nothing was taken before
+pub asks_since : (P : List (List ℕ) → Type 0) (old entry new : Site) → IsUnchanged old entry → AsksFor P entry new → AsksFor P old new
+asks_since P old entry new same a = record { takes = a.takes; are = a.are ∙ ap (λ (x : Input). x.takes ++ a.takes) same.left; each = all_weaker (IsAskedFor P entry) (IsAskedFor P old) since a.takes a.each }
+  where
+    since : (t : Take) → IsAskedFor P entry t → IsAskedFor P old t
+    since t w = record {
+      heard = w.heard;
+      here = w.here ∙ ap (λ (x : Input). x.heard + w.heard) same.left;
+      lines = subst (λ (x : Input). P (lines_of false (take w.heard x.left))) same.left w.lines;
+      short = subst (λ (x : Input). AllByRecursion (λ line. length line < long) (lines_of true (take w.heard x.left))) same.left w.short;
+      told = w.told ∙ ap length same.told;
+    }
 
-  pub takes_more : (new : Site) → TakesWithin r.source mid new → TakesFew g.pages count entry.input mid.input → TakesFew g.pages count entry.input new.input
-  takes_more new t b = record {
-    takes = b.takes ++ t.takes;
-    are = t.are ∙ ap (λ (l : List Take). l ++ t.takes) b.are ∙ append_assoc entry.input.takes b.takes t.takes;
-    wanted = all_append (IsWanted g.pages count entry.input) b.takes t.takes b.wanted (all_weaker (TookWithin r.source mid) (IsWanted g.pages count entry.input) wanted t.takes t.within);
-  }
+-- a line more is to be heard
+pub asks_next : (g : Geometry) (lines : List (List ℕ)) (s : Stream) (entry mid new : Site) (r : Restoring) (count : ℕ) → HasHeard g lines s entry mid r → length s.nets < count → mid.told ≡ entry.told → TakesWithin long r.source mid new → AsksFor (HasFewCommits g.pages count) entry mid → AsksFor (HasFewCommits g.pages count) entry new
+asks_next g lines s entry mid new r count h less told t before = asks_more (HasFewCommits g.pages count) lines r.source entry mid h.cut (s, h.accepted, less) told new t before

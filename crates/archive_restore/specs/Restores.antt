@@ -1,10 +1,10 @@
 -- What a restore does with blank devices, and what a crash at any moment of it leaves.
 use Rattle.std.specs.Prelude.{◌≡◌, ◌⊎◌, ℕ, ◌+◌, ◌-◌, ◌≤◌, ◌<◌, List, [], ◌∷◌, ◌++◌, length, slice_index_or}
-use Rattle.std.specs.Prelude.{false, take, true, IsTrue}
-use Rattle.std.specs.List.{AllByRecursion}
-use Rattle.site.specs.State.{State as Site, Image, Input, Snapshot, no_loose}
-use Rattle.site.specs.declared.outside.Take.{Take}
+use Rattle.std.specs.Prelude.{take, true, IsTrue}
+use Rattle.site.specs.State.{State as Site, Image, Snapshot, no_loose}
+use Rattle.site.specs.Moments.{LeavesOnly}
 use Rattle.site.specs.declared.geometry.Geometry.{Geometry}
+use Rattle.site.specs.declared.outside.Stop.TheVariants.{Foreign}
 use Rattle.site.specs.Geometry.{HasLimits, HasLengths}
 use Rattle.record_model.specs.State.{State, Write}
 use Rattle.record_model.specs.Run.{Line}
@@ -12,6 +12,7 @@ use Rattle.shell_text.specs.Runs.{lines_of}
 use Rattle.log_archive.specs.Accepted.{Accepted, AfterLine, Stream, archive_table, blank_stream}
 use Rattle.net_lines.specs.Nets.{Fits, net_lines}
 use Rattle.engine.specs.Image.{Stands}
+use Rattle.engine.specs.Leaves.{HasNoSizes}
 use Rattle.front_end.specs.New.{IsBlank, IsNotBlank}
 use Rattle.front_end.specs.declared.halt.Halt.TheVariants as halt
 use Rattle.face.specs.Causes.{HasCause}
@@ -55,6 +56,15 @@ pub record IsLeft (g : Geometry) (s : Stream) (begun : ℕ) (line so_far : List 
   pub stands : StandsAfter g s k snapshot.image
   pub told : (snapshot.told ≡ so_far) ⊎ ((part : ℕ) × (snapshot.told ≡ so_far ++ take part line) × (begun ≤ k + 1))
 
+-- nothing is told before the devices stand for the table after so many
+abbrev pub TellsBehind : Geometry → Stream → ℕ → List ℕ → Snapshot → Type 0
+TellsBehind g s k so_far snapshot = (snapshot.told ≡ so_far) ⊎ StandsAfter g s k snapshot.image
+
+-- So many commits are sealed, and nothing was told before the last of them was.
+pub record HasSealed (g : Geometry) (s : Stream) (k : ℕ) (old new : Site) : Type 0 where
+  pub stands : StandsAfter g s k new.image
+  pub behind : LeavesOnly old new (TellsBehind g s k old.told)
+
 -- the net of a commit
 abbrev pub net_at : Stream → ℕ → List Write
 net_at s k = slice_index_or s.nets k []
@@ -82,6 +92,16 @@ EndsBy (fault.Halt halt.Limit) g lines behind s begun old new = HasCause halt.Li
 EndsBy (fault.Halt h) g lines behind s begun old new = HasCause h old new
 EndsBy (fault.Unfit unfit) g lines behind s begun old new = IsNotBlank unfit old new
 
+-- the same of every site: no call fails but where its count of faults rises, and over an honest one that was blank no
+-- device is foreign
+abbrev pub HasFaultCause : Fault → Site → Site → Type 0
+HasFaultCause (fault.Stream number) old new = Unit {0}
+HasFaultCause (fault.Short commits) old new = Unit {0}
+HasFaultCause fault.Full old new = Unit {0}
+HasFaultCause (fault.Halt (halt.Stop Foreign)) old new = IsTrue old.honest → HasNoSizes old
+HasFaultCause (fault.Halt h) old new = HasCause h old new
+HasFaultCause (fault.Unfit unfit) old new = IsNotBlank unfit old new
+
 -- whether the commits that were begun are all written then
 abbrev pub IsBetween : Fault → Type 0
 IsBetween (fault.Stream number) = Unit {0}
@@ -92,17 +112,7 @@ IsBetween (fault.Halt halt.Limit) = Unit {0}
 IsBetween (fault.Halt h) = ⊥
 IsBetween (fault.Unfit unfit) = ⊥
 
--- Input was asked for where so many octets of what was left at entry were heard: the lines that stand whole in them are
--- an archive with fewer commits.
-pub record IsWanted (pages count : ℕ) (old : Input) (t : Take) : Type 0 where
-  pub heard : ℕ
-  pub here : t.heard ≡ old.heard + heard
-  pub s : Stream
-  pub accepted : Accepted pages (lines_of false (take heard old.left)) (blank_stream pages) s
-  pub few : length s.nets < count
-
--- so it was wherever input was asked for: none is taken behind the last commit
-pub record TakesFew (pages count : ℕ) (old new : Input) : Type 0 where
-  pub takes : List Take
-  pub are : new.takes ≡ old.takes ++ takes
-  pub wanted : AllByRecursion (IsWanted pages count old) takes
+-- These lines are an archive with fewer commits than that. Input is asked for behind no others: none is taken behind the
+-- last commit, or behind a line that isn't accepted.
+abbrev pub HasFewCommits : ℕ → ℕ → List (List ℕ) → Type 0
+HasFewCommits pages count lines = (s : Stream) × Accepted pages lines (blank_stream pages) s × (length s.nets < count)

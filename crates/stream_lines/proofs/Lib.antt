@@ -1,3 +1,4 @@
 mod LineOctets
 mod Gathered
 mod Takes
+pub mod Asked

@@ -30,6 +30,7 @@ whole before after line turns h room =
 -- a line that ends in a newline
 pub line_heard : (before after line : List ℕ) (turns : ℕ) (was ended : Bool) → HeardSoFar before (10 ∷ after) line turns → length line < 1027 → was ≡ false → HearsLine line was ended before after
 line_heard before after line turns was ended h room going = record {
+  short = room;
   octets = h.octets ++ 10 ∷ [];
   all = h.all ∙ sym (append_assoc h.octets (10 ∷ []) after);
   some = omega (arith, length-append h.octets (10 ∷ []));
@@ -46,6 +47,7 @@ last_heard before line turns was ended after h room nothing some end going = who
     whole_line : (xs : List ℕ) → xs ≡ h.octets → HearsLine line was ended before after
     whole_line [] e = let none : length h.octets ≡ 0 = ap length (sym e) in let kept = ap length h.kept ∙ length-take 1027 h.octets in absurd (omega (arith, none, kept, some))
     whole_line (x ∷ xs) e = record {
+      short = room;
       octets = h.octets;
       all = h.all ∙ ap (λ (l : List ℕ). h.octets ++ l) (sym nothing);
       some = let one : length h.octets ≡ suc (length xs) = ap length (sym e) in omega (arith, one);

@@ -1,5 +1,5 @@
 -- How the input is cut into lines.
-use Rattle.std.specs.Prelude.{◌≡◌, ◌≢◌, ℕ, ◌+◌, ◌-◌, ◌^◌, ◌≤◌, Bool, true, false, List, [], ◌∷◌, ◌++◌, length}
+use Rattle.std.specs.Prelude.{◌≡◌, ◌≢◌, ℕ, ◌+◌, ◌-◌, ◌^◌, ◌≤◌, ◌<◌, Bool, true, false, List, [], ◌∷◌, ◌++◌, length}
 use Rattle.std.specs.Prelude.{take, drop}
 use Rattle.std.specs.List.{AllByRecursion}
 use Rattle.site.specs.State.{State}
@@ -52,10 +52,12 @@ pub record HearsOnly (old new : State) : Type 0 where
   pub past : new.past ≡ old.past
   pub reads : SameReads old new
 
--- Input was asked for within a line: of what was to hear these octets were heard by then, none of them a newline.
-pub record TookWithin (source : Source) (before : State) (t : Take) : Type 0 where
+-- Input was asked for within a line: of what was to hear these octets were heard by then, none of them a newline, and
+-- fewer than so many.
+pub record TookWithin (room : ℕ) (source : Source) (before : State) (t : Take) : Type 0 where
   pub octets : List ℕ
   pub none : AllByRecursion (λ x. x ≢ 10) octets
+  pub few : length octets < room
   pub rest : List ℕ
   pub all : to_hear source before ≡ octets ++ rest
   pub here : t.heard + length (pending source) ≡ before.input.heard + length octets
@@ -63,19 +65,45 @@ pub record TookWithin (source : Source) (before : State) (t : Take) : Type 0 whe
   pub going : source.ended ≡ false
 
 -- input was asked for within a line only, and each octet that isn't left any more was heard
-pub record TakesWithin (source : Source) (before now : State) : Type 0 where
+pub record TakesWithin (room : ℕ) (source : Source) (before now : State) : Type 0 where
   pub takes : List Take
   pub are : now.input.takes ≡ before.input.takes ++ takes
-  pub within : AllByRecursion (TookWithin source before) takes
+  pub within : AllByRecursion (TookWithin room source before) takes
   pub count : now.input.heard + length now.input.left ≡ before.input.heard + length before.input.left
+
+-- These lines were heard, none of them too long, and the source has the octets behind them: what is left is cut into
+-- lines as if it stood alone, whatever it is.
+pub record HasCut (lines : List (List ℕ)) (source : Source) (entry now : State) : Type 0 where
+  pub short : AllByRecursion (λ line. length line < long) lines
+  pub consumed : List ℕ
+  pub parts : entry.input.left ≡ consumed ++ to_hear source now
+  pub whole : (more : List ℕ) (e : Bool) → (source.ended ≡ true → (more ≡ []) × (e ≡ true))
+      → lines_of e (consumed ++ more) ≡ lines ++ lines_of e more
+  pub heard : now.input.heard + length now.input.left ≡ entry.input.heard + length entry.input.left
+
+-- Input was asked for, and nothing was told by then. The lines that stood whole in the octets that were heard by then
+-- are as is said, and none is too long for an archive, the one under way with them.
+pub record IsAskedFor (P : List (List ℕ) → Type 0) (entry : State) (t : Take) : Type 0 where
+  pub heard : ℕ
+  pub here : t.heard ≡ entry.input.heard + heard
+  pub lines : P (lines_of false (take heard entry.input.left))
+  pub short : AllByRecursion (λ line. length line < long) (lines_of true (take heard entry.input.left))
+  pub told : t.told ≡ length entry.told
+
+-- so it was wherever input was asked for
+pub record AsksFor (P : List (List ℕ) → Type 0) (entry now : State) : Type 0 where
+  pub takes : List Take
+  pub are : now.input.takes ≡ entry.input.takes ++ takes
+  pub each : AllByRecursion (IsAskedFor P entry) takes
 
 -- these octets are a line, whatever comes behind them; where the input has ended nothing comes
 abbrev pub AreLine : List ℕ → List ℕ → Bool → Type 0
 AreLine octets line ended = (more : List ℕ) (e : Bool) → (ended ≡ true → (more ≡ []) × (e ≡ true)) →
     lines_of e (octets ++ more) ≡ line ∷ lines_of e more
 
--- a line was heard
+-- a line was heard, which isn't too long
 pub record HearsLine (line : List ℕ) (was ended : Bool) (before after : List ℕ) : Type 0 where
+  pub short : length line < long
   pub octets : List ℕ
   pub all : before ≡ octets ++ after
   pub some : 1 ≤ length octets

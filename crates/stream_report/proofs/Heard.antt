@@ -17,9 +17,8 @@ use Rattle.log_replay.specs.declared.replay.Replay.{Replay}
 use Rattle.log_replay.specs.Stands.{StandsFor}
 use Rattle.stream_report.specs.Streams.{IsArchiveOf, IsFirstBad, most}
 
--- So many lines were heard of an input, of which these octets are left; a Replay stands for the stream behind them.
-pub record IsHeard (pages : ℕ) (octets rest : List ℕ) (number : ℕ) (replay : Replay) : Type 0 where
-  pub lines : List (List ℕ)
+-- These lines were heard, so many, of an input, of which these octets are left; a Replay stands for the stream behind them.
+pub record IsHeard (pages : ℕ) (octets rest : List ℕ) (lines : List (List ℕ)) (number : ℕ) (replay : Replay) : Type 0 where
   pub count : length lines ≡ number
   pub cut : lines_of true octets ≡ lines ++ lines_of true rest
   pub mid : Stream
@@ -28,9 +27,8 @@ pub record IsHeard (pages : ℕ) (octets rest : List ℕ) (number : ℕ) (replay
   pub stands : StandsFor pages mid popped replay
   pub few : number + length rest ≤ length octets
 
-pub unheard : (pages : ℕ) (octets rest : List ℕ) (replay : Replay) → rest ≡ octets → StandsFor pages (blank_stream pages) [] replay → IsHeard pages octets rest 0 replay
+pub unheard : (pages : ℕ) (octets rest : List ℕ) (replay : Replay) → rest ≡ octets → StandsFor pages (blank_stream pages) [] replay → IsHeard pages octets rest [] 0 replay
 unheard pages octets rest replay all stands = record {
-  lines = [];
   count = refl;
   cut = ap (lines_of true) (sym all);
   mid = blank_stream pages;
@@ -63,19 +61,18 @@ total_first source site none = omega (arith, none)
 pub first_line : (line before after : List ℕ) (was ended : Bool) → HearsLine line was ended before after → (ended ≡ true → after ≡ []) → lines_of true before ≡ line ∷ lines_of true after
 first_line line before after was ended h none = ap (lines_of true) h.all ∙ h.is_line after true (λ at. (none at, refl))
 
-module _ (pages : ℕ) (octets rest : List ℕ) (number : ℕ) (replay : Replay) (h : IsHeard pages octets rest number replay) where
+module _ (pages : ℕ) (octets rest : List ℕ) (lines : List (List ℕ)) (number : ℕ) (replay : Replay) (h : IsHeard pages octets rest lines number replay) where
   -- one line more
-  pub heard_more : (line next : List ℕ) (was ended : Bool) (now : Stream) (popped : List (List Write)) (after : Replay) → HearsLine line was ended rest next → (ended ≡ true → next ≡ []) → AfterLine pages line h.mid now → StandsFor pages now popped after → IsHeard pages octets next (number + 1) after
+  pub heard_more : (line next : List ℕ) (was ended : Bool) (now : Stream) (popped : List (List Write)) (after : Replay) → HearsLine line was ended rest next → (ended ≡ true → next ≡ []) → AfterLine pages line h.mid now → StandsFor pages now popped after → IsHeard pages octets next (lines ++ line ∷ []) (number + 1) after
   heard_more line next was ended now popped after hears none behind stands =
       let long = length-append hears.octets next in
       let some = hears.some in
       let few = h.few in
       record {
-        lines = h.lines ++ line ∷ [];
-        count = length-append h.lines (line ∷ []) ∙ ap (λ n. n + 1) h.count;
-        cut = h.cut ∙ ap (λ l. h.lines ++ l) (first_line line rest next was ended hears none) ∙ sym (append_assoc h.lines (line ∷ []) (lines_of true next));
+        count = length-append lines (line ∷ []) ∙ ap (λ n. n + 1) h.count;
+        cut = h.cut ∙ ap (λ l. lines ++ l) (first_line line rest next was ended hears none) ∙ sym (append_assoc lines (line ∷ []) (lines_of true next));
         mid = now;
-        accepted = join pages h.lines (line ∷ []) (blank_stream pages) h.mid now h.accepted (now, behind, refl);
+        accepted = join pages lines (line ∷ []) (blank_stream pages) h.mid now h.accepted (now, behind, refl);
         popped = popped;
         stands = stands;
         few = omega (arith, long, some, few, ap length hears.all);
@@ -85,7 +82,7 @@ module _ (pages : ℕ) (octets rest : List ℕ) (number : ℕ) (replay : Replay)
   pub heard_all : (count : ℕ) → rest ≡ [] → count ≡ commits_in h.mid → length octets ≤ most → IsArchiveOf pages octets count
   heard_all count none is few = record {
     now = h.mid;
-    accepted = subst (λ l. Accepted pages l (blank_stream pages) h.mid) (sym (h.cut ∙ ap (λ l. h.lines ++ lines_of true l) none ∙ append-nil h.lines)) h.accepted;
+    accepted = subst (λ l. Accepted pages l (blank_stream pages) h.mid) (sym (h.cut ∙ ap (λ l. lines ++ lines_of true l) none ∙ append-nil lines)) h.accepted;
     count_is = is;
     few = few;
   }
@@ -93,10 +90,10 @@ module _ (pages : ℕ) (octets rest : List ℕ) (number : ℕ) (replay : Replay)
   -- a line that isn't accepted
   pub bad_here : (line : List ℕ) (behind : List (List ℕ)) → lines_of true rest ≡ line ∷ behind → ((now : Stream) → AfterLine pages line h.mid now → ⊥) → IsFirstBad pages octets (number + 1)
   bad_here line behind is bad = record {
-    before = h.lines;
+    before = lines;
     line = line;
     behind = behind;
-    lines = h.cut ∙ ap (λ l. h.lines ++ l) is;
+    lines = h.cut ∙ ap (λ l. lines ++ l) is;
     number_is = ap (λ n. n + 1) (sym h.count);
     mid = h.mid;
     accepted = h.accepted;
@@ -132,8 +129,8 @@ never_both pages octets count number archive wrong =
     wrong.bad parts.1 (subst (λ (x : Stream). AfterLine pages wrong.line x parts.1) same parts.3)
 
 -- More lines than the input may have octets aren't heard.
-pub few_lines : (pages : ℕ) (octets : List ℕ) (number : ℕ) (replay : Replay) (source : Source) (site : State) → IsSource source → IsHeard pages octets (to_hear source site) number replay → total source site ≡ length octets → most < number → ⊥
-few_lines pages octets number replay source site is h all many =
+pub few_lines : (pages : ℕ) (octets : List ℕ) (lines : List (List ℕ)) (number : ℕ) (replay : Replay) (source : Source) (site : State) → IsSource source → IsHeard pages octets (to_hear source site) lines number replay → total source site ≡ length octets → most < number → ⊥
+few_lines pages octets lines number replay source site is h all many =
     let few = h.few in
     let long = length-append (pending source) site.input.left in
     let taken = is.few in

@@ -2,7 +2,7 @@
 use Rattle.std.proofs.Common.{◌≡◌, ◌⊎◌, ℕ, ◌+◌, List, [], ◌++◌, length, take, refl, sym, ◌∙◌, ap, arith, inl, inr, IsTrue}
 use Rattle.std.specs.Prelude.{Result, Ok, Err, OnOk, OnErr}
 use Rattle.std.proofs.lemmas.List.{take_all}
-use Rattle.site.specs.State.{State, Moment, now_of}
+use Rattle.site.specs.State.{State, Input, Moment, now_of}
 use Rattle.site.specs.Calls.{Preserves, Rose, SameReads}
 use Rattle.site.specs.Moments.{EachMoment}
 use Rattle.site.specs.Telling.{TellsPart}
@@ -10,8 +10,8 @@ use Rattle.site.proofs.Laws.{no_call, calm, now_same, in_sequence, each_weaker, 
 use Rattle.site.specs.declared.outside.Failed.{Failed}
 use Rattle.stream_report.specs.declared.halt.Halt.{Halt}
 use Rattle.stream_report.specs.declared.halt.Halt.TheVariants as halt
-use Rattle.stream_report.specs.Streams.{IsArchiveOf, IsFirstBad, most, verified_line}
-use Rattle.stream_lines.specs.Lines.{HearsOnly}
+use Rattle.stream_report.specs.Streams.{AreAccepted, IsArchiveOf, IsFirstBad, most, verified_line}
+use Rattle.stream_lines.specs.Lines.{AsksFor, HearsOnly}
 use Rattle.stream_report.specs.Contract.{HasCause, IsAnswer, VerifyContract, halt_line, halt_status}
 use Rattle.stream_report.proofs.Heard.{never_both}
 
@@ -35,7 +35,7 @@ archive_of pages octets left status text (inr (inr (inr (inr memory)))) count ar
 pub record Tells (text : List ℕ) (mid new : State) (result : Result (Unit {0}) Failed) : Type 0 where
   pub any_moment : IsTrue mid.honest → EachMoment mid new (TellsPart text mid)
   pub told : IsTrue mid.honest → OnOk result (new.told ≡ mid.told ++ text)
-  pub input : IsTrue mid.honest → new.input.left ≡ mid.input.left
+  pub input : IsTrue mid.honest → new.input ≡ mid.input
   pub reads : SameReads mid new
   pub preserves : Preserves mid new
   pub cause : OnErr result (Rose mid.output_faults new.output_faults)
@@ -65,8 +65,8 @@ pub contract : (pages : ℕ) (text : List ℕ) (old mid new : State) (result : R
     → (IsTrue old.honest → status ≡ 0 → new.told ≡ old.told ++ text)
     → (status ≡ 0) ⊎ ((status ≡ 4) ⊎ ((status ≡ 5) ⊎ ((status ≡ 6) ⊎ ((status ≡ 7) ⊎ (status ≡ 13)))))
     → (status ≡ 5 → Rose old.input_faults mid.input_faults) → (status ≡ 6 → Rose mid.output_faults new.output_faults)
-    → VerifyContract pages old new status
-contract pages text old mid new result status goes same tells answer done others input output = record {
+    → (IsTrue old.honest → AsksFor (AreAccepted pages) old mid) → VerifyContract pages old new status
+contract pages text old mid new result status goes same tells answer done others input output asks = record {
   text = text;
   answer = answer;
   any_moment = λ honest. moments _ _ _ _ goes same honest (tells.any_moment (stays_honest _ _ goes honest));
@@ -78,6 +78,9 @@ contract pages text old mid new result status goes same tells answer done others
   input = λ five. rose_then _ _ _ (input five) tells.preserves.input_faults;
   output = λ six. rose_since _ _ _ goes.output_faults (output six);
   reads = λ honest dev. tells.reads dev ∙ (same honest).reads dev;
+  asks = λ honest.
+      let a = asks honest in
+      record { takes = a.takes; are = ap (λ (x : Input). x.takes) (tells.input (stays_honest _ _ goes honest)) ∙ a.are; each = a.each };
 }
 
 -- The count is told, or was to be told.
@@ -86,20 +89,20 @@ abbrev IsCount : ℕ → List ℕ → List ℕ → Type 0
 IsCount pages octets text = (count : ℕ) × IsArchiveOf pages octets count × (text ≡ verified_line count)
 
 pub told_count : (pages : ℕ) (text : List ℕ) (old mid new : State) (x : Unit {0}) → Preserves old mid → (IsTrue old.honest → HearsOnly old mid) → Tells text mid new (Ok x)
-    → (IsTrue old.honest → IsCount pages old.input.left text) → VerifyContract pages old new 0
-told_count pages text old mid new x goes same tells is =
+    → (IsTrue old.honest → AsksFor (AreAccepted pages) old mid) → (IsTrue old.honest → IsCount pages old.input.left text) → VerifyContract pages old new 0
+told_count pages text old mid new x goes same tells asks is =
     contract _ _ _ _ _ _ _ goes same tells
     (λ honest. let r = is honest in inl (inl refl, r.0, r.1, r.2))
     (λ honest zero. told_all text old mid new goes same honest (tells.told (stays_honest _ _ goes honest)))
-    (inl refl) (λ bad. absurd (omega (arith, bad))) (λ bad. absurd (omega (arith, bad)))
+    (inl refl) (λ bad. absurd (omega (arith, bad))) (λ bad. absurd (omega (arith, bad))) asks
 
 pub untold_count : (pages : ℕ) (text : List ℕ) (old mid new : State) (e : Failed) → Preserves old mid → (IsTrue old.honest → HearsOnly old mid) → Tells text mid new (Err e)
-    → (IsTrue old.honest → IsCount pages old.input.left text) → VerifyContract pages old new 6
-untold_count pages text old mid new e goes same tells is =
+    → (IsTrue old.honest → AsksFor (AreAccepted pages) old mid) → (IsTrue old.honest → IsCount pages old.input.left text) → VerifyContract pages old new 6
+untold_count pages text old mid new e goes same tells asks is =
     contract _ _ _ _ _ _ _ goes same tells
     (λ honest. let r = is honest in inl (inr refl, r.0, r.1, r.2))
     (λ honest bad. absurd (omega (arith, bad)))
-    (inr (inr (inr (inl refl)))) (λ bad. absurd (omega (arith, bad))) (λ six. tells.cause)
+    (inr (inr (inr (inl refl)))) (λ bad. absurd (omega (arith, bad))) (λ six. tells.cause) asks
 
 -- No count is told.
 
@@ -134,7 +137,7 @@ halt_others halt.Limit = inr (inr (inr (inr (inl refl))))
 halt_others (halt.Stream number) = inr (inr (inr (inr (inr refl))))
 
 pub told_halt : (pages : ℕ) (h : Halt) (old mid new : State) (result : Result (Unit {0}) Failed) → Preserves old mid → (IsTrue old.honest → HearsOnly old mid) → Tells (halt_line h) mid new result
-    → HasCause pages h old mid → VerifyContract pages old new (halt_status h)
-told_halt pages h old mid new result goes same tells cause =
+    → (IsTrue old.honest → AsksFor (AreAccepted pages) old mid) → HasCause pages h old mid → VerifyContract pages old new (halt_status h)
+told_halt pages h old mid new result goes same tells asks cause =
     contract _ _ _ _ _ _ _ goes same tells
-    (λ honest. halt_answer pages h old mid new cause honest (tells.input (stays_honest _ _ goes honest))) (λ honest bad. absurd (halt_not_zero _ bad)) (halt_others _) (halt_input _ _ _ _ cause) (λ bad. absurd (halt_not_six _ bad))
+    (λ honest. halt_answer pages h old mid new cause honest (ap (λ (x : Input). x.left) (tells.input (stays_honest _ _ goes honest)))) (λ honest bad. absurd (halt_not_zero _ bad)) (halt_others _) (halt_input _ _ _ _ cause) (λ bad. absurd (halt_not_six _ bad)) asks

@@ -5,11 +5,12 @@ use Rattle.site.specs.Calls.{Rose, SameReads}
 use Rattle.site.specs.Faults.{Faults, faults_in, with_input_fault, with_output_fault}
 use Rattle.site.specs.Moments.{EachMoment}
 use Rattle.site.specs.Telling.{TellsPart}
+use Rattle.stream_lines.specs.Lines.{AsksFor}
 use Rattle.stream_lines.specs.declared.source.Fault.{Fault}
 use Rattle.stream_lines.specs.declared.source.Fault.TheVariants as fault
 use Rattle.stream_report.specs.declared.halt.Halt.{Halt}
 use Rattle.stream_report.specs.declared.halt.Halt.TheVariants as halt
-use Rattle.stream_report.specs.Streams.{IsArchiveOf, IsFirstBad, bad_line, most, verified_line}
+use Rattle.stream_report.specs.Streams.{AreAccepted, IsArchiveOf, IsFirstBad, bad_line, most, verified_line}
 
 -- The text of each status, for an input of these octets, of which these are left: the count where they are an archive,
 -- and else the number of the first line that isn't accepted, or that one octet too many was taken. To tell it may
@@ -41,6 +42,8 @@ pub record VerifyContract (pages : ℕ) (old new : State) (status : ℕ) : Type 
   pub input : status ≡ 5 → Rose old.input_faults new.input_faults
   pub output : status ≡ 6 → Rose old.output_faults new.output_faults
   pub reads : IsTrue old.honest → SameReads old new
+  -- input is asked for only where all lines that were heard whole are accepted, and nothing is told yet
+  pub asks : IsTrue old.honest → AsksFor (AreAccepted pages) old new
 
 -- why no count is told: the line that is told, and the status
 abbrev pub halt_line : Halt → List ℕ

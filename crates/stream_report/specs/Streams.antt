@@ -7,6 +7,10 @@ use Rattle.log_archive.specs.Accepted.{Accepted, AfterLine, Stream, blank_stream
 abbrev pub most : ℕ
 most = 2 ^ 40
 
+-- these lines are all accepted
+abbrev pub AreAccepted : ℕ → List (List ℕ) → Type 0
+AreAccepted pages lines = (now : Stream) × Accepted pages lines (blank_stream pages) now
+
 -- The octets of an input are an archive that begins with a blank database of so many pages, and has so many commits.
 pub record IsArchiveOf (pages : ℕ) (octets : List ℕ) (count : ℕ) : Type 0 where
   pub now : Stream

@@ -5,9 +5,9 @@ ghost use Rattle.record_model.specs.State.{Write};
 ghost use Rattle.log_archive.specs.Accepted.{AfterLine, Stream};
 ghost use Rattle.log_replay.specs.Stands.{StandsFor};
 ghost use Rattle.log_replay.specs.declared.ledger.ReplayFault.TheVariants.{BadStream};
-ghost use Rattle.stream_lines.specs.Lines.{HearsOnly};
+ghost use Rattle.stream_lines.specs.Lines.{AsksFor, HearsOnly};
 ghost use Rattle.stream_report.specs.Contract.{HasCause, HearFaults};
-ghost use Rattle.stream_report.specs.Streams.{IsArchiveOf};
+ghost use Rattle.stream_report.specs.Streams.{AreAccepted, IsArchiveOf};
 
 use crate::halt::{Halt, halt_by};
 use arrayvec::ArrayVec;
@@ -46,6 +46,8 @@ pub fn hear_stream<S: Site>(alloc: Global, pages: u32, site: &mut S) -> Result<u
         → IfOk result (λ count. IsArchiveOf pages (S.state site.old).input.left count) }
     ensures cause { IfErr result (λ halt. HasCause pages halt (S.state site.old) (S.state site.new)) }
     ensures same { IsTrue (S.state site.old).honest → HearsOnly (S.state site.old) (S.state site.new) }
+    ensures asks { IsTrue (S.state site.old).honest
+        → AsksFor (AreAccepted pages) (S.state site.old) (S.state site.new) }
     ensures preserves { Preserves (S.state site.old) (S.state site.new) }
     ensures faults { HearFaults result (S.state site.old) (S.state site.new) }
 {

@@ -57,7 +57,7 @@ loop-piece-preserved g c =
       source = c.gather-whole.ensures.source;
       room = is_short _ _ c.is_full.ensures.value c.if-is_full.false c.is_full.ensures.fits;
       same = λ honest. hears_then old now new (c.loop-piece.invariant.same honest) (c.fill.ensures.same (stays_honest old now c.loop-piece.invariant.preserves honest));
-      takes = λ honest ended. takes_then _ _ old now new _ _ (c.loop-piece.invariant.so_far honest ended) (c.loop-piece.invariant.same honest).told (c.loop-piece.invariant.same_end honest ended) (c.loop-piece.invariant.takes honest ended) (c.fill.ensures.takes (stays_honest old now c.loop-piece.invariant.preserves honest));
+      takes = λ honest ended. takes_then _ _ old now new _ _ (c.loop-piece.invariant.so_far honest ended) c.loop-piece.invariant.room (c.loop-piece.invariant.same honest).told (c.loop-piece.invariant.same_end honest ended) (c.loop-piece.invariant.takes honest ended) (c.fill.ensures.takes (stays_honest old now c.loop-piece.invariant.preserves honest));
       count = λ honest. ap (λ n. n + length new.input.left) c.gather-whole.ensures.taken ∙ c.in-Ok-true.ensures.count (stays_honest old now c.loop-piece.invariant.preserves honest) ∙ c.loop-piece.invariant.count honest;
       still = λ honest ended over. absurd (cc (sym over ∙ c.gather-whole.ensures.ended ∙ some.2));
       going = λ honest ended _. sym (c.loop-piece.invariant.same_end honest ended) ∙ some.1;
@@ -87,28 +87,28 @@ pub returns-in-Ok-false-clause-takes : goal.returns-in-Ok-false-clause-takes
 returns-in-Ok-false-clause-takes g c honest ended =
     let old = g.S.Site.state c.args.site.now in
     let now = g.S.Site.state c.loop-piece.site in
-    takes_then _ _ old now (g.S.Site.state c.fill.new.site) _ _ (c.loop-piece.invariant.so_far honest ended) (c.loop-piece.invariant.same honest).told (c.loop-piece.invariant.same_end honest ended) (c.loop-piece.invariant.takes honest ended) (c.fill.ensures.takes (stays_honest old now c.loop-piece.invariant.preserves honest))
+    takes_then _ _ old now (g.S.Site.state c.fill.new.site) _ _ (c.loop-piece.invariant.so_far honest ended) c.loop-piece.invariant.room (c.loop-piece.invariant.same honest).told (c.loop-piece.invariant.same_end honest ended) (c.loop-piece.invariant.takes honest ended) (c.fill.ensures.takes (stays_honest old now c.loop-piece.invariant.preserves honest))
 
 pub returns-then-whole-clause-takes : goal.returns-then-whole-clause-takes
 returns-then-whole-clause-takes g c honest ended =
     let old = g.S.Site.state c.args.site.now in
     let now = g.S.Site.state c.loop-piece.site in
-    takes_then _ _ old now (g.S.Site.state c.fill.new.site) _ _ (c.loop-piece.invariant.so_far honest ended) (c.loop-piece.invariant.same honest).told (c.loop-piece.invariant.same_end honest ended) (c.loop-piece.invariant.takes honest ended) (c.fill.ensures.takes (stays_honest old now c.loop-piece.invariant.preserves honest))
+    takes_then _ _ old now (g.S.Site.state c.fill.new.site) _ _ (c.loop-piece.invariant.so_far honest ended) c.loop-piece.invariant.room (c.loop-piece.invariant.same honest).told (c.loop-piece.invariant.same_end honest ended) (c.loop-piece.invariant.takes honest ended) (c.fill.ensures.takes (stays_honest old now c.loop-piece.invariant.preserves honest))
 
 pub returns-then-is_full-clause-takes : goal.returns-then-is_full-clause-takes
 returns-then-is_full-clause-takes g c honest ended =
     let old = g.S.Site.state c.args.site.now in
     let now = g.S.Site.state c.loop-piece.site in
-    takes_then _ _ old now (g.S.Site.state c.fill.new.site) _ _ (c.loop-piece.invariant.so_far honest ended) (c.loop-piece.invariant.same honest).told (c.loop-piece.invariant.same_end honest ended) (c.loop-piece.invariant.takes honest ended) (c.fill.ensures.takes (stays_honest old now c.loop-piece.invariant.preserves honest))
+    takes_then _ _ old now (g.S.Site.state c.fill.new.site) _ _ (c.loop-piece.invariant.so_far honest ended) c.loop-piece.invariant.room (c.loop-piece.invariant.same honest).told (c.loop-piece.invariant.same_end honest ended) (c.loop-piece.invariant.takes honest ended) (c.fill.ensures.takes (stays_honest old now c.loop-piece.invariant.preserves honest))
 
 pub returns-in-Err-clause-takes : goal.returns-in-Err-clause-takes
 returns-in-Err-clause-takes g c honest ended =
     let old = g.S.Site.state c.args.site.now in
     let now = g.S.Site.state c.loop-piece.site in
-    takes_then _ _ old now (g.S.Site.state c.fill.new.site) _ _ (c.loop-piece.invariant.so_far honest ended) (c.loop-piece.invariant.same honest).told (c.loop-piece.invariant.same_end honest ended) (c.loop-piece.invariant.takes honest ended) (c.fill.ensures.takes (stays_honest old now c.loop-piece.invariant.preserves honest))
+    takes_then _ _ old now (g.S.Site.state c.fill.new.site) _ _ (c.loop-piece.invariant.so_far honest ended) c.loop-piece.invariant.room (c.loop-piece.invariant.same honest).told (c.loop-piece.invariant.same_end honest ended) (c.loop-piece.invariant.takes honest ended) (c.fill.ensures.takes (stays_honest old now c.loop-piece.invariant.preserves honest))
 
 pub returns-then-is_empty-clause-takes : goal.returns-then-is_empty-clause-takes
 returns-then-is_empty-clause-takes g c honest ended =
     let old = g.S.Site.state c.args.site.now in
     let now = g.S.Site.state c.loop-piece.site in
-    takes_then _ _ old now (g.S.Site.state c.fill.new.site) _ _ (c.loop-piece.invariant.so_far honest ended) (c.loop-piece.invariant.same honest).told (c.loop-piece.invariant.same_end honest ended) (c.loop-piece.invariant.takes honest ended) (c.fill.ensures.takes (stays_honest old now c.loop-piece.invariant.preserves honest))
+    takes_then _ _ old now (g.S.Site.state c.fill.new.site) _ _ (c.loop-piece.invariant.so_far honest ended) c.loop-piece.invariant.room (c.loop-piece.invariant.same honest).told (c.loop-piece.invariant.same_end honest ended) (c.loop-piece.invariant.takes honest ended) (c.fill.ensures.takes (stays_honest old now c.loop-piece.invariant.preserves honest))

@@ -2,7 +2,7 @@ use Rattle.std.proofs.Common.{◌≡◌, ◌<◌, length, IsTrue}
 use Rattle.std.specs.Prelude.{false}
 use Rattle.site.specs.Calls.{Preserves}
 use Rattle.site.specs.Faults.{faults_in}
-use Rattle.stream_lines.specs.Lines.{to_hear, total, IsSource, HasEnded, HearsOnly, TakesWithin}
+use Rattle.stream_lines.specs.Lines.{to_hear, total, IsSource, HasEnded, HearsOnly, TakesWithin, long}
 use Rattle.stream_lines.proofs.LineOctets.{HeardSoFar}
 use Rattle.stream_lines.proofs.source.Source.next.Given as goal
 
@@ -16,7 +16,7 @@ invariant-loop-piece g l =
       source : IsSource l.self;
       room : length l.line.items < 1027;
       same : IsTrue old.honest → HearsOnly old now;
-      takes : IsTrue old.honest → HasEnded l.fn.self old → TakesWithin l.fn.self old now;
+      takes : IsTrue old.honest → HasEnded l.fn.self old → TakesWithin long l.fn.self old now;
       count : IsTrue old.honest → total l.self now ≡ total l.fn.self old;
       still : IsTrue old.honest → HasEnded l.fn.self old → HasEnded l.self now;
       going : IsTrue old.honest → HasEnded l.fn.self old → 0 < length l.line.items → l.fn.self.ended ≡ false;
