@@ -2,8 +2,8 @@
 use Rattle.face.proofs.Names.{◌≡◌, ℕ, ◌≤◌, List, [], length, sym, ap, subst, arith, Ok, Err, IsErrOf, HasDone, Resources, Run, answered, first_lines, turns_of, AsksNoMore, LeavesStaged, SkipsNoNumber, staged_by_run, Demands, WearsFirst, WearsNone, WearsNoneBefore, fault_line, Halt, calls_then, CallsForUnits, unsynced_in, SameReads, EachMoment, Site, Image, TellsPart, Dev, Worn}
 use Rattle.face.proofs.Counted.{skips_still}
 use Rattle.face.proofs.Writings.{last_told}
-use Rattle.face.proofs.Pagings.{few_told, leaves_its_queue, leaves_staged, leaves_versions}
-use Rattle.face.proofs.WornRuns.{leaves_its_rings, wears_none}
+use Rattle.face.proofs.Pagings.{done_whole, few_told, leaves_staged}
+use Rattle.face.proofs.WornRuns.{wears_none}
 use Rattle.front_end.specs.declared.halt.Halt.TheVariants as halt
 
 no_error : {T : Type 0} (x : T) (h : Halt) → IsErrOf {T = T} (Ok x) h → ⊥
@@ -40,10 +40,6 @@ module _ (pool : ℕ) (run : Run) (old mid new : Site) (image : new.image ≡ mi
 
   pub demands_failed : {T : Type 0} (h : Halt) → Demands {T = T} pool run old mid (Err h) → Demands {T = T} pool run old new (Err h)
   demands_failed h d = demands_err pool run old new h (λ dev e. d.worn dev (ap Err e)) (skips_still run piece old mid new tells d.numbers) (still_reads d.reads)
-
--- where these are all of its lines
-pub done_whole : (pool : ℕ) (run : Run) (n : ℕ) → length (answered run) ≤ n → (old now : Image) → HasDone pool (first_lines run n) old now → HasDone pool run old now
-done_whole pool run n all old now d = record { frames = leaves_its_queue pool run n all old now d.frames; versions = leaves_versions pool run n all old now d.versions; rings = leaves_its_rings pool run n all old now d.rings }
 
 -- by the status, of a run of which so many lines were begun
 module _ (pool : ℕ) (run : Run) (n : ℕ) (old new : Site) where

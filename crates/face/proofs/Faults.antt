@@ -11,7 +11,7 @@ use Rattle.face.proofs.Runs.{texts_count}
 use Rattle.face.proofs.Meanings.{stands_by}
 use Rattle.face.proofs.Dones.{done_fault, done_same}
 use Rattle.face.proofs.Statuses.{not_zero, of_five, of_seven, output_or_not, worn_by}
-use Rattle.face.proofs.SerialRuns.{run_is_serial, told_is_serial}
+use Rattle.face.proofs.SerialRuns.{answers_alone}
 use Rattle.face.proofs.Ranges.{IsFault, is_left, all_text}
 use Rattle.face.proofs.Written.{written_same, written_told}
 use Rattle.front_end.specs.declared.halt.Halt.TheVariants as halt
@@ -174,10 +174,7 @@ module _ (pool : ℕ) (g : Geometry) (opening : State) (listings : List (List Ca
           tells = done_fault pool own works.heard (fault_line h) old mid new (⊎_elim (λ output. inl (ap fault_line output)) (λ ne. inr (whole_told mid h works ne)) (output_or_not h))
               (done_same pool run lines works.heard heard.same (fault_line h) old mid works.tells) (told.hands honest);
         };
-        order = record {
-          serial = run_is_serial law g opening old good works.ended works.octets listings;
-          serial_told = told_is_serial g opening old good works.ended works.octets listings;
-        };
+        order = answers_alone law g opening old good works.ended works.octets listings;
       }
 
   pub finished : {T : Type 0} → Serial → (new : Site) (x : T) → IsGood g opening old → RunOutcome pool run old new (Ok x) → Headline pool g opening old new 0
@@ -218,10 +215,7 @@ module _ (pool : ℕ) (g : Geometry) (opening : State) (listings : List (List Ca
           written = written_same pool run lines works.heard same old new works.written;
           tells = done_same pool run lines works.heard same [] old new works.tells;
         };
-        order = record {
-          serial = run_is_serial law g opening old good works.ended works.octets listings;
-          serial_told = told_is_serial g opening old good works.ended works.octets listings;
-        };
+        order = answers_alone law g opening old good works.ended works.octets listings;
       }
 
 true_not_false : true ≡ false → ⊥

@@ -6,14 +6,14 @@ pub mod CauseLaws
 pub mod CommandLaws
 pub mod Counted
 mod Cuts
-pub mod Demanded
+mod Demanded
 mod Dones
 mod Ends
 mod Faults
 mod Fronts
 pub mod Going
 mod Hearings
-pub mod Lefts
+mod Lefts
 pub mod LinesBeforeQuit
 mod Listed
 mod Lives
@@ -21,28 +21,28 @@ mod Livings
 mod LoadCounts
 mod LoadFaults
 mod Loadings
-pub mod Logs
+mod Logs
 mod Longer
 pub mod Meanings
 mod MemoryLaws
-pub mod NextUnits
+mod NextUnits
 mod Openings
 pub mod Pagings
-pub mod Quiet
-pub mod Ranges
+mod Quiet
+mod Ranges
 mod RestartGroups
 mod RingCounts
 mod RingLives
-pub mod Runs
+mod Runs
 pub mod RunsSoFar
 mod SerialRuns
 pub mod Serving
 mod Statuses
 mod ToldFaults
 mod Trials
-pub mod Turns
+mod Turns
 mod Waits
 mod WornFronts
 pub mod WornRuns
 mod Writings
-pub mod Written
+mod Written

@@ -3,9 +3,10 @@ use Rattle.face.proofs.Names.{◌≡◌, ◌≢◌, ◌⊎◌, inl, inr, ⊎_eli
 use Rattle.face.proofs.WornFronts.{never_worn_within}
 use Rattle.face.proofs.CallCounts.{calls_told}
 use Rattle.face.proofs.Dones.{none_behind}
-use Rattle.face.proofs.Demanded.{asked_done, asked_halted, done_whole, demands_done, demands_err, demands_failed, demands_lost}
+use Rattle.face.proofs.Demanded.{asked_done, asked_halted, demands_done, demands_err, demands_failed, demands_lost}
 use Rattle.face.proofs.Statuses.{not_zero, of_five, of_seven, output_or_not, worn_by}
 use Rattle.face.proofs.Meanings.{stands_by}
+use Rattle.face.proofs.Pagings.{done_whole}
 use Rattle.face.proofs.Written.{leaves_told, made_behind, written_behind}
 use Rattle.front_end.specs.declared.halt.Halt.TheVariants as halt
 

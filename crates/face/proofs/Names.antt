@@ -22,21 +22,21 @@ pub use Rattle.engine.specs.SeenVersions.{WhereItFits, VersionsAreSeen}
 pub use Rattle.engine.specs.declared.engine.Engine.{Engine}
 pub use Rattle.face.specs.Carrying.{CarriesOut, HandsReply, CarriesUntold, TellsAnswer, DoesLine, LinePerforms, LineStepsMachine, halted}
 pub use Rattle.face.specs.Causes.{HasCause, HasCauses, AnswerFailsBy, EndsInTime, FailsBy, IsWornOut, WorkEnds}
-pub use Rattle.face.specs.Done.{HasDone, TellsDone, lines_at, TellsWhenDone}
-pub use Rattle.face.specs.Headline.{IsGood, TellsFault, Durability, Headline, ran, IsSerialRun, IsSerialTold, IsToldWhole, Resources}
+pub use Rattle.face.specs.Done.{HasDone, HasDoneBy, TellsDone, lines_at, TellsWhenDone}
+pub use Rattle.face.specs.Headline.{IsGood, TellsFault, Durability, Headline, ran, AnswersAlone, IsToldWhole, Resources}
 pub use Rattle.face.specs.Image.{BlankLaw, OneMeaning, OneOpening, OpensWhereItStands}
 pub use Rattle.face.specs.Lives.{LawOfLives, OpensAgain, LawOfLoads, LoadOpensAgain, OpensAfter}
 pub use Rattle.face.specs.Living.{Ends, HasLivedOne, Finds, IsHaltOfTrial, KeepsDevices, IsFoundAfter, IsGivenUp, IsReady}
 pub use Rattle.face.specs.Loads.{HasMadeBefore, IsLeftOf, LoadInProgress, LoadTellsDone, LoadWorks, HasBegunLoad, HasCounted, IsOpened, IsUntold, LoadHeadline, LoadStops, TellsOpening, Allows}
 pub use Rattle.face.specs.Run.{Run, first_lines, answered, step, turns_of, state_at, listing_at, after_lines, IsFront, StandsFor, LeavesAnswer, Begins, StandsAt, line_checkpoints, AsksFew, IsAsked, checkpoints_of, line_log_reads, listings_left, works_of}
 pub use Rattle.face.specs.RunInProgress.{GoesOn, HasAnswered, HasServed, IsPaged, NeverOpens, RunInProgress, IsCounted, IsUnderWay}
-pub use Rattle.face.specs.RunMeaning.{first_texts, IsLeft, texts, AsksNoMore, run_of, StandsAfter, cache_by, text_at, IsToldOf, run_text, GivesNumbers, ListsTheMachine, SkipsNoNumber, WritesAsBegun, made_by, staged_by_run, HasBegun, IsWhole, LeavesStaged, all_commits, HasToldBefore, LeavesItsQueue, LeavesVersions, WritesAsTold, WritesSoFar, blocks_by, log_reads_in, masters_by, works_by}
+pub use Rattle.face.specs.RunMeaning.{first_texts, IsLeft, texts, AsksNoMore, run_of, StandsAfter, cache_by, text_at, IsToldOf, run_text, GivesNumbers, ListsTheMachine, SkipsNoNumber, WritesAsBegun, made_by, staged_by_run, HasBegun, IsWhole, LeavesStaged, all_commits, HasToldBefore, WritesAsTold, WritesSoFar, blocks_by, log_reads_in, masters_by, works_by}
 pub use Rattle.face.specs.TopCall.{LoadContract, RunContract, NewContract}
 pub use Rattle.face.specs.Trial.{life_line, numbers_of, Between, IsLived, IsNewSite, HaveLived, IsCut, IsLife, IsStatus, IsTextOf, Lives, TellsAll, TellsSome, TrialCauses, TrialContract, at_first, is_within, life_run, script_limit}
 pub use Rattle.face.specs.Waiting.{IsAnswered, NobodyWaits}
 pub use Rattle.face.specs.Working.{StandsNear, HasHeard, Demands, RunOutcome, AnswersFirst, IsEarly, Stops, StopsTaking, TakingFails, asked_after, log_reads_after, HasTakenAll, IsBetween}
 pub use Rattle.face.specs.Workload.{load_run, summary_text, checkpoints_in, makes_one, opening_text, get_line, has_passed, set_line, committed_in, found_in, get_lines, is_value, load_texts, set_lines, summary_of}
-pub use Rattle.face.specs.Worn.{WearsNone, WearsFirst, worn_by, WearsNoneBefore, rings_of, IsMirrored, rings_by, HasRings, LeavesItsRings, machine_by}
+pub use Rattle.face.specs.Worn.{WearsNone, WearsFirst, worn_by, WearsNoneBefore, rings_of, IsMirrored, rings_by, HasRings, machine_by}
 pub use Rattle.flash_cache.specs.Representation.{IsWorn, start_reads}
 pub use Rattle.front_end.proofs.Endings.{ends_with, ends_whole, refuses_devices, ends_done, only_tells}
 pub use Rattle.front_end.proofs.Firsts.{first_halted, first_none, first_line}

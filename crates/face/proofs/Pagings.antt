@@ -1,5 +1,5 @@
 -- What a run asks of the page cache, line by line.
-use Rattle.face.proofs.Names.{◌≡◌, ℕ, suc, ◌+◌, ◌≤◌, Bool, true, false, List, [], ◌∷◌, ◌++◌, length, drop, arith, refl, sym, ap, subst, ◌∙◌, append_assoc, ◌-◌, Result, Ok, Option, if◌then◌else◌, append-nil, Master, still_writes, sizes_of, QueueIsOnFlash, restart_log_reads, WritesFrom, restart_works, cache_on, AsksFrom, Matches, WhereItFits, VersionsAreSeen, Engine, Run, answered, first_lines, step, after_lines, state_at, works_of, AsksFew, turns_of, line_log_reads, IsPaged, cache_by, LeavesStaged, LeavesItsQueue, LeavesVersions, log_reads_in, asked_after, log_reads_after, start_reads, HearsOnly, commands_of, up_to_quit, logical_image_under, LogRecord, PageStore, Line, Turn, is_quit, left_by, turns, next_listing, later_listings, State, CacheOp, line_touches, run_touches, CacheLine, ReadsFor, NumbersRise, Rules, rules_of, after_works, Cache, unchanged, SameReads, EachMoment, Site, Image, IsQuiet, TellsPart, Geometry, Flash, Disk, Log, Stop}
+use Rattle.face.proofs.Names.{◌≡◌, ℕ, suc, ◌+◌, ◌≤◌, Bool, true, false, List, [], ◌∷◌, ◌++◌, length, drop, arith, refl, sym, ap, subst, ◌∙◌, append_assoc, ◌-◌, Result, Ok, Option, if◌then◌else◌, append-nil, Master, still_writes, sizes_of, QueueIsOnFlash, restart_log_reads, WritesFrom, restart_works, cache_on, AsksFrom, Matches, WhereItFits, VersionsAreSeen, Engine, Run, answered, first_lines, step, after_lines, state_at, works_of, AsksFew, turns_of, line_log_reads, IsPaged, cache_by, LeavesStaged, HasDone, log_reads_in, asked_after, log_reads_after, start_reads, HearsOnly, commands_of, up_to_quit, logical_image_under, LogRecord, PageStore, Line, Turn, is_quit, left_by, turns, next_listing, later_listings, State, CacheOp, line_touches, run_touches, CacheLine, ReadsFor, NumbersRise, Rules, rules_of, after_works, Cache, unchanged, SameReads, EachMoment, Site, Image, IsQuiet, TellsPart, Geometry, Flash, Disk, Log, Stop}
 use Rattle.second_chance.specs.Machine.{opened}
 use Rattle.face.proofs.Writings.{writes_told, writes_heard}
 use Rattle.face.proofs.Fronts.{first_commands, state_by_turns, whole_turns}
@@ -151,9 +151,5 @@ leaves_staged pool run n few old new last newest blocks sound = grind (arith, wh
 
 -- Where all of a run's lines are among the first ones, what holds of these holds of it.
 module _ (pool : ℕ) (run : Run) (n : ℕ) (few : length (answered run) ≤ n) (image : Image) where
-  pub leaves_its_queue : (now : Image) → LeavesItsQueue pool (first_lines run n) image now → LeavesItsQueue pool run image now
-  leaves_its_queue now queue newest blocks sound = queue newest blocks sound ∙ ap (λ (l : List Turn). opened (cache_by pool run l newest image blocks).queue) (whole_turns run n few)
-
-  pub leaves_versions : (now : Image) → LeavesVersions pool (first_lines run n) image now → LeavesVersions pool run image now
-  leaves_versions now seen newest blocks sound =
-      subst (λ (l : List Turn). VersionsAreSeen run.geometry (cache_by pool run l newest image blocks).pool now (left_by run.opening l)) (whole_turns run n few) (seen newest blocks sound)
+  pub done_whole : (now : Image) → HasDone pool (first_lines run n) image now → HasDone pool run image now
+  done_whole now done newest blocks sound = grind (arith, whole_turns)

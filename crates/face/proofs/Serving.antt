@@ -15,10 +15,10 @@ use Rattle.front_end.specs.declared.halt.Halt.TheVariants as halt
 pub done_by : (pool : ℕ) (run : Run) (entry mid : Site) (engine : Engine) (i : ℕ) → QueueIsOnFlash → WhereItFits → Matches engine mid (state_at run i) → Invariant engine mid → sizes_of engine.store ≡ run.geometry
     → ((newest : Option Master) (blocks : List (List LogRecord)) → IsSound newest run.geometry entry.image blocks → IsPaged pool run newest entry.image blocks engine i)
     → ((newest : Option Master) (blocks : List (List LogRecord)) → IsSound newest run.geometry entry.image blocks → IsMirrored pool run newest entry.image blocks engine mid i) → AsksNoMore pool (first_lines run i) entry mid → HasDone pool (first_lines run i) entry.image mid.image
-done_by pool run entry mid engine i queue seen fits going geometry paged mirrored reads = record {
-  frames = λ newest blocks sound. paged_queue pool run newest entry.image blocks queue engine mid (state_at run i) i fits geometry (paged newest blocks sound);
-  versions = λ newest blocks sound. paged_versions pool run newest entry.image blocks seen engine mid i fits geometry (paged newest blocks sound);
-  rings = λ newest blocks sound. rings_left pool run newest blocks i engine entry mid mid.image (state_at run i) sound (paged newest blocks sound) reads (mirrored newest blocks sound) fits going geometry refl;
+done_by pool run entry mid engine i queue seen fits going geometry paged mirrored reads newest blocks sound = record {
+  frames = paged_queue pool run newest entry.image blocks queue engine mid (state_at run i) i fits geometry (paged newest blocks sound);
+  versions = paged_versions pool run newest entry.image blocks seen engine mid i fits geometry (paged newest blocks sound);
+  rings = rings_left pool run newest blocks i engine entry mid mid.image (state_at run i) sound (paged newest blocks sound) reads (mirrored newest blocks sound) fits going geometry refl;
 }
 
 -- So many lines were carried out.

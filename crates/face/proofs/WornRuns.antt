@@ -1,6 +1,6 @@
 -- Runs as work of the machine of the rings.
 use Rattle.std.proofs.lemmas.Grind.{flat_map-append}
-use Rattle.face.proofs.Names.{◌≡◌, ℕ, suc, ◌+◌, ◌-◌, ◌*◌, ◌==◌, ◌≤◌, arith, Bool, true, false, List, [], ◌∷◌, ◌++◌, length, drop, take, append_assoc, Option, Some, None, refl, sym, ap, subst, ◌∙◌, Ok, if◌then◌else◌, ◌/◌, eqb_tells, length-map, ⊤, Master, IsSound, Invariant, sizes_of, cache_on, Matches, machine_on, Engine, Run, after_lines, answered, first_lines, state_at, step, turns_of, IsPaged, AsksNoMore, works_by, IsMirrored, WearsNone, rings_by, rings_of, worn_by, HasRings, LeavesItsRings, machine_by, up_to_quit, group_shape, segment_shape, logical_image_under, AreSegments, LogRecord, WritesOnly, SavesBefore, Line, Turn, turns, next_listing, later_listings, State, is_accepted, is_page_full, CacheLine, numbers_rise, hi_on, MirrorsStore, performs_as, performs_answered, first_stopped, line_work, run_work, Machine, RingOp, first_worn, Performs, restart_work, hi_of, Rules, Staged, rules_of, after_works, staged_by_works, holds_now, Site, Image, Snapshot, Geometry}
+use Rattle.face.proofs.Names.{◌≡◌, ℕ, suc, ◌+◌, ◌-◌, ◌*◌, ◌==◌, ◌≤◌, arith, Bool, true, false, List, [], ◌∷◌, ◌++◌, length, drop, take, append_assoc, Option, Some, None, refl, sym, ap, subst, ◌∙◌, Ok, if◌then◌else◌, ◌/◌, eqb_tells, length-map, ⊤, Master, IsSound, Invariant, sizes_of, cache_on, Matches, machine_on, Engine, Run, after_lines, answered, first_lines, state_at, step, turns_of, IsPaged, AsksNoMore, works_by, IsMirrored, WearsNone, rings_by, rings_of, worn_by, HasRings, machine_by, up_to_quit, group_shape, segment_shape, logical_image_under, AreSegments, LogRecord, WritesOnly, SavesBefore, Line, Turn, turns, next_listing, later_listings, State, is_accepted, is_page_full, CacheLine, numbers_rise, hi_on, MirrorsStore, performs_as, performs_answered, first_stopped, line_work, run_work, Machine, RingOp, first_worn, Performs, restart_work, hi_of, Rules, Staged, rules_of, after_works, staged_by_works, holds_now, Site, Image, Snapshot, Geometry}
 use Rattle.record_model.specs.declared.words.Command.TheVariants.{Stat, Quit, Cache, Mark}
 use Rattle.std.proofs.Common.{append-nil}
 use Rattle.second_chance.specs.Machine.{next_group}
@@ -128,6 +128,3 @@ none_mirrored pool run newest image blocks engine site i mirrored = (mirrored.do
 
 pub wears_none : (pool : ℕ) (run : Run) (n : ℕ) → length (answered run) ≤ n → (image : Image) → WearsNone pool (first_lines run n) image → WearsNone pool run image
 wears_none pool run n few image none newest blocks sound = subst (λ (l : List Turn). worn_by pool run l newest image blocks ≡ None) (whole_turns run n few) (none newest blocks sound)
-
-pub leaves_its_rings : (pool : ℕ) (run : Run) (n : ℕ) → length (answered run) ≤ n → (image now : Image) → LeavesItsRings pool (first_lines run n) image now → LeavesItsRings pool run image now
-leaves_its_rings pool run n few image now left newest blocks sound = grind (arith, whole_turns)

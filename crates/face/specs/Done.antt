@@ -1,21 +1,34 @@
 -- What is done when something is told.
-use Rattle.std.specs.Prelude.{◌≡◌, ◌⊎◌, ℕ, ◌≤◌, List, [], ◌∷◌, ◌++◌, take, map, flat_map, slice_index_or}
+use Rattle.std.specs.Prelude.{◌≡◌, ◌⊎◌, ℕ, ◌≤◌, List, [], ◌∷◌, ◌++◌, take, map, flat_map, slice_index_or, Option}
 use Rattle.site.specs.State.{State as Site, Image, Moment}
 use Rattle.site.specs.Telling.{HandsLine}
-use Rattle.record_model.specs.Run.{replies}
+use Rattle.record_model.specs.Run.{left_by, replies}
+use Rattle.log_records.specs.declared.log_record.LogRecord.{LogRecord}
+use Rattle.checkpoint.specs.declared.master.Master.{Master}
+use Rattle.second_chance.specs.Machine.{opened}
+use Rattle.engine.specs.Image.{IsSound}
+use Rattle.engine.specs.Paging.{cache_on}
+use Rattle.engine.specs.SeenVersions.{VersionsAreSeen}
 use Rattle.shell_text.specs.Texts.{open_text, reply_lines}
 use Rattle.front_end.specs.Tells.{HandsOneOf}
 use Rattle.face.specs.Run.{Run, first_lines, turns_of}
-use Rattle.face.specs.RunMeaning.{LeavesItsQueue, LeavesVersions, first_texts, texts}
-use Rattle.face.specs.Worn.{LeavesItsRings}
+use Rattle.face.specs.RunMeaning.{cache_by, first_texts, texts}
+use Rattle.face.specs.Worn.{HasRings, machine_by}
 
--- What the run asks of the devices stands there: the frames on flash are those that the cache machine has in its queue,
--- the versions of pages that its pool doesn't hold as changed show what is seen of each record, and the log has as many
--- blocks and master units as the machine of the rings appends.
-pub record HasDone (pool : ℕ) (run : Run) (old now : Image) : Type 0 where
-  pub frames : LeavesItsQueue pool run old now
-  pub versions : LeavesVersions pool run old now
-  pub rings : LeavesItsRings pool run old now
+-- What the run asks of the devices stands there. The frames on flash are those of the cache machine's queue, in its
+-- groups and with its dirty marks, as a restart would find it. Of each record whose page the machine's pool doesn't
+-- hold as changed that page's version has what is seen of it, by the session that has written it, or in the table. And
+-- a block is sealed, a master unit saved, a group appended for each of the machine of the rings, no segment early.
+pub record HasDoneBy (pool : ℕ) (run : Run) (newest : Option Master) (blocks : List (List LogRecord)) (old now : Image)
+    : Type 0 where
+  pub frames : cache_on run.geometry now ≡ opened (cache_by pool run (turns_of run) newest old blocks).queue
+  pub versions : VersionsAreSeen run.geometry (cache_by pool run (turns_of run) newest old blocks).pool now
+      (left_by run.opening (turns_of run))
+  pub rings : HasRings run.geometry (machine_by pool run (turns_of run) newest old blocks) old now
+
+abbrev pub HasDone : ℕ → Run → Image → Image → Type 0
+HasDone pool run old now = (newest : Option Master) (blocks : List (List LogRecord)) →
+    IsSound newest run.geometry old blocks → HasDoneBy pool run newest blocks old now
 
 -- the lines of each of its texts
 abbrev pub lines_at : Run → ℕ → List (List ℕ)

@@ -49,19 +49,6 @@ pub record IsToldWhole (run : Run) (fault : List ℕ) (old new : Site) : Type 0 
   pub told : new.told ≡ old.told ++ (run_text run ++ rest)
   pub front : IsFront rest fault
 
--- each transaction of the run answers as if it had run alone, on the table of the commits before its own, and leaves
--- that of its commit, and each get answers what the table has
-abbrev pub IsSerialRun : Run → Type 0
-IsSerialRun run =
-    (earlier later : List Turn) (t : Turn) → turns_of run ≡ earlier ++ t ∷ later →
-    IsSerial run.opening.table run.opening.commits earlier later t
-
--- and the lines of each are told what a run of them alone would tell
-abbrev pub IsSerialTold : Run → Type 0
-IsSerialTold run =
-    (earlier later : List Turn) (t : Turn) → turns_of run ≡ earlier ++ t ∷ later →
-    IsToldSerial run.opening (texts run) earlier later t
-
 -- What a run leaves that opens with this state, and what a crash at any moment of it leaves.
 pub record Durability (g : Geometry) (opening : State) (old new : Site) (status : ℕ) : Type 0 where
   -- the octets that were taken, and whether a take has answered that the input ended
@@ -133,14 +120,17 @@ pub record RunResources (pool : ℕ) (run : Run) (fault : List ℕ) (old new : S
   -- nothing is told but what is done, nor less at a time than is left of a line
   pub tells : EachMoment old new (TellsDone pool run begun fault old)
 
--- its transactions are in serial order, and so is what it tells of them
-pub record SerialOrder (run : Run) : Type 0 where
-  pub serial : IsSerialRun run
-  pub serial_told : IsSerialTold run
+-- Each of its transactions answers as if it had run alone, on the table of the commits before its own, and leaves that
+-- of its commit, and each get answers what the table has; and the lines of each are told what a run of them alone would
+-- tell.
+pub record AnswersAlone (run : Run) (earlier : List Turn) (t : Turn) (later : List Turn) : Type 0 where
+  pub serial : IsSerial run.opening.table run.opening.commits earlier later t
+  pub serial_told : IsToldSerial run.opening (texts run) earlier later t
 
 -- What comes of a run with a pool of so many pages that opens with this state.
 pub record Headline (pool : ℕ) (g : Geometry) (opening : State) (old new : Site) (status : ℕ) : Type 0 where
   pub durability : Durability g opening old new status
   pub caused : IsFaultOf status durability.fault old new
   pub resources : RunResources pool (ran durability) durability.fault old new status
-  pub order : SerialOrder (ran durability)
+  pub order : (earlier later : List Turn) (t : Turn) → turns_of (ran durability) ≡ earlier ++ t ∷ later →
+      AnswersAlone (ran durability) earlier t later

@@ -51,8 +51,8 @@ pub record IsPaged (pool : ℕ) (run : Run) (newest : Option Master) (image : Im
   pub rules_are : rules engine.store.pages ≡ rules_of pool run.geometry.groups
 
 -- The rings on the log's device have had no more numbers than the run has records and checkpoints so far, over an image
--- whose log has these records, and no more calls were made than the units that were appended and the texts that were
--- told need.
+-- whose log has these records; and the calls that write and sync are exactly five for each unit, and those that staged
+-- frames, with at most one tell an octet.
 pub record IsCounted (run : Run) (records : List Entry) (old now : Site) (engine : Engine) (lines : ℕ) : Type 0 where
   pub log : blocks_to engine.store.log ≤ blocks_by (first_lines run lines) records old.image
   pub numbers : LeavesOnly old now (λ s. GivesNumbers (first_lines run lines) records old.image s.image)

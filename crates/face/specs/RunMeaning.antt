@@ -13,7 +13,7 @@ use Rattle.record_model.specs.Touches.{CacheOp, run_touches}
 use Rattle.log_records.specs.declared.log_record.LogRecord.{LogRecord}
 use Rattle.checkpoint.specs.declared.master.Master.{Master}
 use Rattle.image_meaning.specs.Meaning.{logical_image_under}
-use Rattle.second_chance.specs.Machine.{Cache, Staged, rules_of, after_works, staged_by_works, listing, opened}
+use Rattle.second_chance.specs.Machine.{Cache, Staged, rules_of, after_works, staged_by_works, listing}
 use Rattle.page_store.specs.Staging.{WritesOnly}
 use Rattle.redo_laws.specs.MachineSteps.{next_group}
 use Rattle.redo_laws.specs.Numbers.{HasNumbers}
@@ -21,7 +21,6 @@ use Rattle.site.specs.Moments.{LeavesOnly}
 use Rattle.engine.specs.Paging.{HasStagedFrom, restart_works, cache_on}
 use Rattle.engine.specs.Image.{IsSound, Stands, log_under}
 use Rattle.engine.specs.LogReads.{restart_log_reads}
-use Rattle.engine.specs.SeenVersions.{VersionsAreSeen}
 use Rattle.sealed_ring.specs.Ring.{hi_of}
 use Rattle.image_changes.specs.Rings.{log_shape, master_shape}
 use Rattle.log_records.specs.Log.{Entry}
@@ -117,22 +116,7 @@ staged_by_run pool run done newest image blocks =
     staged_by_works (rules_of pool run.geometry.groups) (works_by run done newest image blocks)
     (cache_on run.geometry image)
 
--- when it is over the frames on flash are those of the machine's queue, in its groups and with its dirty marks, as a
--- restart would find it
-abbrev pub LeavesItsQueue : ℕ → Run → Image → Image → Type 0
-LeavesItsQueue pool run old now = (newest : Option Master) (blocks : List (List LogRecord)) →
-    IsSound newest run.geometry old blocks → cache_on run.geometry now
-    ≡ opened (cache_by pool run (turns_of run) newest old blocks).queue
-
--- and of each record whose page the machine's pool doesn't hold as changed the slot of that page's version has what is
--- seen of it: by the session that has written it, or in the table where none has
-abbrev pub LeavesVersions : ℕ → Run → Image → Image → Type 0
-LeavesVersions pool run old now = (newest : Option Master) (blocks : List (List LogRecord)) →
-    IsSound newest run.geometry old blocks →
-    VersionsAreSeen run.geometry (cache_by pool run (turns_of run) newest old blocks).pool now
-    (left_by run.opening (turns_of run))
-
--- and the disk has of the frames that the run stages those that were staged last, by no calls but theirs
+-- the disk has of the frames that the run stages those that were staged last, by no calls but theirs
 abbrev pub LeavesStaged : ℕ → Run → Site → Site → Type 0
 LeavesStaged pool run old new = (newest : Option Master) (blocks : List (List LogRecord)) →
     IsSound newest run.geometry old.image blocks →
@@ -156,13 +140,8 @@ log_reads_in (t ∷ turns) = line_log_reads t.before t.line + log_reads_in turns
 abbrev pub log_reads_by_turns : Run → List Turn → Option Master → List (List LogRecord) → ℕ
 log_reads_by_turns run done newest blocks = restart_log_reads run.geometry newest blocks + log_reads_in done
 
--- No more is read and written than the run asks for. A crash at any moment leaves no more groups than it appends, and
--- each disk page that it doesn't stage as it was at entry. Pages are read, of flash at most one for each touch that
--- finds its page there, twelve for each group that is appended, and as many as a start may read; of the disk at most
--- one for each touch that misses its page on flash. Of the log each slot is read once and each kept block once more,
--- six reads beside them, and one for each Update that the restart undoes; for each session that a line aborts one and
--- one more for each write that it ever made; and for each line that goes back one for each write that it drops, and for
--- each that the session has dropped before.
+-- No more is read and written than the run asks for: pages by its work on the page cache, the log by its restart and
+-- its lines.
 abbrev pub AsksNoMore : ℕ → Run → Site → Site → Type 0
 AsksNoMore pool run old new =
     (newest : Option Master) (blocks : List (List LogRecord)) → IsSound newest run.geometry old.image blocks

@@ -66,13 +66,6 @@ pub record HasRings (g : Geometry) (m : Machine) (old image : Image) : Type 0 wh
   pub groups : hi_of (group_shape g) image.flash ≡ next_group m.cache
   pub segments : hi_of (segment_shape g) image.flash ≡ segments_behind g old (next_group m.cache)
 
--- When it is over they have those to which the machine comes: a block is sealed where the machine seals one, a master
--- unit saved for each checkpoint, a group appended where the machine pushes one, and no segment saved early.
-abbrev pub LeavesItsRings : ℕ → Run → Image → Image → Type 0
-LeavesItsRings pool run old now = (newest : Option Master) (blocks : List (List LogRecord)) →
-    IsSound newest run.geometry old blocks →
-    HasRings run.geometry (machine_by pool run (turns_of run) newest old blocks) old now
-
 -- what lines ask of log and cache, whatever the cache lists
 abbrev pub rings_of : State → List Line → List RingOp
 rings_of s [] = []
