@@ -6,6 +6,8 @@ use Rattle.name_table.specs.declared.tidying.TidyAsk.{TidyAsk}
 use Rattle.name_table.specs.declared.tidying.TidyAsk.TheVariants as asks
 use Rattle.record_model.specs.State.{Content, content_at}
 use Rattle.record_model.specs.Names.{bucket_count, bucket_at, names, IsWellFormed}
+use Rattle.record_model.specs.declared.names.Job.TheVariants.{Find}
+use Rattle.name_table.specs.Laws.{reached}
 use Rattle.name_table.specs.Tidying.{Tidying, tidy_changed, up, leads_over, looks, tidy_over, tidy_ask, with_change, AsksRead}
 
 -- the bucket so many steps up from a place
@@ -127,3 +129,8 @@ pub record KeepsNames (table : List Content) (next : TidyAsk) : Type 0 where
 abbrev pub TidiesKeepNames : Type 0
 TidiesKeepNames = (table : List Content) (from : ℕ) → 1 ≤ bucket_count table → IsWellFormed table →
     KeepsNames table (tidy_ask (tidy_over table from))
+
+-- Over any table, of strange buckets too, a find answers behind it what it answered before.
+abbrev pub FindsStay : Type 0
+FindsStay = (table : List Content) (from : ℕ) (name : List ℕ) → 1 ≤ bucket_count table →
+    reached (with_change (tidy_ask (tidy_over table from)) table) Find name ≡ reached table Find name

@@ -1,5 +1,5 @@
 // Facts about tidies. The functions do nothing: each states its law as a clause.
-ghost use Rattle.name_table.specs.Tidies.{TidiesAreTold, TidiesKeepNames};
+ghost use Rattle.name_table.specs.Tidies.{TidiesAreTold, TidiesKeepNames, FindsStay};
 ghost use Rattle.name_table.specs.TidyRows.{EndOfARun, MovingBack, AroundTheEnd, AtHome, FullTable, NothingToDo};
 ghost use Rattle.name_table.specs.TidyRows.{StrangeBuckets};
 
@@ -14,6 +14,11 @@ pub fn tidies_are_told()
 /// and one tombstone fewer where it freed one.
 pub fn tidies_keep_names()
     ensures { TidiesKeepNames }
+{}
+
+/// Over any table each find answers behind a tidy what it answered before.
+pub fn finds_stay()
+    ensures { FindsStay }
 {}
 
 /// Tidies that were worked out by hand.
