@@ -72,9 +72,6 @@ module _ (f : ℕ → Bucket) (n : ℕ) (some : 0 < n) (tombstone : ℕ) (under 
   home_low : home name n < n
   home_low = mod-lt _ some
 
-  at : ℕ
-  at = way (home name n) tombstone n
-
   at_low : way (home name n) tombstone n < n
   at_low = mod-lt _ some
 

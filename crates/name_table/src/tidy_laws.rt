@@ -4,14 +4,14 @@ ghost use Rattle.name_table.specs.TidyRows.{EndOfARun, MovingBack, AroundTheEnd,
 ghost use Rattle.name_table.specs.TidyRows.{StrangeBuckets};
 
 /// Over any table a tidy comes to the first tombstone, of 64 buckets at most, and frees it, or moves into it the first
-/// entry behind it, before the next free bucket, whose way from home leads over it. It reads 63 values at most more than
-/// there are buckets.
+/// entry behind it, before the next free bucket, whose way from home leads over it. It reads at most 63 values more
+/// than there are buckets.
 pub fn tidies_are_told()
     ensures { TidiesAreTold }
 {}
 
-/// Over a well-formed table a tidy, with the change made that it asks for, leaves a well-formed table with the same names,
-/// and one tombstone fewer where it freed one.
+/// Over a well-formed table a tidy, with the change made that it asks for, leaves a well-formed table with the same
+/// names, and one tombstone fewer where it freed one.
 pub fn tidies_keep_names()
     ensures { TidiesKeepNames }
 {}
