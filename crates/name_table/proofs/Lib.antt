@@ -8,3 +8,4 @@ pub mod FirstLaws
 pub mod MetLaws
 pub mod TidyRuns
 pub mod TidyLaws
+pub mod TidyFinds

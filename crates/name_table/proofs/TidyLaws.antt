@@ -6,7 +6,7 @@ use Rattle.std.proofs.lemmas.List.{get_or-set_other, get_or-set_same, length-set
 use Rattle.name_table.specs.declared.tidying.TidyAsk.{TidyAsk}
 use Rattle.name_table.specs.declared.tidying.TidyAsk.TheVariants as asks
 use Rattle.name_table.specs.Tidying.{Tidying, up, way, leads_over}
-use Rattle.name_table.specs.Tidies.{Stays, Frees, Behind, frees, moves, halts, TidyEnds, finds_none, meets_one, TidiesKeepNames, KeepsNames, tombstones, tombstones_among, one_tombstone}
+use Rattle.name_table.specs.Tidies.{Stays, Frees, Moves, Behind, frees, moves, halts, TidyEnds, finds_none, meets_one, TidiesKeepNames, KeepsNames, tombstones, tombstones_among, one_tombstone}
 use Rattle.name_table.proofs.Ring.{around, steps_to}
 use Rattle.name_table.proofs.Values.{stands, stands_alike, under_other}
 use Rattle.name_table.proofs.Changes.{Changed, entries_differ, not_free, not_tombstone}
@@ -228,6 +228,64 @@ module _ (table changed : List Content) (counts : bucket_count changed ≡ bucke
   table_tombstones : tombstones changed ≡ tombstones_among (buckets_of changed (bucket_count table)) (bucket_count table)
   table_tombstones = ap (λ (n : ℕ). tombstones_among (buckets_of changed n) n) counts
 
+-- A tombstone of a table is freed, or an entry moves into it.
+module _ (table : List Content) (tombstone : ℕ) (under : tombstone < bucket_count table) (is : bucket_at table tombstone ≡ Tombstone) where
+  fits : bucket_count table + tombstone < length table
+  fits = omega arith
+
+  abbrev pub freed : List Content
+  freed = slice_set table (bucket_count table + tombstone) None
+
+  pub freed_count : bucket_count freed ≡ bucket_count table
+  freed_count = set_count table (bucket_count table + tombstone) None
+
+  pub freed_change : Changed (bucket_at table) (buckets_of freed (bucket_count table)) tombstone Free
+  freed_change = set_changed table (bucket_count table) tombstone None Free fits refl
+
+  module _ (place : ℕ) (low : place < bucket_count table) (name more octets : List ℕ) (own : bucket_at table place ≡ Entry name more)
+      (has : content_at table (bucket_count table + place) ≡ Some octets) where
+    abbrev pub half : List Content
+    half = slice_set table (bucket_count table + tombstone) (Some octets)
+
+    abbrev pub after : List Content
+    after = slice_set half (bucket_count table + place) (Some [])
+
+    pub after_count : bucket_count after ≡ bucket_count table
+    after_count = set_count half (bucket_count table + place) (Some []) ∙ set_count table (bucket_count table + tombstone) (Some octets)
+
+    pub first : Changed (bucket_at table) (buckets_of half (bucket_count table)) tombstone (Entry name more)
+    first = set_changed table (bucket_count table) tombstone (Some octets) (Entry name more) fits (ap bucket_of (sym has) ∙ own)
+
+    pub second : Changed (buckets_of half (bucket_count table)) (buckets_of after (bucket_count table)) place Tombstone
+    second =
+        let long : length half ≡ length table = length-set table (bucket_count table + tombstone) (Some octets) in
+        set_changed half (bucket_count table) place (Some []) Tombstone (omega (arith, long)) refl
+
+    pub differ : place ≡ tombstone → ⊥
+    differ same = not_tombstone name more (sym own ∙ ap (bucket_at table) same ∙ is)
+
+    pub moved : Moved (bucket_at table) (buckets_of after (bucket_count table)) place tombstone name more
+    moved = record {
+      was = is;
+      is = own;
+      there = second.elsewhere tombstone (λ e. differ (sym e)) ∙ first.here;
+      here = second.here;
+      elsewhere = λ other apart far. second.elsewhere other apart ∙ first.elsewhere other far;
+    }
+
+    pub as_many : tombstones after + 0 ≡ tombstones table
+    as_many =
+        let one : one_tombstone (bucket_at table tombstone) ≡ 1 = ap one_tombstone is in
+        let none : one_tombstone (buckets_of half (bucket_count table) place) ≡ 0 = ap one_tombstone (first.elsewhere place differ ∙ own) in
+        omega (
+          arith,
+          table_tombstones table after after_count,
+          one,
+          none,
+          count_changed (bucket_at table) (buckets_of half (bucket_count table)) (bucket_count table) tombstone (Entry name more) first under,
+          count_changed (buckets_of half (bucket_count table)) (buckets_of after (bucket_count table)) (bucket_count table) place Tombstone second low,
+        )
+
 module _ (table : List Content) (some : 1 ≤ bucket_count table) (formed : IsWellFormed table) (tombstone : ℕ) (under : tombstone < bucket_count table)
     (is : bucket_at table tombstone ≡ Tombstone) where
   -- no entry's way leads over a tombstone that is freed
@@ -272,91 +330,50 @@ module _ (table : List Content) (some : 1 ≤ bucket_count table) (formed : IsWe
       both : false ≡ true → ⊥
       both e = cc
 
-  fits : bucket_count table + tombstone < length table
-  fits = omega arith
-
   free_keeps : (t : Tidying) → Frees table tombstone t → KeepsNames table t.next
   free_keeps t f = subst (KeepsNames table) (sym f.asks) (record {
     well_formed = table_formed table after counts (freed_formed (bucket_at table) (buckets_of after (bucket_count table)) (bucket_count table) formed tombstone is change (unused t f));
     same = λ name. table_names table after counts name
         (freed_names (bucket_at table) (buckets_of after (bucket_count table)) (bucket_count table) formed tombstone is change (unused t f) name);
     elsewhere = λ number apart. get_or-set_other table (bucket_count table + tombstone) number None None apart;
-    fewer = omega (arith, table_tombstones table after counts, one, total);
+    fewer = omega (arith, table_tombstones table after counts, one, count_changed (bucket_at table) (buckets_of after (bucket_count table)) (bucket_count table) tombstone Free change under);
   })
     where
       after : List Content
-      after = slice_set table (bucket_count table + tombstone) None
+      after = freed table tombstone under is
 
-      counts : bucket_count (slice_set table (bucket_count table + tombstone) None) ≡ bucket_count table
-      counts = set_count table (bucket_count table + tombstone) None
+      counts : bucket_count (freed table tombstone under is) ≡ bucket_count table
+      counts = freed_count table tombstone under is
 
-      change : Changed (bucket_at table) (buckets_of (slice_set table (bucket_count table + tombstone) None) (bucket_count table)) tombstone Free
-      change = set_changed table (bucket_count table) tombstone None Free fits refl
+      change : Changed (bucket_at table) (buckets_of (freed table tombstone under is) (bucket_count table)) tombstone Free
+      change = freed_change table tombstone under is
 
       one : one_tombstone (bucket_at table tombstone) ≡ 1
       one = ap one_tombstone is
 
-      total : tombstones_among (buckets_of (slice_set table (bucket_count table + tombstone) None) (bucket_count table)) (bucket_count table) + one_tombstone (bucket_at table tombstone) ≡ tombstones table + 0
-      total = count_changed (bucket_at table) (buckets_of (slice_set table (bucket_count table + tombstone) None) (bucket_count table)) (bucket_count table) tombstone Free change under
+  move_keeps : (t : Tidying) → Moves table tombstone t → KeepsNames table t.next
+  move_keeps t m = subst (KeepsNames table) (sym m.asks) (record {
+    well_formed = table_formed table _ counts
+        (moved_formed (bucket_at table) _ (bucket_count table) some formed _ tombstone m.name m.more low under shorter change);
+    same = λ other. table_names table _ counts other
+        (moved_names (bucket_at table) _ (bucket_count table) some formed _ tombstone m.name m.more low under shorter change other);
+    elsewhere = λ number apart. get_or-set_other _ _ number (Some []) None apart.0
+        ∙ get_or-set_other table (bucket_count table + tombstone) number (Some m.octets) None apart.1;
+    fewer = as_many table tombstone under is _ low m.name m.more m.octets m.is m.has;
+  })
+    where
+      low : up tombstone m.steps (bucket_count table) < bucket_count table
+      low = mod-lt _ some
 
-  module _ (place : ℕ) (low : place < bucket_count table) (name more octets : List ℕ) (own : bucket_at table place ≡ Entry name more)
-      (has : content_at table (bucket_count table + place) ≡ Some octets)
-      (over : leads_over name (bucket_count table) tombstone place ≡ true) where
-    abbrev half : List Content
-    half = slice_set table (bucket_count table + tombstone) (Some octets)
+      counts : bucket_count (after table tombstone under is (up tombstone m.steps (bucket_count table)) low m.name m.more m.octets m.is m.has) ≡ bucket_count table
+      counts = after_count table tombstone under is _ low m.name m.more m.octets m.is m.has
 
-    abbrev after : List Content
-    after = slice_set half (bucket_count table + place) (Some [])
+      shorter : way (home m.name (bucket_count table)) tombstone (bucket_count table) < way (home m.name (bucket_count table)) (up tombstone m.steps (bucket_count table)) (bucket_count table)
+      shorter = ltb-true _ _ m.over
 
-    counts : bucket_count after ≡ bucket_count table
-    counts = set_count half (bucket_count table + place) (Some []) ∙ set_count table (bucket_count table + tombstone) (Some octets)
-
-    first : Changed (bucket_at table) (buckets_of half (bucket_count table)) tombstone (Entry name more)
-    first = set_changed table (bucket_count table) tombstone (Some octets) (Entry name more) fits (ap bucket_of (sym has) ∙ own)
-
-    second : Changed (buckets_of half (bucket_count table)) (buckets_of after (bucket_count table)) place Tombstone
-    second =
-        let long : length half ≡ length table = length-set table (bucket_count table + tombstone) (Some octets) in
-        set_changed half (bucket_count table) place (Some []) Tombstone (omega (arith, long)) refl
-
-    differ : place ≡ tombstone → ⊥
-    differ same = not_tombstone name more (sym own ∙ ap (bucket_at table) same ∙ is)
-
-    moved : Moved (bucket_at table) (buckets_of after (bucket_count table)) place tombstone name more
-    moved = record {
-      was = is;
-      is = own;
-      there = second.elsewhere tombstone (λ e. differ (sym e)) ∙ first.here;
-      here = second.here;
-      elsewhere = λ other apart far. second.elsewhere other apart ∙ first.elsewhere other far;
-    }
-
-    shorter : way (home name (bucket_count table)) tombstone (bucket_count table) < way (home name (bucket_count table)) place (bucket_count table)
-    shorter = ltb-true _ _ over
-
-    as_many : tombstones after + 0 ≡ tombstones table
-    as_many =
-        let one : one_tombstone (bucket_at table tombstone) ≡ 1 = ap one_tombstone is in
-        let none : one_tombstone (buckets_of half (bucket_count table) place) ≡ 0 = ap one_tombstone (first.elsewhere place differ ∙ own) in
-        omega (
-          arith,
-          table_tombstones table after counts,
-          one,
-          none,
-          count_changed (bucket_at table) (buckets_of half (bucket_count table)) (bucket_count table) tombstone (Entry name more) first under,
-          count_changed (buckets_of half (bucket_count table)) (buckets_of after (bucket_count table)) (bucket_count table) place Tombstone second low,
-        )
-
-    move_keeps : KeepsNames table (asks.Move (bucket_count table + place) (bucket_count table + tombstone) octets)
-    move_keeps = record {
-      well_formed = table_formed table after counts
-          (moved_formed (bucket_at table) (buckets_of after (bucket_count table)) (bucket_count table) some formed place tombstone name more low under shorter moved);
-      same = λ other. table_names table after counts other
-          (moved_names (bucket_at table) (buckets_of after (bucket_count table)) (bucket_count table) some formed place tombstone name more low under shorter moved other);
-      elsewhere = λ number apart. get_or-set_other half (bucket_count table + place) number (Some []) None apart.0
-          ∙ get_or-set_other table (bucket_count table + tombstone) number (Some octets) None apart.1;
-      fewer = as_many;
-    }
+      change : Moved (bucket_at table) (buckets_of (after table tombstone under is (up tombstone m.steps (bucket_count table)) low m.name m.more m.octets m.is m.has) (bucket_count table))
+          (up tombstone m.steps (bucket_count table)) tombstone m.name m.more
+      change = moved table tombstone under is _ low m.name m.more m.octets m.is m.has
 
 nothing_keeps : (table : List Content) → IsWellFormed table → (from : ℕ) (next : TidyAsk) → next ≡ asks.End false from → KeepsNames table next
 nothing_keeps table formed from next e =
@@ -371,8 +388,7 @@ keeps table from some formed t (meets_one steps few none is behind) = by behind
 
     by : Behind table (up from steps (bucket_count table)) t → KeepsNames table t.next
     by (frees f) = free_keeps table some formed (up from steps (bucket_count table)) under is t f
-    by (moves m) = subst (KeepsNames table) (sym m.asks)
-        (move_keeps table some formed (up from steps (bucket_count table)) under is _ (mod-lt _ some) m.name m.more m.octets m.is m.has m.over)
+    by (moves m) = move_keeps table some formed (up from steps (bucket_count table)) under is t m
     by (halts s) = nothing_keeps table formed _ t.next s.asks
 
 pub tidies_keep_names : TidiesKeepNames

@@ -6,7 +6,10 @@ use Rattle.name_table.specs.declared.tidying.TidyAsk.{TidyAsk}
 use Rattle.name_table.specs.declared.tidying.TidyAsk.TheVariants as asks
 use Rattle.record_model.specs.State.{Content, content_at}
 use Rattle.record_model.specs.Names.{bucket_count, bucket_at, names, IsWellFormed}
-use Rattle.name_table.specs.Tidying.{Tidying, tidy_changed, up, leads_over, looks, tidy_over, tidy_ask, with_change, AsksRead}
+use Rattle.record_model.specs.declared.names.Job.TheVariants.{Find}
+use Rattle.name_table.specs.Laws.{reached}
+use Rattle.name_table.specs.Tidying.{Tidying, AsksRead, tidy_ask, tidy_changed, tidy_over, with_change}
+use Rattle.name_table.specs.Tidying.{up, leads_over, looks}
 
 -- the bucket so many steps up from a place
 abbrev pub bucket_up : List Content → ℕ → ℕ → Bucket
@@ -115,8 +118,8 @@ IsElsewhere (asks.Move entry tombstone octets) number = (number ≢ entry) × (n
 IsElsewhere (asks.Free tombstone) number = number ≢ tombstone
 IsElsewhere (asks.End changed from) number = Unit {0}
 
--- Over a well-formed table, when its change was made: the table is well formed, under each name stands what stood there,
--- so it does in each other record, and there is one tombstone fewer, or as many.
+-- Over a well-formed table, when its change was made: the table is well formed, under each name stands what stood
+-- there, so it does in each other record, and there is one tombstone fewer where one was freed, else as many.
 pub record KeepsNames (table : List Content) (next : TidyAsk) : Type 0 where
   pub well_formed : IsWellFormed (with_change next table)
   pub same : (name : List ℕ) → names (with_change next table) name ≡ names table name
@@ -127,3 +130,8 @@ pub record KeepsNames (table : List Content) (next : TidyAsk) : Type 0 where
 abbrev pub TidiesKeepNames : Type 0
 TidiesKeepNames = (table : List Content) (from : ℕ) → 1 ≤ bucket_count table → IsWellFormed table →
     KeepsNames table (tidy_ask (tidy_over table from))
+
+-- Over any table, of strange buckets too, a find answers behind it what it answered before.
+abbrev pub FindsStay : Type 0
+FindsStay = (table : List Content) (from : ℕ) (name : List ℕ) → 1 ≤ bucket_count table →
+    reached (with_change (tidy_ask (tidy_over table from)) table) Find name ≡ reached table Find name

@@ -1,6 +1,6 @@
 -- Tidies that were worked out by hand, over tables of 32 records, so 16 buckets, and one of 256. Of the names of one
 -- octet, those of 0, 12 and 24 have the home 15, of 5 and 17 the home 0, of 10 the home 1, and of 3 the home 3.
-use Rattle.std.specs.Prelude.{◌≡◌, ℕ, zero, suc, Bool, true, false, List, [], ◌∷◌, ◌++◌, replicate, map, slice_set, Some, None}
+use Rattle.std.specs.Prelude.{◌≡◌, ℕ, zero, suc, false, List, [], ◌∷◌, ◌++◌, replicate, map, slice_set, Some, None}
 use Rattle.std.specs.List.{range_with_len}
 use Rattle.record_model.specs.declared.names.Job.{Job}
 use Rattle.record_model.specs.declared.names.Job.TheVariants.{Find, Remove}

@@ -1,7 +1,7 @@
--- The work of one tidy: it looks for a tombstone, and frees it, or moves into it the first entry behind it whose way from
--- home leads over it.
-use Rattle.std.specs.Prelude.{ℕ, zero, suc, ◌+◌, ◌-◌, ◌%◌, ◌<◌, ◌≤◌, ◌^◌, nat_lt, min, Bool, true, false, List, Some, None, if◌then◌else◌}
-use Rattle.std.specs.Prelude.{[], slice_set}
+-- The work of one tidy: it looks for a tombstone, and frees it, or moves into it the first entry behind it whose way
+-- from home leads over it.
+use Rattle.std.specs.Prelude.{ℕ, zero, suc, ◌+◌, ◌-◌, ◌%◌, ◌<◌, ◌≤◌, ◌^◌, nat_lt, min, List, [], Some, None, slice_set}
+use Rattle.std.specs.Prelude.{Bool, true, false, if◌then◌else◌}
 use Rattle.record_model.specs.declared.names.Bucket.{Bucket}
 use Rattle.record_model.specs.declared.names.Bucket.TheVariants.{Free, Tombstone, Entry, Strange}
 use Rattle.name_table.specs.declared.tidying.TidyAsk.{TidyAsk}
@@ -23,8 +23,8 @@ abbrev pub leads_over : List ℕ → ℕ → ℕ → ℕ → Bool
 leads_over name buckets tombstone place =
     nat_lt (way (home name buckets) tombstone buckets) (way (home name buckets) place buckets)
 
--- Among how many buckets it is done, the place from which steps are counted, how many are behind, and what comes next. It
--- looks from where it began; behind a tombstone the steps are counted from that.
+-- Among how many buckets it is done, the place from which steps are counted, how many of them the next bucket is up,
+-- whether that place is the tombstone's, which was met, or where it began to look, and what comes next
 pub record Tidying : Type 0 where
   pub buckets : ℕ
   pub from : ℕ

@@ -16,5 +16,5 @@ pub use laws::{
 pub use probe::Probe;
 pub use record_model::{Ask, NameAnswer};
 pub use rows::{rows_of_buckets, rows_of_names};
-pub use tidy_laws::{rows_of_tidies, tidies_are_told, tidies_keep_names};
+pub use tidy_laws::{finds_stay, rows_of_tidies, tidies_are_told, tidies_keep_names};
 pub use tidying::{TidyAsk, Tidying};

@@ -46,7 +46,8 @@ struct Walk {
 }
 
 /// One tidy of the names. It asks for the values of buckets and for at most one change, which takes two writes where an
-/// entry moves. No call of it takes memory.
+/// entry moves: a tombstone on an entry's way can't be freed, so frees alone would leave probes long. No call of it
+/// takes memory.
 #[derive(Debug, Drop)]
 pub struct Tidying {
     walk: Walk,

@@ -11,7 +11,7 @@ const MOVES: [(Option<u32>, Option<u32>); 4] = [
     (None, None),
 ];
 
-// Three names have their home in the last of 16 buckets. When the first is taken out, the others move back, one by one.
+// Three names have their home in the last of 16 buckets. When the first is taken out, the others move back in turn.
 #[test]
 fn moves_back_around_the_end(rt: HostRuntime) -> Result<(), AllocError> {
     let mut table = blank(32, rt.alloc())?;
@@ -102,8 +102,8 @@ fn entries(table: &[Option<Octets>]) -> u32 {
     count
 }
 
-// Of 1,024 buckets half have a name. When 20,000 names were replaced by others, with one tidy each, the names are those of
-// the model, and a miss reads fewer than eight values in the mean.
+// Of 1,024 buckets half have a name. When 20,000 names were replaced by others, with one tidy each, the names are those
+// of the model, and a miss reads fewer than eight values in the mean.
 #[test]
 fn names_come_and_go(rt: HostRuntime) -> Result<(), AllocError> {
     let mut table = blank(2 * BUCKETS, rt.alloc())?;
