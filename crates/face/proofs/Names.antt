@@ -22,7 +22,7 @@ pub use Rattle.engine.specs.SeenVersions.{WhereItFits, VersionsAreSeen}
 pub use Rattle.engine.specs.declared.engine.Engine.{Engine}
 pub use Rattle.face.specs.Carrying.{CarriesOut, HandsReply, CarriesUntold, TellsAnswer, DoesLine, LinePerforms, LineStepsMachine, halted}
 pub use Rattle.face.specs.Causes.{HasCause, HasCauses, AnswerFailsBy, EndsInTime, FailsBy, IsWornOut, WorkEnds}
-pub use Rattle.face.specs.Done.{HasDone, HasDoneBy, TellsDone, lines_at, TellsWhenDone}
+pub use Rattle.face.specs.Done.{HasDone, TellsDone, lines_at, TellsWhenDone}
 pub use Rattle.face.specs.Headline.{IsGood, TellsFault, Durability, Headline, ran, AnswersAlone, IsToldWhole, Resources}
 pub use Rattle.face.specs.Image.{BlankLaw, OneMeaning, OneOpening, OpensWhereItStands}
 pub use Rattle.face.specs.Lives.{LawOfLives, OpensAgain, LawOfLoads, LoadOpensAgain, OpensAfter}

@@ -88,8 +88,8 @@ pub record AnswersFirst (run : Run) (lines : ℕ) (old now : Site) : Type 0 wher
   pub count : now.input.heard + length now.input.left ≡ old.input.heard + length old.input.left
 
 -- What a run that ends so asks of the devices. A device is worn only where the first ring that is appended to at its
--- end lies there, and at Ok there is none; then its work is done, and the calls that write and sync are exactly those of
--- its units and of the frames that it staged, with at most one tell an octet. No ring number is skipped on the log's
+-- end lies there, and at Ok there is none; then its work is done, and the calls that write and sync are exactly those
+-- of its units and of the frames that it staged, with at most one tell an octet. No ring number is skipped on the log's
 -- device.
 pub record Demands {T : Type 0} (pool : ℕ) (run : Run) (old new : Site) (result : Result T Halt) : Type 0 where
   pub worn : (dev : Dev) → IsErrOf result (Stop (Worn dev)) → WearsFirst pool run dev old.image
