@@ -50,7 +50,8 @@ pub use Rattle.redo_laws.specs.Committing.{EndsWith, MayCommit}
 pub use Rattle.redo_laws.specs.Holding.{Represents, blocks_to, RepresentsIn, KeepsPages, RepresentsLog, Invariant, IsLogWorn, MayGrow, ShowRecords}
 pub use Rattle.redo_laws.specs.MachineSteps.{next_group, ReadsFor, StepsMachine, StagesFor, one_change, one_touch, NumbersRise, finds_in, misses_in, undo_one_works}
 pub use Rattle.redo_laws.specs.Numbers.{HasNumbers, SkipsNone}
-pub use Rattle.redo_laws.specs.Running.{RunsOn}
+pub use Rattle.redo_laws.specs.Running.{History, settled, RunsOn}
+pub use Rattle.redo_laws.specs.Waiting.{LeavesSome, LeavesSomeUnder}
 pub use Rattle.redo_laws.specs.UndoWorks.{works_of}
 pub use Rattle.sealed_ring.specs.Ring.{hi_of, Units}
 pub use Rattle.second_chance.specs.Machine.{staged_by_works, Cache, Rules, after_works, touched, Staged, apply_op, finds, misses, with_room}
