@@ -1,6 +1,6 @@
 -- Calls one behind the other, and a site of which only was read.
 use Rattle.std.proofs.lemmas.Grind.{common_steps}
-use Rattle.redo_laws.proofs.Citing.{◌≡◌, ℕ, ◌<◌, ◌≤◌, nat_lt, arith, append-nil, [], List, refl, sym, subst, ◌∙◌, Option, Master, KeepsUnits, master_shape, next_block_is, AreRingsSoundUnder, logical_image_under, StandsUnder, kept_by, IsSoundUnder, LeavesSomeUnder, carries_nothing, Entry, log_from, Means, LogRecord, Finds, HasBlocks, has_tail, end_of, LogStore, fits_beside, IsAhead, rules, AreReady, current, PageStore, Content, History, settled, LeavesTableUnder, leaves_weaker, Invariant, Represents, RepresentsIn, ShowRecords, RunsOn, in_sequence, holds_now, no_call, unchanged_calm, stays_honest, quiet_leaves, Preserves, IsUnchanged, Leaves, LeavesOnly, ChangesOnly, State, Image, IsQuiet, Geometry, Log, lsn_of}
+use Rattle.redo_laws.proofs.Citing.{◌≡◌, ℕ, ◌<◌, ◌≤◌, nat_lt, arith, append-nil, [], List, refl, sym, subst, ◌∙◌, Option, Master, KeepsUnits, master_shape, next_block_is, AreRingsSoundUnder, logical_image_under, StandsUnder, kept_by, IsSoundUnder, LeavesSomeUnder, carries_nothing, Entry, log_from, Means, LogRecord, Finds, end_of, LogStore, fits_beside, IsAhead, rules, AreReady, current, PageStore, Content, History, settled, LeavesTableUnder, leaves_weaker, Invariant, Represents, RepresentsIn, ShowRecords, RunsOn, in_sequence, holds_now, no_call, unchanged_calm, stays_honest, quiet_leaves, Preserves, IsUnchanged, Leaves, LeavesOnly, ChangesOnly, State, Image, IsQuiet, Geometry, Log, lsn_of}
 use Rattle.redo_laws.proofs.Runs.{runs_settled, means_settled}
 use Rattle.redo_laws.proofs.Touched.{some_of, leaves_settled}
 use Rattle.page_store.proofs.Versions.{flash_later}

@@ -1,6 +1,6 @@
 -- What a page shows behind one more record.
 use Rattle.std.proofs.lemmas.Grind.{common_steps}
-use Rattle.redo_laws.proofs.Citing.{◌≡◌, ◌⊎◌, inl, inr, ℕ, ◌+◌, ◌*◌, ◌/◌, ◌≤◌, ◌<◌, false, List, [], ◌∷◌, ◌++◌, length, None, Some, refl, sym, ap, subst, ◌∙◌, arith, cases_eq, ne_eqb, eq-eqb, none-some, same_Some, front_of, Master, versions_on, version_in, Redoes, AreKnown, ShowsAll, Entry, Version, number_of, is_on, is_number, shown, LogRecord, end_of, LogStore, IsAhead, current, Matches, IsStore, PageStore, Content, History, content_at, RepresentsLog, RepresentsIn, KeepsPages, Represents, State, Image, Geometry, lsn_of, slots_of}
+use Rattle.redo_laws.proofs.Citing.{◌≡◌, ◌⊎◌, inl, inr, ℕ, ◌+◌, ◌*◌, ◌/◌, ◌≤◌, ◌<◌, false, List, [], ◌∷◌, ◌++◌, length, None, Some, refl, sym, ap, subst, ◌∙◌, arith, cases_eq, ne_eqb, eq-eqb, none-some, same_Some, front_of, Master, versions_on, version_in, Redoes, AreKnown, ShowsAll, Entry, Version, number_of, is_on, is_number, shown, LogRecord, end_of, LogStore, IsAhead, current, Matches, IsStore, PageStore, History, content_at, RepresentsLog, RepresentsIn, KeepsPages, Represents, State, Image, Geometry, lsn_of, slots_of}
 use Rattle.page_store.proofs.Fitting.{front_exists}
 use Rattle.log_laws.proofs.Shown.{shown_push}
 use Rattle.std.proofs.Common.{◌≢◌, Option}

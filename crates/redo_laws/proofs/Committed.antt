@@ -1,5 +1,5 @@
 -- A Commit that is sealed at once.
-use Rattle.redo_laws.proofs.Citing.{◌≡◌, ◌⊎◌, inl, inr, ℕ, ◌+◌, ◌≤◌, ◌<◌, refl, sym, ap, subst, ◌∙◌, arith, List, Bool, true, false, if◌then◌else◌, Master, StandsUnder, logical_image_under, LogStore, LogRecord, LogicalImage, Entry, PageStore, Content, History, settled, RunsOn, LeavesSome, Represents, State, Snapshot, Geometry, lt-ltb, cases_eq}
+use Rattle.redo_laws.proofs.Citing.{◌≡◌, ◌⊎◌, inl, inr, ℕ, ◌+◌, ◌≤◌, sym, ap, subst, ◌∙◌, arith, List, Bool, if◌then◌else◌, Master, logical_image_under, LogStore, Entry, PageStore, Content, History, settled, RunsOn, LeavesSome, Represents, State, Snapshot, Geometry, lt-ltb, cases_eq}
 use Rattle.std.specs.Prelude.{nat_lt, Option}
 use Rattle.std.proofs.lemmas.Bool.{le-ltb}
 use Rattle.image_meaning.specs.Meaning.{StandsFor}

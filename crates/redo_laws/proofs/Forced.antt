@@ -1,5 +1,5 @@
 -- The tail is sealed beside the pages.
-use Rattle.redo_laws.proofs.Citing.{◌≡◌, ℕ, ◌+◌, ◌≤◌, ◌<◌, Bool, true, false, List, [], ◌∷◌, ◌++◌, true≢false, sym, ap, subst, ◌∙◌, arith, nat_lt, inl, inr, lt-ltb, AllByRecursion, if◌then◌else◌, Result, Ok, Err, OnOk, IfErr, IsErrOf, ◌≢◌, Option, Master, Reaches, ring_of, Masters, versions_on, version_in, kept_by, ShowsAll, Entry, Version, AreBlock, block_len, LogRecord, LogList, sealed_if, changes_if, has_tail, end_of, LogStore, fits_beside, current, PageStore, History, settled, RunsOn, RepresentsIn, commit_numbers, next_entries, logical_image_under, Represents, blocks_to, Preserves, ChangesOnly, State, IsQuiet, Dev, Log, Stop, Device, Worn, lsn_of, end_forced}
+use Rattle.redo_laws.proofs.Citing.{◌≡◌, ℕ, ◌+◌, ◌≤◌, ◌<◌, Bool, true, false, List, [], ◌∷◌, ◌++◌, true≢false, sym, ap, subst, ◌∙◌, arith, nat_lt, inl, inr, lt-ltb, AllByRecursion, if◌then◌else◌, Result, Ok, Err, OnOk, IfErr, IsErrOf, ◌≢◌, Option, Master, Reaches, ring_of, Masters, versions_on, version_in, kept_by, ShowsAll, Entry, Version, AreBlock, block_len, LogRecord, LogList, sealed_if, changes_if, has_tail, end_of, LogStore, fits_beside, current, PageStore, History, settled, commit_numbers, next_entries, logical_image_under, Represents, blocks_to, Preserves, ChangesOnly, State, IsQuiet, Dev, Log, Stop, Device, Worn, lsn_of, end_forced}
 use Rattle.std.specs.Prelude.{Some, ◌⊎◌}
 use Rattle.redo_laws.proofs.Runs.{none_waits}
 use Rattle.redo_laws.proofs.Touched.{of_history}

@@ -1,7 +1,6 @@
 -- What undo asks of the page cache, Update by Update.
 use Rattle.std.specs.Prelude.{◌≡◌, ℕ, true, List, ◌++◌, filter_map, reverse, Some, Option}
 use Rattle.site.specs.State.{State}
-use Rattle.record_model.specs.State.{Content}
 use Rattle.record_model.specs.Touches.{CacheOp}
 use Rattle.log_records.specs.Log.{Entry, txn_of, last_where}
 use Rattle.log_records.specs.Unfinished.{pending}

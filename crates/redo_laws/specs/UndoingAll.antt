@@ -2,7 +2,6 @@
 use Rattle.std.specs.Prelude.{◌≡◌, ℕ, ◌+◌, ◌≤◌, ◌<◌, true, false, List, [], ◌++◌, length, Some, Option}
 use Rattle.std.specs.List.{AllByRecursion}
 use Rattle.site.specs.State.{State}
-use Rattle.record_model.specs.State.{Content}
 use Rattle.log_records.specs.Log.{Entry, txn_of, is_loser, last_where}
 use Rattle.log_records.specs.Unfinished.{is_clr, left_open, pending, owed}
 use Rattle.log_records.specs.Sound.{InTurn, AreOrderly}

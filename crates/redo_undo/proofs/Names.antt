@@ -85,16 +85,16 @@ pub use Rattle.redo_laws.proofs.Appended.{current_same, if_ok_one, append_leaves
 pub use Rattle.redo_laws.proofs.Asking.{stages_log, asks_nothing, asks_ok, asks_err, asks_same, asks_stopped, asks_then, stages_read, asks_fails, change_reads, change_stages, no_asks, stages_alone, touch_reads}
 pub use Rattle.redo_laws.proofs.AskingFlush.{never_worn_flash, asks_around, flush_then}
 pub use Rattle.redo_laws.proofs.AskingUndo.{asks_refused, change_stopped, log_alone, works_are, asks_later, change_made, not_worn_either, not_worn_flash, page_is, work_is}
-pub use Rattle.redo_laws.proofs.CallsInSequence.{some_group, going_still, nothing_happens, only_read, units_then, and_then, found_now, holds_still, leaves_still, opened_holds, sound_there}
+pub use Rattle.redo_laws.proofs.CallsInSequence.{some_group, going_still, nothing_happens, nothing_lost, only_read, units_then, and_then, found_now, holds_still, leaves_still, opened_holds, sound_there}
 pub use Rattle.redo_laws.proofs.Changed.{front_is_current, front_shows, holds_off, holds_on, known_more, other_pages}
 pub use Rattle.redo_laws.proofs.Costs.{touched_next, touch_then_change}
 pub use Rattle.redo_laws.proofs.Endings.{ends_answered, ends_behind, ends_by_pages, ends_failed, ends_leaving, ends_ok, ends_no_memory, leaves_late}
-pub use Rattle.redo_laws.proofs.Forced.{seals_only, quiet_stops, forced_holds, ok_five, some_now}
+pub use Rattle.redo_laws.proofs.Forced.{seals_only, quiet_stops, forced_holds, rests, ok_five, some_now}
 pub use Rattle.redo_laws.proofs.LeftNumbers.{ready_next, log_calls, log_skips, pages_skip, same_at_most, masters_same, save_calls, save_skips, skips_not_saved}
 pub use Rattle.redo_laws.proofs.Names.{actives, named_at}
 pub use Rattle.redo_laws.proofs.Orderlies.{ends_orderly}
 pub use Rattle.redo_laws.proofs.RingNumbers.{skips_on, then_skips, hi_on, skips_again, skips_answered, skips_weaker, unchanged, skips_nothing, skips_refused, skips_still}
-pub use Rattle.redo_laws.proofs.Touched.{forced_tail, leaves_table, touched_holds, hi_is}
+pub use Rattle.redo_laws.proofs.Touched.{forced_tail, leaves_settled, leaves_table, touched_holds, hi_is}
 pub use Rattle.redo_laws.proofs.UndoneWrites.{active_is_undone_by, last_are_undone_by}
 pub use Rattle.redo_laws.proofs.WornLogs.{log_at_end, masters_at_end, sealed_hi}
 pub use Rattle.redo_laws.specs.Calls.{KeepsInvariant, Keeps, KeepsInvariantBeside, ReadsOne, KeepsBeside, LogsNothing}
@@ -103,6 +103,8 @@ pub use Rattle.redo_laws.specs.Committing.{EndsWith, MayCommit}
 pub use Rattle.redo_laws.specs.Holding.{Represents, blocks_to, MayGrow, Invariant, RepresentsIn, IsOnPage, IsLogWorn, IsSpent, RepresentsLog, ShowRecords}
 pub use Rattle.redo_laws.specs.MachineSteps.{StepsMachine, one_change, one_touch, undo_one_works, undo_works, checkpoint_works}
 pub use Rattle.redo_laws.specs.Numbers.{SkipsNone, HasNumbers}
+pub use Rattle.redo_laws.specs.Running.{History, settled}
+pub use Rattle.redo_laws.specs.Waiting.{LeavesSome, LeavesSomeUnder}
 pub use Rattle.redo_laws.specs.UndoWorks.{works_of, UndoesUpdates, IsLastAt}
 pub use Rattle.redo_laws.specs.UndoingAll.{IsUndoing, Remain, HasNone, IsOf, AreUpTo, IsGreatest, IsNextUndo, UndoesAll, UndoesSome}
 pub use Rattle.redo_undo.specs.Mirroring.{clrs_for, Mirrors, none_remains, ends_for, MirrorsStore, PerformsAtRest, PerformsOn, PerformsStore, flush_work, force_work, resting, touch_work, undo_one_work, updates}

@@ -1,5 +1,5 @@
 -- A session's transaction is undone, CLR by CLR, and its End is logged.
-use Rattle.redo_undo.proofs.Names.{Option, ◌≡◌, ℕ, Bool, cond, take, ◌+◌, ◌-◌, ◌*◌, ◌≤◌, List, [], ◌∷◌, ◌++◌, length, refl, sym, ap, subst, ◌∙◌, arith, and_right, eq-eqb, ne_eqb, filter-append, Master as Saved, master_of, logical_image_under, active_stays, entries_other, entries_own, loser_stays, open_more, whole_is_undoable, whole_in_order, active_is_unfinished, IsUnfinished, IsActive, IsUndoable, next_lsn, Entry, txn_of, is_of, is_update, is_closing, entries_of, updates_in, IsInOrder, IsOpen, Fields as Master, open_updates, owed, End, Content, Write, blocks_to, AreClrsOf, ConcernsOnly, RollsBack, GoesBack, sizes_of, TransactionStore, Finds, State}
+use Rattle.redo_undo.proofs.Names.{settled, Option, ◌≡◌, ℕ, Bool, cond, take, ◌+◌, ◌-◌, ◌*◌, ◌≤◌, List, [], ◌∷◌, ◌++◌, length, refl, sym, ap, subst, ◌∙◌, arith, and_right, eq-eqb, ne_eqb, filter-append, Master as Saved, master_of, logical_image_under, active_stays, entries_other, entries_own, loser_stays, open_more, whole_is_undoable, whole_in_order, active_is_unfinished, IsUnfinished, IsActive, IsUndoable, next_lsn, Entry, txn_of, is_of, is_update, is_closing, entries_of, updates_in, IsInOrder, IsOpen, Fields as Master, open_updates, owed, End, Content, Write, blocks_to, AreClrsOf, ConcernsOnly, RollsBack, GoesBack, sizes_of, TransactionStore, Finds, State}
 use Rattle.log_laws.proofs.Pendings.{not_closing}
 use Rattle.std.proofs.lemmas.List.{append_assoc, append-nil}
 use Rattle.log_laws.proofs.Standing.{standing_dropped}
@@ -31,7 +31,7 @@ active_left store site newest records table commits begin last writes h active =
 
 -- It is undone as a whole, and the ring of master units stands as before.
 pub rolls_back : (store last : TransactionStore) (old new : State) (newest : Option Saved) (records : List Entry) (table : List Content) (commits begin at writes : ℕ) (made : List Write) → Represents store old newest records table commits → IsActive (master_of newest) records begin at made → length made ≡ writes →
-    undone.RollsBack last.log last.pages new newest records table commits begin → Finds last.masters new → RollsBack last new newest records table commits begin writes
+    undone.RollsBack last.log last.pages new newest records (settled table commits) begin → Finds last.masters new → RollsBack last new newest records table commits begin writes
 rolls_back store last old new newest records table commits begin at writes made h active many u masters =
     let unfinished = (active_left store old newest records table commits begin at made h active).1 in
     let e : Entry = record { lsn = u.lsn; rec = End begin } in
@@ -64,7 +64,7 @@ updates_stay records (e ∷ clrs) t own =
     ∙ ap (λ (b : Bool). updates_in (entries_of t records) ++ cond b (e ∷ []) []) (not_closing e.rec own.0.0).1 ∙ append-nil (updates_in (entries_of t records))
 
 pub goes_back : (store last : TransactionStore) (old new : State) (newest : Option Saved) (records : List Entry) (table : List Content) (commits begin at count lsn : ℕ) (writes : List Write) → Represents store old newest records table commits → IsActive (master_of newest) records begin at writes →
-    undone.UndoesLast last.log last.pages new newest records table commits begin count lsn → Finds last.masters new → GoesBack last new newest records table commits begin count writes lsn
+    undone.UndoesLast last.log last.pages new newest records (settled table commits) begin count lsn → Finds last.masters new → GoesBack last new newest records table commits begin count writes lsn
 goes_back store last old new newest records table commits begin at count lsn writes h active u masters =
     let now = u.holds.log_holds in
     let p = logical_image_under newest (sizes_of last) new.image now.blocks in

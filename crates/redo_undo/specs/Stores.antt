@@ -16,6 +16,7 @@ use Rattle.image_meaning.specs.Meaning.{versions_on}
 use Rattle.redo_laws.specs.Checkpointing.{KeepUnfinished}
 use Rattle.redo_laws.specs.Holding as both
 use Rattle.redo_laws.specs.Holding.{blocks_to}
+use Rattle.redo_laws.specs.Running.{settled}
 use Rattle.redo_undo.specs.declared.store.TransactionStore.{TransactionStore}
 
 -- how large the devices are
@@ -42,7 +43,7 @@ pub record MayLog (store : TransactionStore) (site : State) : Type 0 where
 -- for this table after so many commits, and they are in order. The ring of master units is the one that stands there.
 pub record Represents (store : TransactionStore) (site : State) (newest : Option Master) (records : List Entry)
     (table : List Content) (commits : ℕ) : Type 0 where
-  pub both : both.Represents store.log store.pages site newest records table commits
+  pub both : both.Represents store.log store.pages site newest records (settled table commits)
   pub orderly : AreOrderly records
   pub masters : Finds store.masters site
 

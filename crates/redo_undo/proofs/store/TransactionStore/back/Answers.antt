@@ -1,11 +1,11 @@
-use Rattle.redo_undo.proofs.Names.{◌+◌, ◌-◌, take, drop, refl, arith, sym, ℕ, List, ◌≤◌, Ok, IsTrue, Result, Master, under_leaves_for, master_of, IsUnfinished, IsActive, Entry, entries_of, updates_in, left_open, PageStore, Content, Write, write_touch, asks_same, asks_err, asks_ok, last_are_undone_by, StepsMachine, works_of, KeepsNext, TransactionStore, performs_answered, State, Stop}
+use Rattle.redo_undo.proofs.Names.{settled, ◌+◌, ◌-◌, take, drop, refl, arith, sym, ℕ, List, ◌≤◌, Ok, IsTrue, Result, Master, master_of, IsUnfinished, IsActive, Entry, entries_of, updates_in, left_open, PageStore, Content, Write, write_touch, asks_same, asks_err, asks_ok, last_are_undone_by, StepsMachine, works_of, KeepsNext, TransactionStore, performs_answered, State, Stop}
 use Rattle.std.specs.Prelude.{Option, map, reverse, length}
 use Rattle.std.proofs.Common.{rules}
 use Rattle.redo_undo.specs.Stores.{Represents}
 use Rattle.redo_undo.proofs.Calling.{keeps_failed, keeps_answered}
 use Rattle.redo_undo.proofs.MirroringStores.{store_performs, clrs_save_none}
 use Rattle.redo_undo.proofs.NextUnits.{store_next, next_answered}
-use Rattle.redo_undo.proofs.Saved.{finds_kept}
+use Rattle.redo_undo.proofs.Saved.{settled_leaves_for, finds_kept}
 use Rattle.redo_undo.proofs.StoreCalling.{keeps_of, works_at_error}
 use Rattle.redo_undo.proofs.StoreRollbacks.{active_left, goes_back}
 use Rattle.redo_undo.proofs.store.TransactionStore.back.Given.{Over}
@@ -27,7 +27,7 @@ module _ (g : Over) (c : After-undo_to g) (newest : Option Master) (records : Li
 
   read : c.args.count ≤ length writes → (g.S.Site.state c.undo_to.new.site).log_reads ≤ (g.S.Site.state c.args.site.now).log_reads + (c.args.count + (length (updates_in (entries_of c.args.entry.begin records)) - length writes))
   read few =
-      let reads = (c.undo_to.ensures.does newest records table commits _ h.both left refl refl refl few).log_reads in
+      let reads = (c.undo_to.ensures.does newest records (settled table commits) _ h.both left refl refl refl few).log_reads in
       omega (arith, reads, found.2)
 
 pub returns-in-Ok : goal.returns-in-Ok
@@ -40,15 +40,15 @@ returns-in-Ok g c =
     record {
       undone = λ newest records table commits h writes active few.
           let left = left g s newest records table commits h writes active in
-          goes_back c.args.self.now after _ _ newest records table commits c.args.entry.begin c.args.entry.last c.args.count c.in-Ok.last writes h active (c.in-Ok.ensures.undone newest records table commits _ h.both left refl refl refl few)
-          (finds_kept c.args.self.now.masters _ _ c.requires.going.shape ((c.in-Ok.ensures.does newest records table commits _ h.both left refl refl refl few).keeps.masters refl) h.masters);
+          goes_back c.args.self.now after _ _ newest records table commits c.args.entry.begin c.args.entry.last c.args.count c.in-Ok.last writes h active (c.in-Ok.ensures.undone newest records (settled table commits) _ h.both left refl refl refl few)
+          (finds_kept c.args.self.now.masters _ _ c.requires.going.shape ((c.in-Ok.ensures.does newest records (settled table commits) _ h.both left refl refl refl few).keeps.masters refl) h.masters);
       keeps = λ newest records table commits h writes active few.
-          keeps_of (under_leaves_for newest _ _ _ table commits _) (keeps_answered (c.in-Ok.ensures.does newest records table commits _ h.both (left g s newest records table commits h writes active) refl refl refl few).keeps);
+          keeps_of (settled_leaves_for newest _ _ _ table commits _) (keeps_answered (c.in-Ok.ensures.does newest records (settled table commits) _ h.both (left g s newest records table commits h writes active) refl refl refl few).keeps);
       asks = λ newest records table commits h writes active few.
-          asked g s newest records table commits h writes active few (asks_ok c.in-Ok.last _ _ _ _ _ _ (c.in-Ok.ensures.does newest records table commits _ h.both (left g s newest records table commits h writes active) refl refl refl few).asks);
+          asked g s newest records table commits h writes active few (asks_ok c.in-Ok.last _ _ _ _ _ _ (c.in-Ok.ensures.does newest records (settled table commits) _ h.both (left g s newest records table commits h writes active) refl refl refl few).asks);
       log_reads = λ newest records table commits h writes active few. read g s newest records table commits h writes active few;
       performs = λ newest records table commits h writes active few.
-          store_performs (clrs_save_none (take c.args.count (left_open records c.args.entry.begin))) refl (performs_answered (c.in-Ok.ensures.does newest records table commits _ h.both (left g s newest records table commits h writes active) refl refl refl few).performs);
+          store_performs (clrs_save_none (take c.args.count (left_open records c.args.entry.begin))) refl (performs_answered (c.in-Ok.ensures.does newest records (settled table commits) _ h.both (left g s newest records table commits h writes active) refl refl refl few).performs);
       works = search rules;
       last = c.in-Ok.ensures.last;
     }
@@ -59,12 +59,12 @@ returns-in-Err g c =
     record {
       undone = search rules;
       keeps = λ newest records table commits h writes active few.
-          keeps_of (under_leaves_for newest _ _ _ table commits _) (keeps_failed (c.in-Err.ensures.does newest records table commits _ h.both (left g s newest records table commits h writes active) refl refl refl few).keeps);
+          keeps_of (settled_leaves_for newest _ _ _ table commits _) (keeps_failed (c.in-Err.ensures.does newest records (settled table commits) _ h.both (left g s newest records table commits h writes active) refl refl refl few).keeps);
       asks = λ newest records table commits h writes active few.
-          asked g s newest records table commits h writes active few (asks_err c.in-Err.stop _ _ _ _ _ (c.in-Err.ensures.does newest records table commits _ h.both (left g s newest records table commits h writes active) refl refl refl few).asks);
+          asked g s newest records table commits h writes active few (asks_err c.in-Err.stop _ _ _ _ _ (c.in-Err.ensures.does newest records (settled table commits) _ h.both (left g s newest records table commits h writes active) refl refl refl few).asks);
       log_reads = λ newest records table commits h writes active few. read g s newest records table commits h writes active few;
       performs = λ newest records table commits h writes active few.
-          store_performs (clrs_save_none (take c.args.count (left_open records c.args.entry.begin))) refl (c.in-Err.ensures.does newest records table commits _ h.both (left g s newest records table commits h writes active) refl refl refl few).performs;
+          store_performs (clrs_save_none (take c.args.count (left_open records c.args.entry.begin))) refl (c.in-Err.ensures.does newest records (settled table commits) _ h.both (left g s newest records table commits h writes active) refl refl refl few).performs;
       works = works_at_error c.requires.going refl c.in-Err.ensures.works;
       last = search rules;
     }

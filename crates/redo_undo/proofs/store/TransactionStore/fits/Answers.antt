@@ -1,4 +1,4 @@
-use Rattle.redo_undo.proofs.Names.{◌≡◌, ◌+◌, ◌*◌, ◌/◌, ◌%◌, ◌++◌, ◌∷◌, [], ℕ, List, refl, sym, subst, arith, Option, option_copied, IsTrue, Master, versions_on, shown_push, Entry, shown, Begin, Content, shown_in, update_by, State}
+use Rattle.redo_undo.proofs.Names.{settled, ◌≡◌, ◌+◌, ◌*◌, ◌/◌, ◌%◌, ◌++◌, ◌∷◌, [], ℕ, List, refl, sym, subst, arith, Option, option_copied, IsTrue, Master, versions_on, shown_push, Entry, shown, Begin, Content, shown_in, update_by, State}
 use Rattle.std.proofs.Common.{rules}
 use Rattle.log_records.specs.Room.{HasOpenRoom}
 use Rattle.redo_undo.specs.Stores.{MayGrow, Represents}
@@ -15,7 +15,7 @@ behind c site newest records table commits h log same lsn txn prev before may =
     let e : Entry = record { lsn = lsn; rec = update_by txn prev c.args.number before c.args.after.now } in
     let at = 32 * (c.args.number / 32) + c.args.number % 32 in
     let page = c.requires.front.page in
-    let room = fits_behind store.log store.pages site newest records table commits c.requires.pages c.requires.front.there h.both log e same (at, refl, omega (arith, page))
+    let room = fits_behind store.log store.pages site newest records (settled table commits) c.requires.pages c.requires.front.there h.both log e same (at, refl, omega (arith, page))
     (subst (HasOpenRoom (log ++ e ∷ []) (versions_on store.pages.flash.geometry site.image)) (omega (arith, page)) (may.follows.room_in_page at refl refl)) at refl in
     c.fits.ensures.1 (fits_as store.pages (at % 32) (number % 32) c.args.after.now (option_copied c.slice_of.result) (omega arith) (sym c.slice_of.ensures) room)
 

@@ -1,4 +1,4 @@
-use Rattle.redo_undo.proofs.Names.{◌+◌, refl, ap, ◌∙◌, arith, sym, ℕ, List, ◌≡◌, ◌≤◌, Ok, IsTrue, Result, Master, under_leaves_for, master_of, IsUnfinished, IsActive, Entry, entries_of, updates_in, left_open, PageStore, Content, Write, write_touch, asks_same, asks_err, asks_ok, asks_fails, active_is_undone_by, StepsMachine, undo_one_works, KeepsNext, RollsBack, TransactionStore, performs_answered, performs_refused, State, Geometry, Stop, Foreign}
+use Rattle.redo_undo.proofs.Names.{settled, ◌+◌, refl, ap, ◌∙◌, arith, sym, ℕ, List, ◌≡◌, ◌≤◌, Ok, IsTrue, Result, Master, master_of, IsUnfinished, IsActive, Entry, entries_of, updates_in, left_open, PageStore, Content, Write, write_touch, asks_same, asks_err, asks_ok, asks_fails, active_is_undone_by, StepsMachine, undo_one_works, KeepsNext, RollsBack, TransactionStore, performs_answered, performs_refused, State, Geometry, Stop, Foreign}
 use Rattle.redo_undo.specs.Stores.{Represents}
 use Rattle.redo_undo.proofs.store.TransactionStore.roll_back.Goals.{After-undo_one, In-Ok}
 use Rattle.redo_undo.proofs.store.TransactionStore.roll_back.Given.{Over}
@@ -6,7 +6,7 @@ use Rattle.redo_undo.proofs.Calling.{keeps_few, keeps_failed, keeps_answered, wo
 use Rattle.redo_undo.proofs.StoreCalling.{keeps_of, works_at_error}
 use Rattle.std.specs.Prelude.{Option, map, reverse, length}
 use Rattle.std.proofs.Common.{rules}
-use Rattle.redo_undo.proofs.Saved.{finds_kept}
+use Rattle.redo_undo.proofs.Saved.{settled_leaves_for, finds_kept}
 use Rattle.redo_undo.proofs.NextUnits.{store_next, next_answered}
 use Rattle.redo_undo.proofs.StoreRollbacks.{active_left, rolls_back, has_room}
 use Rattle.redo_undo.proofs.MirroringStores.{store_performs, undoing_saves_none}
@@ -27,7 +27,7 @@ module _ (g : Over) (c : After-undo_one g) (newest : Option Master) (records : L
 
   read : (g.S.Site.state c.undo_one.new.site).log_reads ≤ (g.S.Site.state c.args.site.now).log_reads + length (updates_in (entries_of c.args.entry.begin records))
   read =
-      let few = (c.undo_one.ensures.does newest records table commits _ h.both left refl refl refl).log_reads in
+      let few = (c.undo_one.ensures.does newest records (settled table commits) _ h.both left refl refl refl).log_reads in
       omega (arith, few, found.2)
 
 module _ (g : Over) (c : In-Ok g) (newest : Option Master) (records : List Entry) (table : List Content) (commits : ℕ) (h : Represents c.args.self.now (g.S.Site.state c.args.site.now) newest records table commits)
@@ -38,8 +38,8 @@ module _ (g : Over) (c : In-Ok g) (newest : Option Master) (records : List Entry
   back : RollsBack after (g.S.Site.state c.undo_one.new.site) newest records table commits c.args.entry.begin c.args.entry.writes
   back =
       let left = (active_left c.args.self.now (g.S.Site.state c.args.site.now) newest records table commits c.args.entry.begin c.args.entry.last writes h active).1 in
-      rolls_back c.args.self.now after _ _ newest records table commits c.args.entry.begin c.args.entry.last c.args.entry.writes writes h active count (c.in-Ok.ensures.undone newest records table commits _ h.both left refl refl refl)
-      (finds_kept c.args.self.now.masters _ _ c.requires.going.shape ((c.in-Ok.ensures.does newest records table commits _ h.both left refl refl refl).keeps.masters refl) h.masters)
+      rolls_back c.args.self.now after _ _ newest records table commits c.args.entry.begin c.args.entry.last c.args.entry.writes writes h active count (c.in-Ok.ensures.undone newest records (settled table commits) _ h.both left refl refl refl)
+      (finds_kept c.args.self.now.masters _ _ c.requires.going.shape ((c.in-Ok.ensures.does newest records (settled table commits) _ h.both left refl refl refl).keeps.masters refl) h.masters)
 
 pub returns-in-Err : goal.returns-in-Err
 returns-in-Err g c =
@@ -47,12 +47,12 @@ returns-in-Err g c =
     record {
       undone = search rules;
       keeps = λ newest records table commits h writes active count owes.
-          keeps_of (under_leaves_for newest _ _ _ table commits _) (keeps_few (omega (arith, count)) (keeps_failed (c.in-Err.ensures.does newest records table commits _ h.both (left g s newest records table commits h writes active) refl refl refl).keeps));
+          keeps_of (settled_leaves_for newest _ _ _ table commits _) (keeps_few (omega (arith, count)) (keeps_failed (c.in-Err.ensures.does newest records (settled table commits) _ h.both (left g s newest records table commits h writes active) refl refl refl).keeps));
       asks = λ newest records table commits h writes active.
-          asked g s newest records table commits h writes active (asks_err c.in-Err.stop _ _ _ _ _ (c.in-Err.ensures.does newest records table commits _ h.both (left g s newest records table commits h writes active) refl refl refl).asks);
+          asked g s newest records table commits h writes active (asks_err c.in-Err.stop _ _ _ _ _ (c.in-Err.ensures.does newest records (settled table commits) _ h.both (left g s newest records table commits h writes active) refl refl refl).asks);
       log_reads = λ newest records table commits h writes active. read g s newest records table commits h writes active;
       performs = λ newest records table commits h writes active.
-          store_performs (undoing_saves_none (left_open records c.args.entry.begin)) refl (c.in-Err.ensures.does newest records table commits _ h.both (left g s newest records table commits h writes active) refl refl refl).performs;
+          store_performs (undoing_saves_none (left_open records c.args.entry.begin)) refl (c.in-Err.ensures.does newest records (settled table commits) _ h.both (left g s newest records table commits h writes active) refl refl refl).performs;
       works = works_at_error c.requires.going refl c.in-Err.ensures.works;
       room = search rules;
     }
@@ -64,9 +64,9 @@ returns-then-blocks-before g c =
     record {
       undone = search rules;
       keeps = λ newest records table commits h writes active count owes.
-          absurd (omega (arith, c.in-Ok.ensures.blocks newest records table commits _ h.both (left g s newest records table commits h writes active) refl refl refl, c.blocks-before.ensures, c.if-blocks-before.true, c.blocks-blocks.ensures, count));
+          absurd (omega (arith, c.in-Ok.ensures.blocks newest records (settled table commits) _ h.both (left g s newest records table commits h writes active) refl refl refl, c.blocks-before.ensures, c.if-blocks-before.true, c.blocks-blocks.ensures, count));
       asks = λ newest records table commits h writes active.
-          asked g s newest records table commits h writes active (asks_fails c.in-Ok.field-0 Foreign _ _ _ _ _ (c.in-Ok.ensures.does newest records table commits _ h.both (left g s newest records table commits h writes active) refl refl refl).asks);
+          asked g s newest records table commits h writes active (asks_fails c.in-Ok.field-0 Foreign _ _ _ _ _ (c.in-Ok.ensures.does newest records (settled table commits) _ h.both (left g s newest records table commits h writes active) refl refl refl).asks);
       log_reads = λ newest records table commits h writes active. read g s newest records table commits h writes active;
       performs = λ newest records table commits h writes active. performs_refused (λ dev same. cc);
       works = works_at_error {A = Unit {0}} c.requires.going refl (works_foreign c.in-Ok.ensures.works);
@@ -88,7 +88,7 @@ returns-then-blocks-owed g c =
           let own = ap (λ (x : Geometry). x.blocks) c.geometry.ensures in
           absurd (omega (arith, room, c.if-blocks-owed.true, c.blocks-blocks.ensures, sizes, own, going.log_going.limits.blocks, c.kept.ensures));
       asks = λ newest records table commits h writes active.
-          asked g s newest records table commits h writes active (asks_fails c.in-Ok.field-0 Foreign _ _ _ _ _ (c.in-Ok.ensures.does newest records table commits _ h.both (left g s newest records table commits h writes active) refl refl refl).asks);
+          asked g s newest records table commits h writes active (asks_fails c.in-Ok.field-0 Foreign _ _ _ _ _ (c.in-Ok.ensures.does newest records (settled table commits) _ h.both (left g s newest records table commits h writes active) refl refl refl).asks);
       log_reads = λ newest records table commits h writes active. read g s newest records table commits h writes active;
       performs = λ newest records table commits h writes active. performs_refused (λ dev same. cc);
       works = works_at_error {A = Unit {0}} c.requires.going refl (works_foreign c.in-Ok.ensures.works);
@@ -101,12 +101,12 @@ returns-clause-undone g c newest records table commits h writes active count = b
 pub returns-clause-keeps : goal.returns-clause-keeps
 returns-clause-keeps g c newest records table commits h writes active count owes =
     let left = left g (goal.at.returns-clause-keeps g c).After-undo_one newest records table commits h writes active in
-    keeps_of (under_leaves_for newest _ _ _ table commits _) (keeps_few (omega (arith, count)) (keeps_answered (c.in-Ok.ensures.does newest records table commits _ h.both left refl refl refl).keeps))
+    keeps_of (settled_leaves_for newest _ _ _ table commits _) (keeps_few (omega (arith, count)) (keeps_answered (c.in-Ok.ensures.does newest records (settled table commits) _ h.both left refl refl refl).keeps))
 
 pub returns-clause-asks : goal.returns-clause-asks
 returns-clause-asks g c newest records table commits h writes active =
     let s = (goal.at.returns-clause-asks g c).After-undo_one in
-    asked g s newest records table commits h writes active (asks_ok c.in-Ok.field-0 _ _ _ _ _ _ (c.in-Ok.ensures.does newest records table commits _ h.both (left g s newest records table commits h writes active) refl refl refl).asks)
+    asked g s newest records table commits h writes active (asks_ok c.in-Ok.field-0 _ _ _ _ _ _ (c.in-Ok.ensures.does newest records (settled table commits) _ h.both (left g s newest records table commits h writes active) refl refl refl).asks)
 
 pub returns-clause-log_reads : goal.returns-clause-log_reads
 returns-clause-log_reads g c = read g (goal.at.returns-clause-log_reads g c).After-undo_one
@@ -114,7 +114,7 @@ returns-clause-log_reads g c = read g (goal.at.returns-clause-log_reads g c).Aft
 pub returns-clause-performs : goal.returns-clause-performs
 returns-clause-performs g c newest records table commits h writes active =
     let left = left g (goal.at.returns-clause-performs g c).After-undo_one newest records table commits h writes active in
-    store_performs (undoing_saves_none (left_open records c.args.entry.begin)) refl (performs_answered (c.in-Ok.ensures.does newest records table commits _ h.both left refl refl refl).performs)
+    store_performs (undoing_saves_none (left_open records c.args.entry.begin)) refl (performs_answered (c.in-Ok.ensures.does newest records (settled table commits) _ h.both left refl refl refl).performs)
 
 pub returns-clause-works : goal.returns-clause-works
 returns-clause-works g c =

@@ -1,7 +1,7 @@
-use Rattle.redo_undo.proofs.Names.{refl, IsTrue, under_leaves_for, KeepsNext}
+use Rattle.redo_undo.proofs.Names.{settled, refl, IsTrue, KeepsNext}
 use Rattle.std.proofs.Common.{rules}
 use Rattle.redo_undo.proofs.NextUnits.{store_next}
-use Rattle.redo_undo.proofs.Saved.{finds_kept}
+use Rattle.redo_undo.proofs.Saved.{settled_leaves_for, finds_kept}
 use Rattle.redo_undo.proofs.StoreCalling.{keeps_of, where_two}
 use Rattle.redo_undo.proofs.MirroringStores.{store_performs}
 use Rattle.redo_undo.proofs.store.TransactionStore.touch.Goals as goal
@@ -9,11 +9,11 @@ use Rattle.redo_undo.proofs.store.TransactionStore.touch.Goals as goal
 pub returns-clause-holds : goal.returns-clause-holds
 returns-clause-holds g c newest records table commits h =
     let keeps = finds_kept c.args.self.now.masters (g.S.Site.state c.args.site.now) (g.S.Site.state c.touch.new.site) c.requires.going.shape in
-    where_two _ _ _ c.touch.result (c.touch.ensures.holds newest records table commits h.both) ((c.touch.ensures.keeps newest records table commits h.both).masters refl)
+    where_two _ _ _ c.touch.result (c.touch.ensures.holds newest records (settled table commits) h.both) ((c.touch.ensures.keeps newest records (settled table commits) h.both).masters refl)
     (λ both units. record { both = both; orderly = h.orderly; masters = keeps units h.masters })
 
 pub returns-clause-keeps : goal.returns-clause-keeps
-returns-clause-keeps g c newest records table commits h = keeps_of (under_leaves_for newest _ _ _ table commits _) (c.touch.ensures.keeps newest records table commits h.both)
+returns-clause-keeps g c newest records table commits h = keeps_of (settled_leaves_for newest _ _ _ table commits _) (c.touch.ensures.keeps newest records (settled table commits) h.both)
 
 pub returns-clause-works : goal.returns-clause-works
 returns-clause-works g c =
@@ -24,4 +24,4 @@ returns-clause-works g c =
     search rules
 
 pub returns-clause-performs : goal.returns-clause-performs
-returns-clause-performs g c newest records table commits h = store_performs refl refl (c.touch.ensures.performs newest records table commits h.both)
+returns-clause-performs g c newest records table commits h = store_performs refl refl (c.touch.ensures.performs newest records (settled table commits) h.both)

@@ -1,7 +1,7 @@
-use Rattle.redo_undo.proofs.Names.{refl, ℕ, List, ◌≡◌, ◌+◌, ◌*◌, ◌/◌, ◌%◌, ◌++◌, ◌∷◌, [], sym, subst, arith, same_Some, Ok, IsTrue, front_of, under_leaves_for, LogRecord, updates, KeepsNext, shown_in, update_by, performs_as, RingOp, changed}
+use Rattle.redo_undo.proofs.Names.{settled, refl, ℕ, List, ◌≡◌, ◌+◌, ◌*◌, ◌/◌, ◌%◌, ◌++◌, ◌∷◌, [], sym, subst, arith, same_Some, Ok, IsTrue, front_of, LogRecord, updates, KeepsNext, shown_in, update_by, performs_as, RingOp, changed}
 use Rattle.std.proofs.Common.{rules}
 use Rattle.redo_undo.proofs.Rooms.{fits_as}
-use Rattle.redo_undo.proofs.Saved.{finds_kept}
+use Rattle.redo_undo.proofs.Saved.{settled_leaves_for, finds_kept}
 use Rattle.redo_undo.proofs.StoreCalling.{keeps_of, works_at_error}
 use Rattle.redo_undo.proofs.NextUnits.{store_next}
 use Rattle.redo_undo.specs.Stores.{Represents, MayGrow}
@@ -26,16 +26,16 @@ returns-in-Ok-clause-holds g c newest records table commits h = λ may.
     let grows = subst (λ (rec : LogRecord). MayGrow store old newest records (record { lsn = lsn; rec = rec })) (sym is) may in
     subst (λ (rec : LogRecord). Represents (record { log = c.log_change.new.log; pages = c.log_change.new.pages; masters = store.masters; made = store.made + 1 }) new newest (records ++ record { lsn = lsn; rec = rec } ∷ []) table commits) is
     (record {
-      both = c.in-Ok.ensures.holds newest records table commits h.both grows;
-      orderly = c.in-Ok.ensures.orderly newest records table commits h.both grows h.orderly;
-      masters = finds_kept store.masters old new c.requires.may.going.shape ((c.in-Ok.ensures.keeps newest records table commits h.both).masters refl) h.masters;
+      both = c.in-Ok.ensures.holds newest records (settled table commits) h.both grows;
+      orderly = c.in-Ok.ensures.orderly newest records (settled table commits) h.both grows h.orderly;
+      masters = finds_kept store.masters old new c.requires.may.going.shape ((c.in-Ok.ensures.keeps newest records (settled table commits) h.both).masters refl) h.masters;
     })
 
 pub returns-in-Ok-clause-keeps : goal.returns-in-Ok-clause-keeps
-returns-in-Ok-clause-keeps g c newest records table commits h = keeps_of (under_leaves_for newest _ _ _ table commits _) (c.in-Ok.ensures.keeps newest records table commits h.both)
+returns-in-Ok-clause-keeps g c newest records table commits h = keeps_of (settled_leaves_for newest _ _ _ table commits _) (c.in-Ok.ensures.keeps newest records (settled table commits) h.both)
 
 pub returns-in-Err-clause-keeps : goal.returns-in-Err-clause-keeps
-returns-in-Err-clause-keeps g c newest records table commits h = keeps_of (under_leaves_for newest _ _ _ table commits _) (c.in-Err.ensures.keeps newest records table commits h.both)
+returns-in-Err-clause-keeps g c newest records table commits h = keeps_of (settled_leaves_for newest _ _ _ table commits _) (c.in-Err.ensures.keeps newest records (settled table commits) h.both)
 
 pub returns-in-Ok-clause-works : goal.returns-in-Ok-clause-works
 returns-in-Ok-clause-works g c =
@@ -55,7 +55,7 @@ returns-in-Ok-clause-performs g c newest records table commits h =
     let front = (front_of store.pages.pool.frames).page in
     let is : ◌≡◌ {A = List RingOp} (updates c.args.number (shown_in store old records c.args.number) c.args.after.now) (changed (octets.update_octets c.shown.result c.copy_of.result) front ∷ []) =
     λ i. changed (octets.update_octets ((sym (c.shown.ensures.shown old newest records table commits h)) i) ((sym c.copy_of.ensures) i)) ((sym c.requires.front.page) i) ∷ [] in
-    store_performs refl refl (performs_as is (c.in-Ok.ensures.performs newest records table commits h.both))
+    store_performs refl refl (performs_as is (c.in-Ok.ensures.performs newest records (settled table commits) h.both))
 
 pub returns-in-Err-clause-performs : goal.returns-in-Err-clause-performs
 returns-in-Err-clause-performs g c newest records table commits h =
@@ -64,4 +64,4 @@ returns-in-Err-clause-performs g c newest records table commits h =
     let front = (front_of store.pages.pool.frames).page in
     let is : ◌≡◌ {A = List RingOp} (updates c.args.number (shown_in store old records c.args.number) c.args.after.now) (changed (octets.update_octets c.shown.result c.copy_of.result) front ∷ []) =
     λ i. changed (octets.update_octets ((sym (c.shown.ensures.shown old newest records table commits h)) i) ((sym c.copy_of.ensures) i)) ((sym c.requires.front.page) i) ∷ [] in
-    store_performs refl refl (performs_as is (c.in-Err.ensures.performs newest records table commits h.both))
+    store_performs refl refl (performs_as is (c.in-Err.ensures.performs newest records (settled table commits) h.both))
