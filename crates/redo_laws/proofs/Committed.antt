@@ -42,3 +42,8 @@ either_left g before after commits so_far s left = record { told = left.told; st
           let last : count ≡ commits + 1 = omega (arith, least, most, other) in
           inr (subst (λ (t : List Content). StandsFor g s.image t (commits + 1)) (next_is before after commits) (subst (λ (n : ℕ). StandsFor g s.image (first_then before after commits n) n) last stands))
     ]
+
+-- and before it is logged
+pub before_left : (g : Geometry) (before after : List Content) (commits : ℕ) (so_far : List ℕ) (s : Snapshot) → LeavesSome g (next_to before after commits) so_far s → LeavesEitherFor g before after commits so_far s
+before_left g before after commits so_far s left =
+    either_left g before after commits so_far s (record { told = left.told; count = left.count; from_floor = left.from_floor; within = let few = left.within in omega (arith, few); stands = left.stands })

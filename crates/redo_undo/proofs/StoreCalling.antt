@@ -19,6 +19,9 @@ works_then {r = r} {old = old} {new = new} {before = before} {between = between}
 pub works_answered : {A B : Type 0} {a : A} {b : B} {old new : TransactionStore} {before now : Site} {n : ℕ} → KeepsInvariant {T = A} (Ok a) old new before now n → KeepsInvariant {T = B} (Ok b) old new before now n
 works_answered first = record { calls = calls_answered first.calls; going = first.going; next = λ honest. next_answered (first.next honest); made = first.made; blocks = first.blocks; rises = first.rises; kept = first.kept; sizes = first.sizes; stops = tt }
 
+pub works_failed : {A B : Type 0} {stop : Stop} {old new : TransactionStore} {before now : Site} {n k : ℕ} → KeepsInvariant {T = A} (Err stop) old new before now n → KeepsInvariant {T = B} (Err stop) old new before now k
+works_failed first = record { calls = calls_failed first.calls; going = tt; next = λ honest. next_failed (first.next honest); made = tt; blocks = tt; rises = tt; kept = first.kept; sizes = first.sizes; stops = first.stops }
+
 -- a call of log and pages that fails
 pub works_at_error : {A B : Type 0} {stop : Stop} {old new : TransactionStore} {before now : Site} {n : ℕ} → MayWork old before → new.masters ≡ old.masters → calls.KeepsInvariant {T = A} (Err stop) old.log new.log old.pages new.pages before now → KeepsInvariant {T = B} (Err stop) old new before now n
 works_at_error going masters works = grind (arith, calls_failed, next_failed, store_next)

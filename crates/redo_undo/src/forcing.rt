@@ -1,10 +1,13 @@
 // The log's tail is sealed.
-ghost use Rattle.std.specs.Prelude.{◌≡◌, ◌⊎◌, ◌+◌, ◌<◌, ℕ, List, OnOk, IfErr, Option};
+ghost use Rattle.std.specs.Prelude.{◌≡◌, ◌⊎◌, ◌+◌, ◌<◌, ℕ, List, OnOk, IfErr, Option, IsTrue};
 ghost use Rattle.site.specs.declared.outside.Dev.{Dev};
 ghost use Rattle.site.specs.declared.outside.Stop.{Stop};
 ghost use Rattle.record_model.specs.State.{Content};
 ghost use Rattle.log_records.specs.Log.{Entry};
 ghost use Rattle.log_store.specs.Representation as log_store;
+ghost use Rattle.log_store.specs.Representation.{end_of};
+ghost use Rattle.slotted_page.specs.Layout.{lsn_of};
+ghost use Rattle.page_store.specs.Representation.{current};
 ghost use Rattle.page_store.specs.declared.store.PageStore.{PageStore};
 ghost use Rattle.checkpoint.specs.declared.master.Master.{Master};
 ghost use Rattle.redo_laws.specs.Waiting.{LeavesSomeUnder};
@@ -32,9 +35,12 @@ pub(crate) fn force<S: Site>(site: &mut S, log: &mut LogStore) -> Result<(), Sto
         → Represents log.old pages (S.state site.old) newest records history
         → KeepsBeside result log.old log.new pages (S.state site.old) (S.state site.new)
         (LeavesSomeUnder newest pages.flash.geometry history (S.state site.old).told) 0 }
-    ensures performs { (pages : PageStore) (newest : Option Master) (records : List Entry) (history : History)
-        → Invariant log.old pages (S.state site.old)
-        → Represents log.old pages (S.state site.old) newest records history
+
+    // Of an honest site where no page has an LSN that a next record may get.
+    ensures performs { (pages : PageStore) → Invariant log.old pages (S.state site.old)
+        → IsTrue (S.state site.old).honest
+        → ((page : ℕ) → page < pages.flash.geometry.pages
+        → lsn_of (current pages (S.state site.old).image page) < end_of log.old)
         → PerformsOn result force_work log.old log.new pages pages (S.state site.old) (S.state site.new) }
 
     // Of every site.

@@ -58,18 +58,18 @@ returns-clause-keeps g c pages newest records history h =
 -- What it makes of the machine.
 
 pub returns-then-tail_empty-clause-performs : goal.returns-then-tail_empty-clause-performs
-returns-then-tail_empty-clause-performs g c pages newest records history going h =
+returns-then-tail_empty-clause-performs g c pages going honest below =
     let log = c.args.log.now in
     let site = g.S.Site.state c.args.site.now in
     let two : log.used ≡ 2 = c.tail_empty.ensures.0 c.if-tail_empty.true in
     let none : has_tail log ≡ false = ap (nat_lt 2) two in
-    force_performs log log pages site site (record { high = c.requires.going.high; each = h.below }) (Ok tt) (record { worn_log = λ says. absurd (no_error says); stops = tt }) (ap (λ (b : Bool). if b then log.ring.hi + 1 else log.ring.hi) (sym none)) two c.requires.going.low (λ number. refl)
+    force_performs log log pages site site (record { high = c.requires.going.high; each = below }) (Ok tt) (record { worn_log = λ says. absurd (no_error says); stops = tt }) (ap (λ (b : Bool). if b then log.ring.hi + 1 else log.ring.hi) (sym none)) two c.requires.going.low (λ number. refl)
     (numbers_left c.requires.going going.pages_going)
 
 pub returns-clause-performs : goal.returns-clause-performs
-returns-clause-performs g c pages newest records history going h =
+returns-clause-performs g c pages going honest below =
     let log = c.args.log.now in
     let site = g.S.Site.state c.args.site.now in
     let new = g.S.Site.state c.force.new.site in
-    force_performs log c.force.new.self pages site new (record { high = c.requires.going.high; each = h.below }) c.force.result (record { worn_log = c.force.ensures.seals.worn.0; stops = c.force.ensures.seals.stops }) c.force.ensures.seals.next c.force.ensures.empty c.requires.going.low
-    (current_same pages site new (c.force.ensures.seals.changes h.log_holds.ready.blocks.honest)) (numbers_left c.force.ensures.seals.going going.pages_going)
+    force_performs log c.force.new.self pages site new (record { high = c.requires.going.high; each = below }) c.force.result (record { worn_log = c.force.ensures.seals.worn.0; stops = c.force.ensures.seals.stops }) c.force.ensures.seals.next c.force.ensures.empty c.requires.going.low
+    (current_same pages site new (c.force.ensures.seals.changes honest)) (numbers_left c.force.ensures.seals.going going.pages_going)

@@ -43,7 +43,7 @@ module _ (g : Over) (c : After-save_master g) (newest : Option Master) (records 
   honest = h.log_holds.ready.blocks.honest
 
   pub two_first : Performs {T = Unit {0}} (Ok tt) (rules c.args.self.now.pages) (force ∷ cached flush ∷ []) (MirrorsStore c.args.self.now (g.S.Site.state c.args.site.now).image) (MirrorsStore before_save (g.S.Site.state c.flush.new.site).image)
-  two_first = performs_then (store_performs {old = c.args.self.now} {new = mid} refl refl (c.in-Ok.ensures.performs c.args.self.now.pages newest records (settled table c.args.commits) c.requires.going.both h))
+  two_first = performs_then (store_performs {old = c.args.self.now} {new = mid} refl refl (c.in-Ok.ensures.performs c.args.self.now.pages c.requires.going.both h.log_holds.ready.blocks.honest h.below))
       (store_performs {old = mid} {new = before_save} refl refl (c.in-Ok-flush.ensures.performs newest records (settled table c.args.commits) held))
 
   pub same_pages : (page : ℕ) → current c.flush.new.pages (g.S.Site.state c.save_master.new.site).image page ≡ current c.flush.new.pages (g.S.Site.state c.flush.new.site).image page
@@ -177,13 +177,13 @@ returns-in-Ok-save_master-clause-next g c honest =
 
 pub returns-in-Err-clause-performs : goal.returns-in-Err-clause-performs
 returns-in-Err-clause-performs g c newest records table h =
-    performs_stopped (cached flush ∷ save ∷ []) (store_performs {new = record c.args.self.now { log = c.force.new.log }} refl refl (c.in-Err.ensures.performs c.args.self.now.pages newest records (settled table c.args.commits) c.requires.going.both h))
+    performs_stopped (cached flush ∷ save ∷ []) (store_performs {new = record c.args.self.now { log = c.force.new.log }} refl refl (c.in-Err.ensures.performs c.args.self.now.pages c.requires.going.both h.log_holds.ready.blocks.honest h.below))
 
 pub returns-in-Err-flush-clause-performs : goal.returns-in-Err-flush-clause-performs
 returns-in-Err-flush-clause-performs g c newest records table h =
     let pages = c.args.self.now.pages in
     let held = c.in-Ok.ensures.holds pages newest records (settled table c.args.commits) c.requires.going.both.sizes h in
-    performs_stopped (save ∷ []) (performs_then (store_performs {new = record c.args.self.now { log = c.force.new.log }} refl refl (c.in-Ok.ensures.performs pages newest records (settled table c.args.commits) c.requires.going.both h))
+    performs_stopped (save ∷ []) (performs_then (store_performs {new = record c.args.self.now { log = c.force.new.log }} refl refl (c.in-Ok.ensures.performs pages c.requires.going.both h.log_holds.ready.blocks.honest h.below))
     (store_performs {old = record c.args.self.now { log = c.force.new.log }} {new = record c.args.self.now { log = c.flush.new.log; pages = c.flush.new.pages }} refl refl (c.in-Err-flush.ensures.performs newest records (settled table c.args.commits) held)))
 
 pub returns-in-Err-save_master-clause-performs : goal.returns-in-Err-save_master-clause-performs
