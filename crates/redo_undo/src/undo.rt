@@ -128,12 +128,14 @@ fn read_step<S: Site>(log: &LogStore, site: &mut S, at: &UndoCursor) -> Result<S
     requires last { at.now.last < end_of log.now }
 
     // Of an honest site on which log and pages hold together.
-    ensures step { (pages : PageStore) (newest : Option Master) (records : List Entry) (history : History) (x : Unfinished) (e : Entry) (rest : List Entry)
+    ensures step { (pages : PageStore) (newest : Option Master) (records : List Entry) (history : History)
+        (x : Unfinished) (e : Entry) (rest : List Entry)
         → log.now.geometry ≡ pages.flash.geometry
         → Represents log.now pages (S.state site.old) newest records history
         → IsUnfinished records x → IsAt at.now x → x.chain ≡ e ∷ rest
         → IfOk result (IsStepOf at.now log.now.geometry.pages e.rec) }
-    ensures readable { (pages : PageStore) (newest : Option Master) (records : List Entry) (history : History) (x : Unfinished) (e : Entry) (rest : List Entry)
+    ensures readable { (pages : PageStore) (newest : Option Master) (records : List Entry) (history : History)
+        (x : Unfinished) (e : Entry) (rest : List Entry)
         → log.now.geometry ≡ pages.flash.geometry
         → Represents log.now pages (S.state site.old) newest records history
         → IsUnfinished records x → IsAt at.now x → x.chain ≡ e ∷ rest

@@ -49,7 +49,8 @@ fn end_one<S: Site>(
         (known : ℕ)
         → Invariant log.old pages (S.state site.old)
         → IsUndoing log.old pages (S.state site.old) newest records history found.old known
-        → UndoesWork result ends [] log.old log.new pages pages (S.state site.old) (S.state site.new) newest history 1 0 }
+        → UndoesWork result ends [] log.old log.new pages pages (S.state site.old) (S.state site.new) newest history
+        1 0 }
     ensures updates { (pages : PageStore) (newest : Option Master) (records : List Entry) (history : History)
         (known : ℕ)
         → log.old.geometry ≡ pages.flash.geometry
