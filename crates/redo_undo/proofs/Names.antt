@@ -111,7 +111,7 @@ pub use Rattle.redo_undo.specs.Mirroring.{clrs_for, Mirrors, none_remains, ends_
 pub use Rattle.redo_undo.specs.Redoing.{Opening, opened, IsRedoing, HasTaken, IsReading, asked_of, AsksAtRest, IsOpened, IsFrom, LeavesOpened, heard_of, IsReadable, touches_of}
 pub use Rattle.redo_undo.specs.Rollback.{AreClrsOf, Compensates, UndoesLast, CompensatesUpTo}
 pub use Rattle.redo_undo.specs.StoreCalls.{KeepsNext, AreNext}
-pub use Rattle.redo_undo.specs.StoreRollback.{RollsBack, ConcernsOnly, GoesBack}
+pub use Rattle.redo_undo.specs.StoreRollback.{RollsBackOver, ConcernsOnly, GoesBackOver}
 pub use Rattle.redo_undo.specs.Stores.{sizes_of, shown_in, update_by, MayWork}
 pub use Rattle.redo_undo.specs.UndoCalls.{UndoesWork, taken_by}
 pub use Rattle.redo_undo.specs.Undoing.{IsAt, IsStepOf, Undone, Passed, IsWanted, clrs_logged}

@@ -1,5 +1,5 @@
 -- Calls of a store one after the other, each known by its record.
-use Rattle.redo_undo.proofs.Names.{◌≡◌, ◌+◌, ◌≤◌, List, refl, subst, ◌∙◌, arith, ℕ, Result, Ok, Err, OnOk, IsTrue, StandsFor, LeavesFor, Content, ends_answered, ends_behind, ends_failed, ends_leaving, ends_no_memory, ends_ok, leaves_late, skips_on, then_skips, skips_again, skips_answered, skips_refused, skips_weaker, SkipsNone, sizes_of, MayWork, TransactionStore, holds_now, leaves_weaker, stays_honest, ok_as, calls_then, calls_answered, calls_failed, LeavesOnly, State as Site, Snapshot, IsQuiet, Geometry, Stop, Memory}
+use Rattle.redo_undo.proofs.Names.{LeavesSome, settled, ◌≡◌, ◌+◌, ◌≤◌, List, refl, subst, ◌∙◌, arith, ℕ, Result, Ok, Err, OnOk, IsTrue, StandsFor, LeavesFor, Content, ends_answered, ends_behind, ends_failed, ends_leaving, ends_no_memory, ends_ok, leaves_late, skips_on, then_skips, skips_again, skips_answered, skips_refused, skips_weaker, SkipsNone, sizes_of, MayWork, TransactionStore, holds_now, leaves_weaker, stays_honest, ok_as, calls_then, calls_answered, calls_failed, LeavesOnly, State as Site, Snapshot, IsQuiet, Geometry, Stop, Memory}
 use Rattle.redo_undo.proofs.NextUnits.{next_then, next_answered, next_failed, store_next}
 use Rattle.redo_undo.specs.StoreCalls.{KeepsInvariant, Keeps}
 use Rattle.redo_laws.specs.Calls as calls
@@ -53,6 +53,12 @@ keeps_both {old = old} {before = before} {between = between} {table = table} {co
 
 pub keeps_weaker : {T : Type 0} {r : Result T Stop} {old new : TransactionStore} {before now : Site} {P R : Snapshot → Type 0} {n m : ℕ} → ((s : Snapshot) → P s → R s) → Keeps r old new before now P n m → Keeps r old new before now R n m
 keeps_weaker {before = before} {now = now} {P = P} {R = R} more first = record { ends = ends_leaving (leaves_weaker before now P R more) first.ends; numbers = first.numbers }
+
+-- where no commit waits a crash leaves the table
+pub keeps_settled : {T : Type 0} {r : Result T Stop} {old new : TransactionStore} {before now : Site} {g : Geometry} {table : List Content} {commits n m : ℕ} {so_far : List ℕ} → Keeps r old new before now (LeavesSome g (settled table commits) so_far) n m → Keeps r old new before now (LeavesFor g table commits so_far) n m
+keeps_settled {g = g} {table = table} {commits = commits} kept = keeps_weaker (λ s left.
+    let all : left.count ≡ commits = let least = left.from_floor in let most = left.within in omega (arith, least, most) in
+    record { told = left.told; stands = subst (StandsFor g s.image table) all left.stands }) kept
 
 pub keeps_before : {A B : Type 0} {stop : Stop} {old new : TransactionStore} {before now : Site} {P : Snapshot → Type 0} {n k m : ℕ} → n ≤ k → Keeps {T = A} (Err stop) old new before now P n m → Keeps {T = B} (Err stop) old new before now P k m
 keeps_before {A = A} {B = B} {stop = stop} {old = old} {new = new} {before = before} {now = now} {n = n} {k = k} {m = m} few first = record {

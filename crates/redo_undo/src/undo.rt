@@ -141,7 +141,7 @@ fn read_step<S: Site>(log: &LogStore, site: &mut S, at: &UndoCursor) -> Result<S
         → IsUnfinished records x → IsAt at.now x → x.chain ≡ e ∷ rest
         → IfErr result (λ stop. stop ≢ Stop.Foreign) }
 
-    // Of every site: a record of this transaction was read.
+    // Of every site: the step is that of some record of this transaction.
     ensures own { IfOk result (λ step. (rec : LogRecord) × HasForm rec
         × IsStepOf at.now log.now.geometry.pages rec step) }
     ensures reads { ReadsOne result (S.state site.old) (S.state site.new) }
