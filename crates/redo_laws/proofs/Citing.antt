@@ -23,7 +23,7 @@ pub use Rattle.image_meaning.specs.LogicalImages.{ReplaceAll}
 pub use Rattle.image_meaning.specs.Meaning.{versions_on, logical_image_under, kept_by, version_in, master_of, next_block_under, StandsUnder, IsSoundUnder}
 pub use Rattle.image_meaning.specs.Moments.{LeavesTableUnder, LeavesEitherUnder}
 pub use Rattle.image_meaning.specs.Redone.{ShowsAll, AreKnown, Redoes}
-pub use Rattle.log_laws.proofs.Tails.{carries_more, carries_nothing, whole_more, sealed_tail, whole_sealed, InTurn-left, commits_more, commits_stay, sealed_tail_means, tail_with_commit, whole_stays_orderly}
+pub use Rattle.log_laws.proofs.Tails.{carries_more, carries_nothing, whole_more, sealed_tail, whole_sealed, InTurn-left, commits_more, commits_stay, sealed_tail_means, whole_stays_orderly}
 pub use Rattle.log_laws.specs.Follow.{sealed, Follows, next_entries, IsActive, writes_in}
 pub use Rattle.log_laws.specs.Tail.{next_lsn, whole, Carries}
 pub use Rattle.log_records.specs.Log.{Entry, Version, log_from, number_of, shown, is_loser, is_number, is_on}

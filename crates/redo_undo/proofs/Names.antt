@@ -29,7 +29,7 @@ pub use Rattle.image_changes.proofs.Sequence.{ring_kept}
 pub use Rattle.image_changes.specs.Changes.{AppendsMaster, Makes, Reaches, ReadsAs}
 pub use Rattle.image_changes.specs.Reached.{LeavesFront}
 pub use Rattle.image_changes.specs.Rings.{master_shape, KeepsUnits, Masters, log_shape, Blocks, segment_shape}
-pub use Rattle.image_meaning.proofs.Leaving.{under_leaves_for, under_leaves_either_for}
+pub use Rattle.image_meaning.proofs.Leaving.{under_leaves_for}
 pub use Rattle.image_meaning.proofs.Redos.{next_is_redone, redone_is_current, version_is_redone, redone_replaces}
 pub use Rattle.image_meaning.proofs.UnchangedImages.{next_block_is}
 pub use Rattle.image_meaning.proofs.Versions.{length-versions, version_is}
@@ -82,7 +82,7 @@ pub use Rattle.page_store.specs.declared.store.PageStore.{PageStore}
 pub use Rattle.record_model.specs.State.{Content, Write, content_at, length_of, page_room, table_with}
 pub use Rattle.record_model.specs.Touches.{touch, CacheOp, flush, write_touch, page_of}
 pub use Rattle.redo_laws.proofs.Appended.{current_same, if_ok_one, append_leaves, more_sealed, IsAppended, IsNumbered, appended, ends_with, if_ok_four, if_ok_three, if_ok_two, most_blocks, ok_by, rings_now, versions_same}
-pub use Rattle.redo_laws.proofs.Asking.{stages_log, asks_nothing, asks_ok, asks_err, asks_same, asks_stopped, asks_then, stages_read, asks_fails, change_reads, change_stages, no_asks, stages_alone, touch_reads}
+pub use Rattle.redo_laws.proofs.Asking.{stages_log, asks_nothing, asks_ok, asks_err, asks_same, asks_stopped, asks_then, stages_read, asks_fails, change_reads, change_stages, no_asks, touch_reads}
 pub use Rattle.redo_laws.proofs.AskingFlush.{never_worn_flash, asks_around, flush_then}
 pub use Rattle.redo_laws.proofs.AskingUndo.{asks_refused, change_stopped, log_alone, works_are, asks_later, change_made, not_worn_either, not_worn_flash, page_is, work_is}
 pub use Rattle.redo_laws.proofs.CallsInSequence.{some_group, going_still, nothing_happens, nothing_lost, only_read, units_then, and_then, found_now, holds_still, leaves_still, opened_holds, sound_there}

@@ -1,5 +1,5 @@
 -- Calls of a store one after the other, each known by its record.
-use Rattle.redo_undo.proofs.Names.{LeavesSome, settled, ◌≡◌, ◌+◌, ◌≤◌, List, refl, subst, ◌∙◌, arith, ℕ, Result, Ok, Err, OnOk, IsTrue, StandsFor, LeavesFor, Content, ends_answered, ends_behind, ends_failed, ends_leaving, ends_no_memory, ends_ok, leaves_late, skips_on, then_skips, skips_again, skips_answered, skips_refused, skips_weaker, SkipsNone, sizes_of, MayWork, TransactionStore, holds_now, leaves_weaker, stays_honest, ok_as, calls_then, calls_answered, calls_failed, LeavesOnly, State as Site, Snapshot, IsQuiet, Geometry, Stop, Memory}
+use Rattle.redo_undo.proofs.Names.{LeavesSome, settled, ◌≡◌, ◌+◌, ◌≤◌, List, refl, subst, ◌∙◌, arith, ℕ, Result, Ok, Err, OnOk, IsTrue, StandsFor, LeavesFor, Content, ends_answered, ends_behind, ends_failed, ends_leaving, ends_no_memory, leaves_late, skips_on, then_skips, skips_again, skips_answered, skips_refused, skips_weaker, sizes_of, MayWork, TransactionStore, holds_now, leaves_weaker, stays_honest, ok_as, calls_then, calls_answered, calls_failed, LeavesOnly, State as Site, Snapshot, Geometry, Stop, Memory}
 use Rattle.redo_undo.proofs.NextUnits.{next_then, next_answered, next_failed, store_next}
 use Rattle.redo_undo.specs.StoreCalls.{KeepsInvariant, Keeps}
 use Rattle.redo_laws.specs.Calls as calls
@@ -74,7 +74,3 @@ keeps_answered {A = A} {B = B} {a = a} {b = b} {old = old} {new = new} {before =
 
 pub keeps_no_memory : {A B : Type 0} {a : A} {old new : TransactionStore} {before now : Site} {P : Snapshot → Type 0} {i n m : ℕ} → IsTrue before.honest → KeepsInvariant {T = A} (Ok a) old new before now i → Keeps {T = A} (Ok a) old new before now P n m → Keeps {T = B} (Err Memory) old new before now P n m
 keeps_no_memory {A = A} {B = B} {a = a} {old = old} {new = new} {before = before} {now = now} {n = n} {m = m} honest works first = grind (arith, ends_no_memory, skips_refused)
-
-pub keeps_ok : {T : Type 0} {x : T} {old new : TransactionStore} {before now : Site} {P : Snapshot → Type 0} {n m : ℕ} → (IsQuiet before → LeavesOnly before now P) → (IsQuiet before → SkipsNone {T = T} {E = Stop} (Ok x) (sizes_of old) old.log new.log before now n m) →
-    Keeps {T = T} (Ok x) old new before now P n m
-keeps_ok moments numbers = record { ends = ends_ok moments; numbers = numbers }
