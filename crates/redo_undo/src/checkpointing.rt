@@ -41,8 +41,8 @@ use page_store::PageStore;
 use sealed_ring::Ring;
 use site::{Site, Stop};
 
-// Pushes all changed pages. What log and pages hold together stays, and at each moment the devices stand for the same
-// table. The log's tail is empty, so the log isn't forced.
+// Pushes all changed pages. What log and pages hold together stays, and so does what the devices stand for at each
+// moment. The log's tail is empty, so the log isn't forced.
 fn flush<S: Site>(site: &mut S, log: &mut LogStore, pages: &mut PageStore) -> Result<(), Stop>
     requires going { Invariant log.old pages.old (S.state site.old) }
     requires sealed { log.old.used ≡ 2 }

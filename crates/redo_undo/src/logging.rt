@@ -41,8 +41,8 @@ use page_store::PageStore;
 use site::{Site, Stop};
 
 /// Brings a page to the front of the pool. What log and pages hold together stays, and at each moment the devices stand
-/// for the same table. The machine says which pages leave; where they have changes that aren't sealed the log is sealed
-/// before.
+/// for the table after some commits, none below the floor. The machine says which pages leave; where they have changes
+/// that aren't sealed the log is sealed before.
 pub fn touch<S: Site>(
     site: &mut S,
     log: &mut LogStore,
@@ -162,8 +162,8 @@ pub fn log_record<S: Site>(site: &mut S, log: &mut LogStore, rec: &LogRecord) ->
 
 /// Appends an Update or a CLR, which is on the page in front of the pool and has room there, and changes that page by
 /// it. Answers the record's LSN. From the kept block on there is room for one block more. What log and pages hold
-/// together goes on by the record, and at each moment the devices stand for the same table. Where the page has an LSN
-/// from the log's end on it answers Foreign.
+/// together goes on by the record, and at each moment the devices stand as they do while a page is touched. Where the
+/// page has an LSN from the log's end on it answers Foreign.
 pub fn log_change<S: Site>(
     site: &mut S,
     log: &mut LogStore,
