@@ -35,9 +35,9 @@ returns-in-Ok-clause-undone_over g c =
     let s = (goal.at.returns-in-Ok-clause-undone_over g c).After-undo_to in
     let after : TransactionStore = record c.args.self.now { log = c.undo_to.new.log; pages = c.undo_to.new.pages; made = c.args.self.now.made + c.args.count } in
     λ newest records history h writes active few.
-      let left = left g s newest records history h writes active in
-      goes_back c.args.self.now after _ _ newest records history c.args.entry.begin c.args.entry.last c.args.count c.in-Ok.last writes h active (c.in-Ok.ensures.undone newest records history _ h.both left refl refl refl few)
-      (finds_kept c.args.self.now.masters _ _ c.requires.going.shape ((c.in-Ok.ensures.does newest records history _ h.both left refl refl refl few).keeps.masters refl) h.masters)
+    let left = left g s newest records history h writes active in
+    goes_back c.args.self.now after _ _ newest records history c.args.entry.begin c.args.entry.last c.args.count c.in-Ok.last writes h active (c.in-Ok.ensures.undone newest records history _ h.both left refl refl refl few)
+    (finds_kept c.args.self.now.masters _ _ c.requires.going.shape ((c.in-Ok.ensures.does newest records history _ h.both left refl refl refl few).keeps.masters refl) h.masters)
 
 pub returns-in-Ok-clause-undone : goal.returns-in-Ok-clause-undone
 returns-in-Ok-clause-undone g c newest records table commits = returns-in-Ok-clause-undone_over g c newest records (settled table commits)
@@ -46,7 +46,7 @@ pub returns-in-Ok-clause-keeps_over : goal.returns-in-Ok-clause-keeps_over
 returns-in-Ok-clause-keeps_over g c =
     let s = (goal.at.returns-in-Ok-clause-keeps_over g c).After-undo_to in
     λ newest records history h writes active few.
-      keeps_of (some_leaves_for newest _ _ _ history _) (keeps_answered (c.in-Ok.ensures.does newest records history _ h.both (left g s newest records history h writes active) refl refl refl few).keeps)
+    keeps_of (some_leaves_for newest _ _ _ history _) (keeps_answered (c.in-Ok.ensures.does newest records history _ h.both (left g s newest records history h writes active) refl refl refl few).keeps)
 
 pub returns-in-Ok-clause-keeps : goal.returns-in-Ok-clause-keeps
 returns-in-Ok-clause-keeps g c newest records table commits h writes active few = keeps_settled (returns-in-Ok-clause-keeps_over g c newest records (settled table commits) h writes active few)
@@ -55,7 +55,7 @@ pub returns-in-Ok-clause-asks_over : goal.returns-in-Ok-clause-asks_over
 returns-in-Ok-clause-asks_over g c =
     let s = (goal.at.returns-in-Ok-clause-asks_over g c).After-undo_to in
     λ newest records history h writes active few.
-      asked g s newest records history h writes active few (asks_ok c.in-Ok.last _ _ _ _ _ _ (c.in-Ok.ensures.does newest records history _ h.both (left g s newest records history h writes active) refl refl refl few).asks)
+    asked g s newest records history h writes active few (asks_ok c.in-Ok.last _ _ _ _ _ _ (c.in-Ok.ensures.does newest records history _ h.both (left g s newest records history h writes active) refl refl refl few).asks)
 
 pub returns-in-Ok-clause-asks : goal.returns-in-Ok-clause-asks
 returns-in-Ok-clause-asks g c newest records table commits = returns-in-Ok-clause-asks_over g c newest records (settled table commits)
@@ -72,7 +72,7 @@ pub returns-in-Ok-clause-performs_over : goal.returns-in-Ok-clause-performs_over
 returns-in-Ok-clause-performs_over g c =
     let s = (goal.at.returns-in-Ok-clause-performs_over g c).After-undo_to in
     λ newest records history h writes active few.
-      store_performs (clrs_save_none (take c.args.count (left_open records c.args.entry.begin))) refl (performs_answered (c.in-Ok.ensures.does newest records history _ h.both (left g s newest records history h writes active) refl refl refl few).performs)
+    store_performs (clrs_save_none (take c.args.count (left_open records c.args.entry.begin))) refl (performs_answered (c.in-Ok.ensures.does newest records history _ h.both (left g s newest records history h writes active) refl refl refl few).performs)
 
 pub returns-in-Ok-clause-performs : goal.returns-in-Ok-clause-performs
 returns-in-Ok-clause-performs g c newest records table commits = returns-in-Ok-clause-performs_over g c newest records (settled table commits)
@@ -92,7 +92,7 @@ pub returns-in-Err-clause-keeps_over : goal.returns-in-Err-clause-keeps_over
 returns-in-Err-clause-keeps_over g c =
     let s = (goal.at.returns-in-Err-clause-keeps_over g c).After-undo_to in
     λ newest records history h writes active few.
-      keeps_of (some_leaves_for newest _ _ _ history _) (keeps_failed (c.in-Err.ensures.does newest records history _ h.both (left g s newest records history h writes active) refl refl refl few).keeps)
+    keeps_of (some_leaves_for newest _ _ _ history _) (keeps_failed (c.in-Err.ensures.does newest records history _ h.both (left g s newest records history h writes active) refl refl refl few).keeps)
 
 pub returns-in-Err-clause-keeps : goal.returns-in-Err-clause-keeps
 returns-in-Err-clause-keeps g c newest records table commits h writes active few = keeps_settled (returns-in-Err-clause-keeps_over g c newest records (settled table commits) h writes active few)
@@ -101,7 +101,7 @@ pub returns-in-Err-clause-asks_over : goal.returns-in-Err-clause-asks_over
 returns-in-Err-clause-asks_over g c =
     let s = (goal.at.returns-in-Err-clause-asks_over g c).After-undo_to in
     λ newest records history h writes active few.
-      asked g s newest records history h writes active few (asks_err c.in-Err.stop _ _ _ _ _ (c.in-Err.ensures.does newest records history _ h.both (left g s newest records history h writes active) refl refl refl few).asks)
+    asked g s newest records history h writes active few (asks_err c.in-Err.stop _ _ _ _ _ (c.in-Err.ensures.does newest records history _ h.both (left g s newest records history h writes active) refl refl refl few).asks)
 
 pub returns-in-Err-clause-asks : goal.returns-in-Err-clause-asks
 returns-in-Err-clause-asks g c newest records table commits = returns-in-Err-clause-asks_over g c newest records (settled table commits)
@@ -118,7 +118,7 @@ pub returns-in-Err-clause-performs_over : goal.returns-in-Err-clause-performs_ov
 returns-in-Err-clause-performs_over g c =
     let s = (goal.at.returns-in-Err-clause-performs_over g c).After-undo_to in
     λ newest records history h writes active few.
-      store_performs (clrs_save_none (take c.args.count (left_open records c.args.entry.begin))) refl (c.in-Err.ensures.does newest records history _ h.both (left g s newest records history h writes active) refl refl refl few).performs
+    store_performs (clrs_save_none (take c.args.count (left_open records c.args.entry.begin))) refl (c.in-Err.ensures.does newest records history _ h.both (left g s newest records history h writes active) refl refl refl few).performs
 
 pub returns-in-Err-clause-performs : goal.returns-in-Err-clause-performs
 returns-in-Err-clause-performs g c newest records table commits = returns-in-Err-clause-performs_over g c newest records (settled table commits)

@@ -45,7 +45,7 @@ pub returns-in-Err-clause-keeps_over : goal.returns-in-Err-clause-keeps_over
 returns-in-Err-clause-keeps_over g c =
     let s = (goal.at.returns-in-Err-clause-keeps_over g c).After-undo_one in
     λ newest records history h writes active count owes.
-      keeps_of (some_leaves_for newest _ _ _ history _) (keeps_few (omega (arith, count)) (keeps_failed (c.in-Err.ensures.does newest records history _ h.both (left g s newest records history h writes active) refl refl refl).keeps))
+    keeps_of (some_leaves_for newest _ _ _ history _) (keeps_few (omega (arith, count)) (keeps_failed (c.in-Err.ensures.does newest records history _ h.both (left g s newest records history h writes active) refl refl refl).keeps))
 
 pub returns-in-Err-clause-keeps : goal.returns-in-Err-clause-keeps
 returns-in-Err-clause-keeps g c newest records table commits h writes active count owes = keeps_settled (returns-in-Err-clause-keeps_over g c newest records (settled table commits) h writes active count owes)
@@ -54,7 +54,7 @@ pub returns-in-Err-clause-asks_over : goal.returns-in-Err-clause-asks_over
 returns-in-Err-clause-asks_over g c =
     let s = (goal.at.returns-in-Err-clause-asks_over g c).After-undo_one in
     λ newest records history h writes active.
-      asked g s newest records history h writes active (asks_err c.in-Err.stop _ _ _ _ _ (c.in-Err.ensures.does newest records history _ h.both (left g s newest records history h writes active) refl refl refl).asks)
+    asked g s newest records history h writes active (asks_err c.in-Err.stop _ _ _ _ _ (c.in-Err.ensures.does newest records history _ h.both (left g s newest records history h writes active) refl refl refl).asks)
 
 pub returns-in-Err-clause-asks : goal.returns-in-Err-clause-asks
 returns-in-Err-clause-asks g c newest records table commits = returns-in-Err-clause-asks_over g c newest records (settled table commits)
@@ -71,7 +71,7 @@ pub returns-in-Err-clause-performs_over : goal.returns-in-Err-clause-performs_ov
 returns-in-Err-clause-performs_over g c =
     let s = (goal.at.returns-in-Err-clause-performs_over g c).After-undo_one in
     λ newest records history h writes active.
-      store_performs (undoing_saves_none (left_open records c.args.entry.begin)) refl (c.in-Err.ensures.does newest records history _ h.both (left g s newest records history h writes active) refl refl refl).performs
+    store_performs (undoing_saves_none (left_open records c.args.entry.begin)) refl (c.in-Err.ensures.does newest records history _ h.both (left g s newest records history h writes active) refl refl refl).performs
 
 pub returns-in-Err-clause-performs : goal.returns-in-Err-clause-performs
 returns-in-Err-clause-performs g c newest records table commits = returns-in-Err-clause-performs_over g c newest records (settled table commits)
@@ -85,7 +85,7 @@ pub returns-then-blocks-before-clause-keeps_over : goal.returns-then-blocks-befo
 returns-then-blocks-before-clause-keeps_over g c =
     let s = (goal.at.returns-then-blocks-before-clause-keeps_over g c).After-undo_one in
     λ newest records history h writes active count owes.
-      absurd (omega (arith, c.in-Ok.ensures.blocks newest records history _ h.both (left g s newest records history h writes active) refl refl refl, c.blocks-before.ensures, c.if-blocks-before.true, c.blocks-blocks.ensures, count))
+    absurd (omega (arith, c.in-Ok.ensures.blocks newest records history _ h.both (left g s newest records history h writes active) refl refl refl, c.blocks-before.ensures, c.if-blocks-before.true, c.blocks-blocks.ensures, count))
 
 pub returns-then-blocks-before-clause-keeps : goal.returns-then-blocks-before-clause-keeps
 returns-then-blocks-before-clause-keeps g c newest records table commits h writes active count owes = keeps_settled (returns-then-blocks-before-clause-keeps_over g c newest records (settled table commits) h writes active count owes)
@@ -94,7 +94,7 @@ pub returns-then-blocks-before-clause-asks_over : goal.returns-then-blocks-befor
 returns-then-blocks-before-clause-asks_over g c =
     let s = (goal.at.returns-then-blocks-before-clause-asks_over g c).After-undo_one in
     λ newest records history h writes active.
-      asked g s newest records history h writes active (asks_fails c.in-Ok.field-0 Foreign _ _ _ _ _ (c.in-Ok.ensures.does newest records history _ h.both (left g s newest records history h writes active) refl refl refl).asks)
+    asked g s newest records history h writes active (asks_fails c.in-Ok.field-0 Foreign _ _ _ _ _ (c.in-Ok.ensures.does newest records history _ h.both (left g s newest records history h writes active) refl refl refl).asks)
 
 pub returns-then-blocks-before-clause-asks : goal.returns-then-blocks-before-clause-asks
 returns-then-blocks-before-clause-asks g c newest records table commits = returns-then-blocks-before-clause-asks_over g c newest records (settled table commits)
@@ -123,12 +123,12 @@ pub returns-then-blocks-owed-clause-keeps_over : goal.returns-then-blocks-owed-c
 returns-then-blocks-owed-clause-keeps_over g c =
     let at = goal.at.returns-then-blocks-owed-clause-keeps_over g c in
     λ newest records history h writes active count owes.
-      let ok = at.In-Ok in
-      let room = has_room (after g ok newest records history h writes active count) _ newest records history c.args.entry.begin c.args.entry.writes c.args.owed (back g ok newest records history h writes active count) owes in
-      let going = c.in-Ok.ensures.works.going in
-      let sizes = ap (λ (x : Geometry). x.blocks) (c.geometry.ensures ∙ going.sizes) in
-      let own = ap (λ (x : Geometry). x.blocks) c.geometry.ensures in
-      absurd (omega (arith, room, c.if-blocks-owed.true, c.blocks-blocks.ensures, sizes, own, going.log_going.limits.blocks, c.kept.ensures))
+    let ok = at.In-Ok in
+    let room = has_room (after g ok newest records history h writes active count) _ newest records history c.args.entry.begin c.args.entry.writes c.args.owed (back g ok newest records history h writes active count) owes in
+    let going = c.in-Ok.ensures.works.going in
+    let sizes = ap (λ (x : Geometry). x.blocks) (c.geometry.ensures ∙ going.sizes) in
+    let own = ap (λ (x : Geometry). x.blocks) c.geometry.ensures in
+    absurd (omega (arith, room, c.if-blocks-owed.true, c.blocks-blocks.ensures, sizes, own, going.log_going.limits.blocks, c.kept.ensures))
 
 pub returns-then-blocks-owed-clause-keeps : goal.returns-then-blocks-owed-clause-keeps
 returns-then-blocks-owed-clause-keeps g c newest records table commits h writes active count owes = keeps_settled (returns-then-blocks-owed-clause-keeps_over g c newest records (settled table commits) h writes active count owes)
@@ -138,7 +138,7 @@ returns-then-blocks-owed-clause-asks_over g c =
     let at = goal.at.returns-then-blocks-owed-clause-asks_over g c in
     let s = at.After-undo_one in
     λ newest records history h writes active.
-      asked g s newest records history h writes active (asks_fails c.in-Ok.field-0 Foreign _ _ _ _ _ (c.in-Ok.ensures.does newest records history _ h.both (left g s newest records history h writes active) refl refl refl).asks)
+    asked g s newest records history h writes active (asks_fails c.in-Ok.field-0 Foreign _ _ _ _ _ (c.in-Ok.ensures.does newest records history _ h.both (left g s newest records history h writes active) refl refl refl).asks)
 
 pub returns-then-blocks-owed-clause-asks : goal.returns-then-blocks-owed-clause-asks
 returns-then-blocks-owed-clause-asks g c newest records table commits = returns-then-blocks-owed-clause-asks_over g c newest records (settled table commits)
