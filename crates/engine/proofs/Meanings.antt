@@ -2,6 +2,7 @@
 use Rattle.engine.proofs.Names.{◌≡◌, ℕ, zero, suc, ◌*◌, ◌<◌, ◌≤◌, ◌==◌, Bool, true, false, not, ◌&&◌, ◌||◌, cond, List, [], ◌∷◌, length, find, Option, None, Some, ⊎_elim, refl, sym, ap, subst, ◌∙◌, arith, true≢false, cases_eq, and_from, ne_eqb, none-some, same_Some, list_any, range_with_len, AllByRecursion, unwrap_or, Master, sizes_of, Matches, SessionsAre, LocksAre, Engine, next_block_is, length-versions, logical_image_under, master_of, versions_on, Lock, shown_is_value, writer_is_loser, shown_stands, content_of_table, tail_without_commit, whole_is_undoable, whole_in_order, IsFree, IsFreeFor, IsUndoable, IsFresh, Entry, is_closed, table_of, value_of, AreOrderly, end_of, Content, Session, State, Write, writes_of, wrote_of, content_at, seen, last_write, table_with, Represents, shown_in, TransactionStore, Site, entry_is, IsTable, entry_of, Active}
 use Rattle.std.proofs.lemmas.List.FromFn.{length-map-range_with_len}
 use Rattle.log_laws.specs.Tail.{next_lsn, whole}
+use Rattle.redo_laws.proofs.Runs.{means_settled, none_settled}
 use Rattle.engine.proofs.Actives.{some_active}
 use Rattle.engine.proofs.Updated.{updated_is}
 use Rattle.record_model.specs.State as model
@@ -26,7 +27,7 @@ pub table_is : (store : TransactionStore) (site : Site) (newest : Option Master)
 table_is store site newest records table commits h =
     let log = h.both.log_holds in
     let p = logical_image_under newest (sizes_of store) site.image log.blocks in
-    log.runs_on.means.table_is ∙ sym (tail_without_commit p log.tail log.runs_on.carries log.runs_on.no_commit)
+    (means_settled p log.tail records table commits log.runs_on).table_is ∙ sym (tail_without_commit p log.tail log.runs_on.carries (none_settled p log.tail records table commits log.runs_on))
     ∙ ap (λ (l : List Entry). table_of l (versions_on (sizes_of store) site.image)) log.runs_on.records_are
 
 -- so two lists of writes leave the same of both

@@ -6,6 +6,7 @@ use Rattle.std.proofs.lemmas.List.{length-set}
 use Rattle.log_records.specs.Room.{total_on}
 use Rattle.slotted_page.proofs.Slots.{length-slots_of}
 use Rattle.redo_laws.proofs.Changed.{front_shows}
+use Rattle.redo_laws.specs.Running.{settled}
 use Rattle.engine.proofs.Footprints.{never_written, same_footprint}
 use Rattle.engine.proofs.Meanings.{undoable}
 use Rattle.engine.proofs.OpenRooms.{begun_needs, needs_within, open_room, room_for, shown_as}
@@ -111,7 +112,7 @@ module _ (engine : Engine) (site : Site) (s : State) (fits : Matches engine site
 
     in_slot : (i : ℕ) → i < 32 → slice_index_or slots i None ≡ shown fits.records versions (32 * page + i)
     in_slot i small =
-        front_shows engine.store.log engine.store.pages site fits.newest fits.records s.table s.commits i own front.there small fits.holds.both
+        front_shows engine.store.log engine.store.pages site fits.newest fits.records (settled s.table s.commits) i own front.there small fits.holds.both
         ∙ ap (λ (k : ℕ). shown fits.records versions (32 * k + i)) front.page
 
     module _ (now : List ℕ) (now_is : (i : ℕ) → i < 32 → slice_index_or now i 0 ≡ content_length (slice_index_or slots i None)) where
@@ -306,7 +307,7 @@ module _ (engine : Engine) (site : Site) (s : State) (fits : Matches engine site
     where
       there : slice_index_or (slots_of (front_of engine.store.pages.pool.frames).content) (number % 32) None ≡ shown_in engine.store site fits.records number
       there =
-          front_shows engine.store.log engine.store.pages site fits.newest fits.records s.table s.commits (number % 32) own front.there (omega arith) fits.holds.both
+          front_shows engine.store.log engine.store.pages site fits.newest fits.records (settled s.table s.commits) (number % 32) own front.there (omega arith) fits.holds.both
           ∙ ap (λ (k : ℕ). shown fits.records (versions_on (sizes_of engine.store) site.image) (32 * k + number % 32)) front.page
           ∙ ap (shown fits.records (versions_on (sizes_of engine.store) site.image)) (div-add-mod number 32)
 
@@ -315,8 +316,8 @@ pub shows_same : (store store' : TransactionStore) (site site' : Site) (newest :
     Represents store site newest records table commits → Represents store' site' newest log table commits → (i : ℕ) → i < 32 →
     shown log (versions_on (sizes_of store') site'.image) (32 * (number / 32) + i) ≡ shown records (versions_on (sizes_of store) site.image) (32 * (number / 32) + i)
 shows_same store store' site site' newest records log table commits number same own front holds holds' i small =
-    sym (front_shows store'.log store'.pages site' newest log table commits i (subst IsStore (sym same) own) (subst (λ p. 0 < length p.pool.frames) (sym same) front.there) small holds'.both
+    sym (front_shows store'.log store'.pages site' newest log (settled table commits) i (subst IsStore (sym same) own) (subst (λ p. 0 < length p.pool.frames) (sym same) front.there) small holds'.both
     ∙ ap (λ (k : ℕ). shown log (versions_on (sizes_of store') site'.image) (32 * k + i)) (ap (λ p. (front_of p.pool.frames).page) same ∙ front.page))
     ∙ ap (λ p. slice_index_or (slots_of (front_of p.pool.frames).content) i None) same
-    ∙ front_shows store.log store.pages site newest records table commits i own front.there small holds.both
+    ∙ front_shows store.log store.pages site newest records (settled table commits) i own front.there small holds.both
     ∙ ap (λ (k : ℕ). shown records (versions_on (sizes_of store) site.image) (32 * k + i)) front.page

@@ -1,4 +1,6 @@
 -- What redo, undo and a checkpoint make of an opened log.
+use Rattle.redo_laws.proofs.Runs.{means_settled}
+use Rattle.redo_laws.specs.Running.{settled}
 use Rattle.engine.proofs.Names.{Option, Some, ◌≡◌, inr, ℕ, ◌+◌, ◌-◌, ◌*◌, ◌^◌, ◌≤◌, min, Bool, true, false, List, [], length, refl, sym, ap, subst, ◌∙◌, arith, true≢false, min-eq_left, Err, owed_for, listed, Master, Pair, IsSound, log_under, IsReady, RestartedAs, Restarts, Opened, Restarted, next_block_is, logical_image_under, next_block_under, master_of, Entry, is_loser, commit_numbers, from_block, owed, LogRecord, has_tail, LogStore, MayStop, PageStore, Content, tail_blocks, MayBeMade, blocks_to, HasCheckpoint, Finds, Ring, Site as State, Image, Calls, Geometry, Stop}
 use Rattle.std.proofs.Common.{nat_lt}
 use Rattle.analysis.specs.declared.analysis.Analysis.{Analysis}
@@ -45,11 +47,12 @@ few_commits opened site newest blocks table commits h =
     omega (arith, h.opened_is.means.count_is, h.opened_is.sound.records.commits.fit, next_of opened site newest blocks table commits h)
 
 -- so it is of a log and pages that hold together
-pub commits_fit : (log : LogStore) (pages : PageStore) (site : State) (newest : Option Master) (records : List Entry) (table : List Content) (commits : ℕ) → Represents log pages site newest records table commits → commits ≤ 512 * log.ring.hi
+pub commits_fit : (log : LogStore) (pages : PageStore) (site : State) (newest : Option Master) (records : List Entry) (table : List Content) (commits : ℕ) → Represents log pages site newest records (settled table commits) → commits ≤ 512 * log.ring.hi
 commits_fit log pages site newest records table commits h =
     let held = h.log_holds in
     let last = next_block_is newest held.blocks in
-    omega (arith, held.runs_on.means.count_is, held.runs_on.carries.sound.commits.fit, held.ready.blocks.hi, held.ready.records.blocks.next, last)
+    let means = means_settled (logical_image_under newest pages.flash.geometry site.image held.blocks) held.tail records table commits held.runs_on in
+    omega (arith, means.count_is, held.runs_on.carries.sound.commits.fit, held.ready.blocks.hi, held.ready.records.blocks.next, last)
 
 -- analysis counts them
 pub commits_found : TakenCommits → (opened : Opened) (site : State) (newest : Option Master) (blocks : List (List LogRecord)) (table : List Content) (commits : ℕ) (found : Analysis) → IsReady opened site newest blocks table commits →

@@ -6,7 +6,7 @@ use Rattle.sealed_ring.proofs.Stays.{usable_later}
 use Rattle.page_store.specs.Ahead.{IsAhead}
 use Rattle.image_meaning.specs.Beside.{AreRingsSoundUnder}
 use Rattle.redo_laws.proofs.CallsInSequence.{going_still, stands_there}
-use Rattle.redo_laws.specs.Running.{RunsOn}
+use Rattle.redo_laws.specs.Running.{History, settled, RunsOn}
 use Rattle.log_store.specs.Representation as log_store
 use Rattle.page_store.specs.Representation as page_store
 
@@ -24,9 +24,8 @@ module _ (a b : Site) (goes : Preserves a b) (image : b.image ≡ a.image) where
   pages_fit pages f = grind (arith, stays_honest, same)
 
   -- log and pages hold together
-  log_holds : (g : Geometry) (log : LogStore) (pages : PageStore) (newest : Option Master) (records : List Entry) (table : List Content) (commits : ℕ) → RepresentsLog g log pages a newest records table commits →
-      RepresentsLog g log pages b newest records table commits
-  log_holds g log pages newest records table commits h = record {
+  log_holds : (g : Geometry) (log : LogStore) (pages : PageStore) (newest : Option Master) (records : List Entry) (history : History) → RepresentsLog g log pages a newest records history → RepresentsLog g log pages b newest records history
+  log_holds g log pages newest records history h = record {
     kept = h.kept;
     blocks = h.blocks;
     tail = h.tail;
@@ -40,13 +39,13 @@ module _ (a b : Site) (goes : Preserves a b) (image : b.image ≡ a.image) where
       records = same (λ x. log_store.Represents log x (record { first = kept_by newest; blocks = h.blocks; tail = h.tail })) h.ready.records;
     };
     rings = same (AreRingsSoundUnder newest g) h.rings;
-    runs_on = same (λ x. RunsOn (logical_image_under newest g x h.blocks) h.tail records table commits) h.runs_on;
+    runs_on = same (λ x. RunsOn (logical_image_under newest g x h.blocks) h.tail records history) h.runs_on;
     ahead = same (IsAhead log pages) h.ahead;
     room = h.room;
   }
 
-  hold : (g : Geometry) (log : LogStore) (pages : PageStore) (newest : Option Master) (records : List Entry) (table : List Content) (commits : ℕ) → RepresentsIn g log pages a newest records table commits → RepresentsIn g log pages b newest records table commits
-  hold g log pages newest records table commits h = grind (arith, log_holds, same)
+  hold : (g : Geometry) (log : LogStore) (pages : PageStore) (newest : Option Master) (records : List Entry) (history : History) → RepresentsIn g log pages a newest records history → RepresentsIn g log pages b newest records history
+  hold g log pages newest records history h = grind (arith, log_holds, same)
 
   -- a ring is the one that stands there
   finds : (ring : Ring) → Finds ring a → Finds ring b
@@ -59,7 +58,7 @@ still_fits engine a b s fits goes image = record {
   newest = fits.newest;
   records = fits.records;
   holds = record {
-    both = hold a b goes image (sizes_of engine.store) engine.store.log engine.store.pages fits.newest fits.records s.table s.commits fits.holds.both;
+    both = hold a b goes image (sizes_of engine.store) engine.store.log engine.store.pages fits.newest fits.records (settled s.table s.commits) fits.holds.both;
     orderly = fits.holds.orderly;
     masters = finds a b goes image engine.store.masters fits.holds.masters;
   };

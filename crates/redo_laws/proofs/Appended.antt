@@ -1,11 +1,14 @@
 -- A record is appended beside the pages.
-use Rattle.redo_laws.proofs.Citing.{◌≡◌, ℕ, ◌+◌, ◌*◌, ◌≤◌, ◌<◌, Bool, true, false, List, [], ◌∷◌, ◌++◌, map, refl, sym, ap, subst, ◌∙◌, arith, lt-ltb, AllByRecursion, range_with_len, if◌then◌else◌, Result, Ok, Err, OnOk, IfOk, Option, frame_of, Frame, Master, ring_kept, Reaches, IsReached, IsFrontOf, LeavesFront, AreRingsSoundUnder, KeepsRingsAll, next_block_under, logical_image_under, master_of, versions_on, version_in, kept_by, LeavesTableUnder, next_lsn, Entry, Version, log_from, AreBlock, LogRecord, LogList, sealed_if, changes_if, with_record, HasBlocks, LeavesLog, has_tail, end_of, LogStore, fits_beside, leaves_beside, sealed_beside, versions_beside, AreSealed, LeavesSealed, IsAhead, sealed_end, AreReady, LeavesPages, LeavesRings, IsStore, current, content_by, PageStore, Content, EndsWith, RepresentsLog, Represents, MayGrow, KeepsPages, blocks_to, RunsOn, leaves_weaker, Preserves, LeavesOnly, ChangesOnly, State, Image, IsQuiet, Geometry, Log, lsn_of, IsLogged}
+use Rattle.redo_laws.proofs.Citing.{◌≡◌, ℕ, ◌+◌, ◌*◌, ◌≤◌, ◌<◌, Bool, true, false, List, [], ◌∷◌, ◌++◌, map, refl, sym, ap, subst, ◌∙◌, arith, lt-ltb, AllByRecursion, range_with_len, if◌then◌else◌, Result, Ok, Err, OnOk, IfOk, Option, frame_of, Frame, Master, ring_kept, Reaches, IsReached, IsFrontOf, LeavesFront, AreRingsSoundUnder, KeepsRingsAll, next_block_under, logical_image_under, master_of, versions_on, version_in, kept_by, LeavesSomeUnder, next_lsn, Entry, Version, log_from, AreBlock, LogRecord, LogList, sealed_if, changes_if, with_record, HasBlocks, LeavesLog, has_tail, end_of, LogStore, fits_beside, leaves_beside, sealed_beside, versions_beside, AreSealed, LeavesSealed, IsAhead, sealed_end, AreReady, LeavesPages, LeavesRings, IsStore, current, content_by, PageStore, History, table_with, writes_in, owed, owed_by, ◌-◌, MayCommit, EndsWith, RepresentsLog, Represents, MayGrow, KeepsPages, blocks_to, RunsOn, leaves_weaker, Preserves, LeavesOnly, ChangesOnly, State, Image, IsQuiet, Geometry, Log, lsn_of, IsLogged}
 use Rattle.image_meaning.proofs.Beside.{rings_kept}
 use Rattle.page_store.proofs.Rings.{all_front, sealing_keeps}
-use Rattle.redo_laws.proofs.Runs.{one_more}
+use Rattle.redo_laws.proofs.Runs.{one_more, one_commit}
 use Rattle.redo_laws.proofs.Standing.{last_of_all, next_more}
 use Rattle.redo_laws.proofs.Changed.{shows_same}
 use Rattle.redo_laws.proofs.Touched.{tail_blocks, hi_is, runs_sealed, leaves_table}
+use Rattle.log_laws.proofs.Appends.{commit_follows}
+use Rattle.log_laws.proofs.Owing.{owed_closing}
+use Rattle.log_records.specs.declared.log_record.LogRecord.TheVariants.{Commit}
 use Rattle.log_store.specs.Representation as log_store
 
 -- the numbers of an append, on every site
@@ -108,7 +111,7 @@ module _ (log : LogStore) (pages : PageStore) (site new : State) (newest : Optio
     rings_stay,
   )
 
-module _ (log : LogStore) (pages : PageStore) (site : State) (newest : Option Master) (records : List Entry) (table : List Content) (commits : ℕ) (h : Represents log pages site newest records table commits) (sizes : log.geometry ≡ pages.flash.geometry) where
+module _ (log : LogStore) (pages : PageStore) (site : State) (newest : Option Master) (records : List Entry) (history : History) (h : Represents log pages site newest records history) (sizes : log.geometry ≡ pages.flash.geometry) where
   abbrev g : Geometry
   g = pages.flash.geometry
 
@@ -117,16 +120,16 @@ module _ (log : LogStore) (pages : PageStore) (site : State) (newest : Option Ma
 
   -- At each moment.
   pub append_leaves : (new : State) (sealing : Bool) → IsQuiet site → ChangesOnly Log site new → LeavesOnly site new (LeavesLog log.geometry sealing list site.told) → LeavesFront log.geometry (changes_if sealing list) site new → IsStore pages → (sealing ≡ true → has_tail log ≡ true) →
-      LeavesOnly site new (LeavesTableUnder newest g table commits site.told)
+      LeavesOnly site new (LeavesSomeUnder newest g history site.told)
   append_leaves new sealing quiet changes leaves front own some =
       let stay = pages_stay log pages site new newest sealing list h.log_holds.ready h.log_holds.rings h.log_holds.ahead.versions sizes quiet changes leaves front in
-      leaves_table log pages site newest records table commits h own sealing some new stay.0 stay.1 stay.2
+      leaves_table log pages site newest records history h own sealing some new stay.0 stay.1 stay.2
 
   -- Behind it.
   module _ (new : State) (changes : ChangesOnly Log site new) where
-    pub moved : (blocks : List (List LogRecord)) (tail : List LogRecord) (records' : List Entry) → RunsOn (logical_image_under newest g site.image blocks) tail records' table commits → RunsOn (logical_image_under newest g new.image blocks) tail records' table commits
-    moved blocks tail records' runs =
-        subst (λ (versions : List Version). RunsOn (record { master = (master_of newest); log = log_from (kept_by newest) blocks; hi = next_block_under newest blocks; blocks = g.blocks; pages = versions }) tail records' table commits) (sym (versions_same pages site new changes)) runs
+    pub moved : (blocks : List (List LogRecord)) (tail : List LogRecord) (records' : List Entry) (history' : History) → RunsOn (logical_image_under newest g site.image blocks) tail records' history' → RunsOn (logical_image_under newest g new.image blocks) tail records' history'
+    moved blocks tail records' history' runs =
+        subst (λ (versions : List Version). RunsOn (record { master = (master_of newest); log = log_from (kept_by newest) blocks; hi = next_block_under newest blocks; blocks = g.blocks; pages = versions }) tail records' history') (sym (versions_same pages site new changes)) runs
 
   module _ (log' : LogStore) (new : State) (rec : LogRecord) (lsn : ℕ) (rings : AreRingsSoundUnder newest g new.image) (are_sealed : AreSealed g new.image) where
     -- what stands in the log before the record: the tail, or nothing where it was sealed
@@ -134,12 +137,12 @@ module _ (log : LogStore) (pages : PageStore) (site : State) (newest : Option Ma
       pub blocks : List (List LogRecord)
       pub front : List LogRecord
       pub holds : log_store.Represents log' new.image (record { first = kept_by newest; blocks = blocks; tail = front ++ rec ∷ [] })
-      pub runs_on : RunsOn (logical_image_under newest g site.image blocks) front records table commits
+      pub runs_on : RunsOn (logical_image_under newest g site.image blocks) front records history
       pub next : lsn ≡ next_lsn (logical_image_under newest g site.image blocks) front
 
     stands_before : (sealing : Bool) → (sealing ≡ true → has_tail log ≡ true) → IsAppended g log log' list site new rec lsn sealing → StandsBefore
     stands_before false full is =
-        let hi = hi_is log pages site newest records table commits h in
+        let hi = hi_is log pages site newest records history h in
         record {
           blocks = h.log_holds.blocks;
           front = h.log_holds.tail;
@@ -148,12 +151,12 @@ module _ (log : LogStore) (pages : PageStore) (site : State) (newest : Option Ma
           next = omega (arith, hi, h.log_holds.ready.records.tail.end, is.numbers.lsn_is);
         }
     stands_before true full is =
-        let hi = hi_is log pages site newest records table commits h in
+        let hi = hi_is log pages site newest records history h in
         record {
           blocks = h.log_holds.blocks ++ h.log_holds.tail ∷ [];
           front = [];
           holds = is.holds;
-          runs_on = runs_sealed log pages site newest records table commits h (full refl) (last_of_all AreBlock h.log_holds.blocks h.log_holds.tail is.holds.blocks.are_blocks);
+          runs_on = runs_sealed log pages site newest records history h (full refl) (last_of_all AreBlock h.log_holds.blocks h.log_holds.tail is.holds.blocks.are_blocks);
           next = omega (arith, hi, is.numbers.lsn_is, next_more newest h.log_holds.blocks h.log_holds.tail);
         }
 
@@ -169,7 +172,7 @@ module _ (log : LogStore) (pages : PageStore) (site : State) (newest : Option Ma
 
       -- the record comes last in the tail
       pub ends_with : KeepsPages g pages site.image new.image → end_of log ≤ lsn →
-          EndsWith g log' pages new newest records table commits (record { lsn = lsn; rec = rec })
+          EndsWith g log' pages new newest records history (record { lsn = lsn; rec = rec })
       ends_with keeps behind =
           record {
             kept = is.kept ∙ h.log_holds.kept;
@@ -177,31 +180,48 @@ module _ (log : LogStore) (pages : PageStore) (site : State) (newest : Option Ma
             front = before.front;
             ready = ready_now;
             rings = rings;
-            runs_on = moved new is.changes before.blocks before.front records before.runs_on;
+            runs_on = moved new is.changes before.blocks before.front records history before.runs_on;
             next = before.next;
             ahead = ahead_still;
-            shows = record { each = shows_same g log log' pages site new newest records table commits h keeps };
+            shows = record { each = shows_same g log log' pages site new newest records history h keeps };
             below = λ number exists.
                 subst (λ (c : List ℕ). lsn_of c < end_of log') (sym (keeps.current number)) (omega (arith, h.below number exists, behind, is.numbers.below));
             room = omega (arith, most_blocks log log' lsn sealing full is.numbers, h.log_holds.room, h.log_holds.rings.limits.blocks, is.kept);
           }
 
       -- where it may follow, log and pages hold together with it
-      pub appended : MayGrow log pages site.image newest records (record { lsn = lsn; rec = rec }) →
-          RepresentsLog g log' pages new newest (records ++ record { lsn = lsn; rec = rec } ∷ []) table commits
-      appended may =
+      grown : (history' : History) → RunsOn (logical_image_under newest g site.image before.blocks) (before.front ++ rec ∷ []) (records ++ record { lsn = lsn; rec = rec } ∷ []) history' →
+          blocks_to log' + owed (records ++ record { lsn = lsn; rec = rec } ∷ []) ≤ log'.kept + (g.blocks - 1) → RepresentsLog g log' pages new newest (records ++ record { lsn = lsn; rec = rec } ∷ []) history'
+      grown history' runs room =
           record {
             kept = is.kept ∙ h.log_holds.kept;
             blocks = before.blocks;
             tail = before.front ++ rec ∷ [];
             ready = ready_now;
             rings = rings;
-            runs_on = moved new is.changes before.blocks (before.front ++ rec ∷ []) (records ++ record { lsn = lsn; rec = rec } ∷ [])
-                (one_more (logical_image_under newest g site.image before.blocks) before.front rec lsn records table commits before.runs_on before.next
-                may.follows may.no_commit);
+            runs_on = moved new is.changes before.blocks (before.front ++ rec ∷ []) (records ++ record { lsn = lsn; rec = rec } ∷ []) history' runs;
             ahead = ahead_still;
-            room = omega (arith, most_blocks log log' lsn sealing full is.numbers, may.room, is.kept);
+            room = room;
           }
+
+      pub appended : MayGrow log pages site.image newest records (record { lsn = lsn; rec = rec }) → RepresentsLog g log' pages new newest (records ++ record { lsn = lsn; rec = rec } ∷ []) history
+      appended may =
+          grown history (one_more (logical_image_under newest g site.image before.blocks) before.front rec lsn records history before.runs_on before.next may.follows may.no_commit)
+          (omega (arith, most_blocks log log' lsn sealing full is.numbers, may.room, is.kept))
+
+      -- a Commit waits for its seal
+      pub commit_waits : (txn number : ℕ) → rec ≡ Commit txn number → MayCommit newest records txn number history.commits → history.tables (history.commits + 1) ≡ table_with (history.tables history.commits) (writes_in txn records) →
+          RepresentsLog g log' pages new newest (records ++ record { lsn = lsn; rec = rec } ∷ []) (record history { commits = history.commits + 1 })
+      commit_waits txn number same may table =
+          let e : Entry = record { lsn = lsn; rec = Commit txn number } in
+          let next : History = record history { commits = history.commits + 1 } in
+          let less : owed records ≡ owed (records ++ record { lsn = lsn; rec = Commit txn number } ∷ []) + owed_by records txn = owed_closing records e refl may.begun.not_closed may.chain in
+          let again : owed (records ++ record { lsn = lsn; rec = rec } ∷ []) ≡ owed (records ++ record { lsn = lsn; rec = Commit txn number } ∷ []) = ap (λ (r : LogRecord). owed (records ++ record { lsn = lsn; rec = r } ∷ [])) same in
+          grown next
+          (subst (λ (r : LogRecord). RunsOn (logical_image_under newest g site.image before.blocks) (before.front ++ r ∷ []) (records ++ record { lsn = lsn; rec = r } ∷ []) next) (sym same)
+          (one_commit (logical_image_under newest g site.image before.blocks) before.front txn number lsn records history before.runs_on before.next
+          (commit_follows (master_of newest) (versions_on g site.image) records lsn txn number may.begun) may.number_is table))
+          (omega (arith, most_blocks log log' lsn sealing full is.numbers, h.log_holds.room, less, again, is.kept))
 
 pub if_ok_four : {A E : Type 0} (r : Result A E) (P Q R : Type 0) (L Z : A → Type 0) → ((x : A) → P → Q → R → L x → Z x) → OnOk r P → OnOk r Q → OnOk r R → IfOk r L → IfOk r Z
 if_ok_four (Ok x) P Q R L Z f p q r l = f x p q r l

@@ -1,8 +1,7 @@
 -- Calls that ask the cache for work, one after the other.
 use Rattle.std.proofs.lemmas.Grind.{common_steps}
-use Rattle.redo_laws.proofs.Citing.{◌≡◌, ◌+◌, ◌*◌, ◌≤◌, Bool, true, false, List, [], ◌++◌, arith, refl, sym, ap, subst, ◌∙◌, ℕ, Contains, Result, Ok, Err, IsErrOf, if◌then◌else◌, OnOk, LogStore, unsynced_logged, counted_none, last_none, log_leaves, among_first, queue_same, stages_ok, stages_err, stages_as, stages_weaker, stages_then, stages_none, stages_still, stages_beside, cache_of, rules, pushes, pages_staged, HasQueueOn, Stages, PageStore, CacheOp, KeepsInvariantBeside, next_group, one_touch, one_change, ReadsFor, StepsMachine, StagesFor, Rules, Cache, Staged, touched, finds, misses, after_works, staged_by_works, stays_honest, ok_as, ok_always, SameReads, IsUnchanged, Preserves, ChangesOnly, State, IsQuiet, Flash, Disk, Log, Stop}
+use Rattle.redo_laws.proofs.Citing.{◌≡◌, ◌+◌, ◌*◌, ◌≤◌, Bool, true, false, List, [], ◌++◌, arith, refl, sym, ap, subst, ◌∙◌, ℕ, Contains, Result, Ok, Err, IsErrOf, if◌then◌else◌, LogStore, among_first, queue_same, stages_ok, stages_err, stages_as, stages_weaker, stages_then, stages_none, stages_still, stages_beside, cache_of, rules, pushes, pages_staged, HasQueueOn, Stages, PageStore, CacheOp, KeepsInvariantBeside, next_group, one_touch, one_change, ReadsFor, StepsMachine, StagesFor, Rules, Cache, Staged, touched, finds, misses, after_works, staged_by_works, stays_honest, ok_as, ok_always, SameReads, IsUnchanged, Preserves, State, Flash, Disk, Stop}
 use Rattle.std.specs.Prelude.{IsTrue}
-use Rattle.flash_cache.specs.OnDisk.{HasLastStaged}
 use Rattle.redo_laws.proofs.Costs.{ops_compose, staged_add_up, reads_add_up, reads_for_more, touched_next, more_next}
 
 pub stop_is : {U : Type 0} (stop is : Stop) → IsErrOf {T = U} (Err stop) is → stop ≡ is
@@ -36,17 +35,6 @@ change_stages result page old new before now some stages = stages_as refl (sym (
 -- calls on the log alone
 pub stages_log : {T : Type 0} {result : Result T Stop} {log log' : LogStore} {pages : PageStore} {before now : State} → KeepsInvariantBeside result log log' before now → Stages result [] (next_group (cache_of pages)) pages pages before now
 stages_log {result = result} works = stages_beside (ok_always result _ refl) (omega arith) works.changes works.calls refl
-
-pub stages_alone : {A : Type 0} {result : Result A Stop} {pages : PageStore} {before now : State} → (IsTrue before.honest → ChangesOnly Log before now) → Preserves before now → (IsTrue before.honest → IsQuiet before → OnOk result (IsQuiet now)) →
-    Stages result [] (next_group (cache_of pages)) pages pages before now
-stages_alone {result = result} {pages = pages} {before = before} {now = now} changes goes quiet = record {
-  holds = λ has. ok_always result (HasQueueOn pages now) (queue_same pages pages before now refl ((changes has.fits.honest).only.now.content Flash (λ h. cc)) (stays_honest before now goes has.fits.honest) has);
-  quiet = λ has. quiet has.fits.honest;
-  writes = λ has calm. (let is = has.next in log_leaves pages.flash.geometry [] (next_group (cache_of pages)) before now (omega (arith, is)) calm (changes has.fits.honest));
-  last = λ has calm. ok_always result (HasLastStaged pages.flash.geometry [] before now) (last_none pages.flash.geometry [] before now refl);
-  counted = λ has calm. counted_none result [] pages pages before now (unsynced_logged before now calm (changes has.fits.honest)) (ok_always result _ (omega arith)) (ok_always result _ refl);
-  sizes = refl;
-}
 
 pub stages_read : {A : Type 0} {result : Result A Stop} {pages : PageStore} {before now : State} → (IsTrue before.honest → IsUnchanged before now) → Preserves before now → Stages result [] (next_group (cache_of pages)) pages pages before now
 stages_read {A} {result = result} {pages = pages} {before = before} {now = now} same goes =

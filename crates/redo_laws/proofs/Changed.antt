@@ -1,6 +1,6 @@
 -- What a page shows behind one more record.
 use Rattle.std.proofs.lemmas.Grind.{common_steps}
-use Rattle.redo_laws.proofs.Citing.{◌≡◌, ◌⊎◌, inl, inr, ℕ, ◌+◌, ◌*◌, ◌/◌, ◌≤◌, ◌<◌, false, List, [], ◌∷◌, ◌++◌, length, None, Some, refl, sym, ap, subst, ◌∙◌, arith, cases_eq, ne_eqb, eq-eqb, none-some, same_Some, front_of, Master, versions_on, version_in, Redoes, AreKnown, ShowsAll, Entry, Version, number_of, is_on, is_number, shown, LogRecord, end_of, LogStore, IsAhead, current, Matches, IsStore, PageStore, Content, content_at, RepresentsLog, RepresentsIn, KeepsPages, Represents, State, Image, Geometry, lsn_of, slots_of}
+use Rattle.redo_laws.proofs.Citing.{◌≡◌, ◌⊎◌, inl, inr, ℕ, ◌+◌, ◌*◌, ◌/◌, ◌≤◌, ◌<◌, false, List, [], ◌∷◌, ◌++◌, length, None, Some, refl, sym, ap, subst, ◌∙◌, arith, cases_eq, ne_eqb, eq-eqb, none-some, same_Some, front_of, Master, versions_on, version_in, Redoes, AreKnown, ShowsAll, Entry, Version, number_of, is_on, is_number, shown, LogRecord, end_of, LogStore, IsAhead, current, Matches, IsStore, PageStore, History, content_at, RepresentsLog, RepresentsIn, KeepsPages, Represents, State, Image, Geometry, lsn_of, slots_of}
 use Rattle.page_store.proofs.Fitting.{front_exists}
 use Rattle.log_laws.proofs.Shown.{shown_push}
 use Rattle.std.proofs.Common.{◌≢◌, Option}
@@ -27,15 +27,15 @@ module _ (records : List Entry) (e : Entry) (versions : List Version) (page : �
   on_page number v w is later redoes shows = grind (arith, all_append, known_more, shown_push, eq-eqb, ne_eqb)
 
 -- The same pages, over images in which each page has the version and the content that it had.
-module _ (g : Geometry) (log log' : LogStore) (pages : PageStore) (site new : State) (newest : Option Master) (records : List Entry) (table : List Content) (commits : ℕ) (h : RepresentsIn g log pages site newest records table commits) (keeps : KeepsPages g pages site.image new.image) where
+module _ (g : Geometry) (log log' : LogStore) (pages : PageStore) (site new : State) (newest : Option Master) (records : List Entry) (history : History) (h : RepresentsIn g log pages site newest records history) (keeps : KeepsPages g pages site.image new.image) where
   pub shows_same : (number : ℕ) → number < g.pages → ShowsAll records (versions_on g new.image) number (version_in (current pages new.image number))
   shows_same number exists =
       subst (λ (versions : List Version). ShowsAll records versions number (version_in (current pages new.image number))) (sym keeps.versions)
       (subst (λ (c : List ℕ). ShowsAll records (versions_on g site.image) number (version_in c)) (sym (keeps.current number)) (h.shows.each number exists))
 
   -- a record on none of them
-  pub holds_off : (rec : LogRecord) (lsn : ℕ) → number_of rec ≡ None → end_of log ≤ lsn → lsn < end_of log' →
-      RepresentsLog g log' pages new newest (records ++ record { lsn = lsn; rec = rec } ∷ []) table commits → RepresentsIn g log' pages new newest (records ++ record { lsn = lsn; rec = rec } ∷ []) table commits
+  pub holds_off : {history' : History} (rec : LogRecord) (lsn : ℕ) → number_of rec ≡ None → end_of log ≤ lsn → lsn < end_of log' →
+      RepresentsLog g log' pages new newest (records ++ record { lsn = lsn; rec = rec } ∷ []) history' → RepresentsIn g log' pages new newest (records ++ record { lsn = lsn; rec = rec } ∷ []) history'
   holds_off rec lsn none behind below holds = record {
     log_holds = holds;
     shows = record {
@@ -50,7 +50,7 @@ module _ (g : Geometry) (log log' : LogStore) (pages : PageStore) (site new : St
   pub holds_on : (pages' : PageStore) (rec : LogRecord) (lsn number front : ℕ) → number_of rec ≡ Some number → number / 32 ≡ front → lsn_of (current pages new.image front) < lsn →
       Redoes front (record { lsn = lsn; rec = rec }) number (version_in (current pages new.image front)) (version_in (current pages' new.image front)) →
       ((page : ℕ) → page ≢ front → current pages' new.image page ≡ current pages new.image page) → end_of log ≤ lsn → lsn < end_of log' →
-      RepresentsLog g log' pages' new newest (records ++ record { lsn = lsn; rec = rec } ∷ []) table commits → RepresentsIn g log' pages' new newest (records ++ record { lsn = lsn; rec = rec } ∷ []) table commits
+      RepresentsLog g log' pages' new newest (records ++ record { lsn = lsn; rec = rec } ∷ []) history → RepresentsIn g log' pages' new newest (records ++ record { lsn = lsn; rec = rec } ∷ []) history
   holds_on pages' rec lsn number front is at later redoes others behind below holds = record {
     log_holds = holds;
     shows = record { each = λ page exists. shows_by page exists (cases_eq page front) };
@@ -77,15 +77,15 @@ module _ (g : Geometry) (log log' : LogStore) (pages : PageStore) (site new : St
           subst (λ (c : List ℕ). lsn_of c < end_of log') (sym (others page other ∙ keeps.current page)) (omega (arith, h.below page exists, behind, below))
 
 -- other pages beside the same log
-pub other_pages : (g : Geometry) (log : LogStore) (pages pages' : PageStore) (site : State) (newest : Option Master) (records : List Entry) (table : List Content) (commits : ℕ) → Matches pages' site → IsAhead log pages' site.image → RepresentsLog g log pages site newest records table commits → RepresentsLog g log pages' site newest records table commits
-other_pages g log pages pages' site newest records table commits fits are_ahead h = grind (arith)
+pub other_pages : (g : Geometry) (log : LogStore) (pages pages' : PageStore) (site : State) (newest : Option Master) (records : List Entry) (history : History) → Matches pages' site → IsAhead log pages' site.image → RepresentsLog g log pages site newest records history → RepresentsLog g log pages' site newest records history
+other_pages g log pages pages' site newest records history fits are_ahead h = grind (arith)
 
 pub front_is_current : (pages : PageStore) (image : Image) → 0 < length pages.pool.frames → current pages image (front_of pages.pool.frames).page ≡ (front_of pages.pool.frames).content
 front_is_current pages image some = grind (arith, common_steps, eq-eqb)
 
 -- a slot of the page in front has what the last record there has written
-pub front_shows : (log : LogStore) (pages : PageStore) (site : State) (newest : Option Master) (records : List Entry) (table : List Content) (commits slot : ℕ) → IsStore pages → 0 < length pages.pool.frames → slot < 32 → Represents log pages site newest records table commits → content_at (slots_of (front_of pages.pool.frames).content) slot ≡ shown records (versions_on pages.flash.geometry site.image) (32 * (front_of pages.pool.frames).page + slot)
-front_shows log pages site newest records table commits slot own some less h =
+pub front_shows : (log : LogStore) (pages : PageStore) (site : State) (newest : Option Master) (records : List Entry) (history : History) (slot : ℕ) → IsStore pages → 0 < length pages.pool.frames → slot < 32 → Represents log pages site newest records history → content_at (slots_of (front_of pages.pool.frames).content) slot ≡ shown records (versions_on pages.flash.geometry site.image) (32 * (front_of pages.pool.frames).page + slot)
+front_shows log pages site newest records history slot own some less h =
     let front = (front_of pages.pool.frames).page in
     ap (λ (o : List ℕ). content_at (slots_of o) slot) (sym (front_is_current pages site.image some))
     ∙ (h.shows.each front (front_exists pages.flash.geometry.pages pages.pool.frames some own.pages)).slots slot less

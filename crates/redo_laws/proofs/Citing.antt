@@ -23,7 +23,7 @@ pub use Rattle.image_meaning.specs.LogicalImages.{ReplaceAll}
 pub use Rattle.image_meaning.specs.Meaning.{versions_on, logical_image_under, kept_by, version_in, master_of, next_block_under, StandsUnder, IsSoundUnder}
 pub use Rattle.image_meaning.specs.Moments.{LeavesTableUnder, LeavesEitherUnder}
 pub use Rattle.image_meaning.specs.Redone.{ShowsAll, AreKnown, Redoes}
-pub use Rattle.log_laws.proofs.Tails.{carries_more, carries_nothing, whole_more, sealed_tail, whole_sealed, InTurn-left, commits_more, commits_stay, sealed_tail_means, tail_with_commit, whole_stays_orderly}
+pub use Rattle.log_laws.proofs.Tails.{carries_more, carries_nothing, whole_more, sealed_tail, whole_sealed, InTurn-left, commits_more, commits_stay, sealed_tail_means, whole_stays_orderly}
 pub use Rattle.log_laws.specs.Follow.{sealed, Follows, next_entries, IsActive, writes_in}
 pub use Rattle.log_laws.specs.Tail.{next_lsn, whole, Carries}
 pub use Rattle.log_records.specs.Log.{Entry, Version, log_from, number_of, shown, is_loser, is_number, is_on}
@@ -50,7 +50,8 @@ pub use Rattle.redo_laws.specs.Committing.{EndsWith, MayCommit}
 pub use Rattle.redo_laws.specs.Holding.{Represents, blocks_to, RepresentsIn, KeepsPages, RepresentsLog, Invariant, IsLogWorn, MayGrow, ShowRecords}
 pub use Rattle.redo_laws.specs.MachineSteps.{next_group, ReadsFor, StepsMachine, StagesFor, one_change, one_touch, NumbersRise, finds_in, misses_in, undo_one_works}
 pub use Rattle.redo_laws.specs.Numbers.{HasNumbers, SkipsNone}
-pub use Rattle.redo_laws.specs.Running.{RunsOn}
+pub use Rattle.redo_laws.specs.Running.{History, settled, RunsOn}
+pub use Rattle.redo_laws.specs.Waiting.{LeavesSome, LeavesSomeUnder}
 pub use Rattle.redo_laws.specs.UndoWorks.{works_of}
 pub use Rattle.sealed_ring.specs.Ring.{hi_of, Units}
 pub use Rattle.second_chance.specs.Machine.{staged_by_works, Cache, Rules, after_works, touched, Staged, apply_op, finds, misses, with_room}

@@ -1,5 +1,5 @@
 -- What a crash leaves of log and pages that hold together.
-use Rattle.redo_laws.proofs.Citing.{◌≡◌, ◌⊎◌, inl, inr, ℕ, zero, suc, ◌+◌, ◌*◌, ◌<◌, ◌==◌, ◌||◌, List, [], ◌∷◌, ◌++◌, None, Some, IsTrue, refl, sym, ap, subst, ◌∙◌, arith, lt-ltb, ne_eqb, length-append, none-some, AllByRecursion, frame_of, Frame, Master, version_on, IsCleanOn, sealed_page_replaces, version_replaces_itself, next_block_is, length-versions, version_is, AreRingsSoundUnder, ReplaceAll, logical_image_under, next_block_under, versions_on, version_in, StandsUnder, kept_by, ShowsAll, sealed, Entry, LogicalImage, LogRecord, HasBlocks, AreSealed, sealed_end, IsPage, IsStore, current, content_by, PageStore, Content, RunsOn, Image, Geometry, lsn_of}
+use Rattle.redo_laws.proofs.Citing.{◌≡◌, ◌⊎◌, inl, inr, ℕ, zero, suc, ◌+◌, ◌*◌, ◌<◌, ◌==◌, ◌||◌, List, [], ◌∷◌, ◌++◌, None, Some, IsTrue, refl, sym, ap, subst, ◌∙◌, arith, lt-ltb, ne_eqb, length-append, none-some, AllByRecursion, frame_of, Frame, Master, version_on, IsCleanOn, sealed_page_replaces, version_replaces_itself, next_block_is, length-versions, version_is, AreRingsSoundUnder, ReplaceAll, logical_image_under, next_block_under, versions_on, version_in, StandsUnder, kept_by, ShowsAll, sealed, Entry, LogicalImage, LogRecord, HasBlocks, AreSealed, sealed_end, IsPage, IsStore, current, content_by, PageStore, History, RunsOn, Image, Geometry, lsn_of}
 use Rattle.image_meaning.proofs.Replacing.{replace_all}
 use Rattle.image_meaning.proofs.Seals.{blocks_sealed}
 use Rattle.std.proofs.Common.{Option}
@@ -43,8 +43,8 @@ pub next_more : (newest : Option Master) (blocks : List (List LogRecord)) (tail 
 next_more newest blocks tail = let a = next_block_is newest (blocks ++ tail ∷ []) in let b = next_block_is newest blocks in omega (arith, a, b, length-append blocks (tail ∷ []))
 
 -- An image with these blocks, whose versions are the old ones or the current contents of pages that show all records.
-module _ (g : Geometry) (old now : Image) (given : ℕ → List ℕ) (blocks : List (List LogRecord)) (tail : List LogRecord) (newest : Option Master) (records : List Entry) (table : List Content) (commits : ℕ)
-    (runs : RunsOn (logical_image_under newest g old blocks) tail records table commits) (shows : (number : ℕ) → number < g.pages → ShowsAll records (versions_on g old) number (version_in (given number)))
+module _ (g : Geometry) (old now : Image) (given : ℕ → List ℕ) (blocks : List (List LogRecord)) (tail : List LogRecord) (newest : Option Master) (records : List Entry) (history : History)
+    (runs : RunsOn (logical_image_under newest g old blocks) tail records history) (shows : (number : ℕ) → number < g.pages → ShowsAll records (versions_on g old) number (version_in (given number)))
     (held : HasBlocks g (kept_by newest) blocks now) (are_sealed : AreSealed g now)
     (versions : (number : ℕ) → number < g.pages → (version_on g now number ≡ version_on g old number) ⊎ (version_on g now number ≡ given number)) where
   end_is : sealed_end g now ≡ 512 * next_block_under newest blocks
@@ -63,11 +63,11 @@ module _ (g : Geometry) (old now : Image) (given : ℕ → List ℕ) (blocks : L
   pub replaced : ReplaceAll (logical_image_under newest g old blocks) (versions_on g now)
   replaced = replace_all newest g old now blocks (λ number exists. by_version number exists (versions number exists))
 
-  pub runs_now : RunsOn (logical_image_under newest g now blocks) tail records table commits
-  runs_now = reversioned g old now blocks tail newest records table commits replaced runs
+  pub runs_now : RunsOn (logical_image_under newest g now blocks) tail records history
+  runs_now = reversioned g old now blocks tail newest records history replaced runs
 
   pub shows_now : (number : ℕ) → number < g.pages → ShowsAll records (versions_on g now) number (version_in (given number))
-  shows_now number exists = shows_still g old now blocks tail newest records table commits number (version_in (given number)) replaced runs exists (shows number exists)
+  shows_now number exists = shows_still g old now blocks tail newest records history number (version_in (given number)) replaced runs exists (shows number exists)
 
-  pub stands_now : AreRingsSoundUnder newest g now → IsCleanOn g now → ((number : ℕ) → number < g.pages → page.IsSound (version_on g old number)) → ((number : ℕ) → number < g.pages → page.IsSound (given number)) → StandsUnder newest g now table commits
+  pub stands_now : AreRingsSoundUnder newest g now → IsCleanOn g now → ((number : ℕ) → number < g.pages → page.IsSound (version_on g old number)) → ((number : ℕ) → number < g.pages → page.IsSound (given number)) → StandsUnder newest g now (history.tables runs.count) runs.count
   stands_now rings clean sound_old sound_given = grind (arith, runs_now)

@@ -1,5 +1,5 @@
 -- A log that is worn stands at its end, and where a log ends.
-use Rattle.redo_laws.proofs.Citing.{◌≡◌, inl, ◌^◌, ℕ, sym, ap, subst, ◌∙◌, arith, log_shape, master_shape, has_tail, LogStore, IsLogWorn, blocks_to, hi_of, State, content_of}
+use Rattle.redo_laws.proofs.Citing.{◌≡◌, inl, ◌^◌, ℕ, sym, ap, subst, ◌∙◌, arith, log_shape, master_shape, LogStore, IsLogWorn, blocks_to, hi_of, State, content_of}
 use Rattle.sealed_ring.specs.declared.ring.Ring.{Ring}
 use Rattle.sealed_ring.specs.declared.slots.Shape.{Shape}
 use Rattle.sealed_ring.specs.Ready.{Matches}

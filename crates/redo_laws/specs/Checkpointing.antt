@@ -12,6 +12,7 @@ use Rattle.checkpoint.specs.declared.master.Master.{Master}
 use Rattle.log_store.specs.declared.store.LogStore.{LogStore}
 use Rattle.page_store.specs.declared.store.PageStore.{PageStore}
 use Rattle.redo_laws.specs.Holding.{Represents}
+use Rattle.redo_laws.specs.Running.{settled}
 use Rattle.checkpoint.specs.declared.pairs.Pair.{Pair}
 
 -- These are the unfinished transactions of some records, each with the LSN of its last one.
@@ -37,7 +38,7 @@ pub record KeepUnfinished (records kept : List Entry) : Type 0 where
 -- among them all records of unfinished transactions. The ring of master units is the one that stands there.
 pub record IsSaved (log : LogStore) (pages : PageStore) (masters : Ring) (site : State) (records : List Entry)
     (table : List Content) (commits : ℕ) (master : Master) : Type 0 where
-  pub holds : Represents log pages site (Some master) (from_block master.kept records) table commits
+  pub holds : Represents log pages site (Some master) (from_block master.kept records) (settled table commits)
   pub orderly : AreOrderly (from_block master.kept records)
   pub keeps : KeepUnfinished records (from_block master.kept records)
   pub found : Finds masters site

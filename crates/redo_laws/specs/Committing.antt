@@ -2,7 +2,6 @@
 use Rattle.std.specs.Prelude.{◌≡◌, ℕ, ◌+◌, ◌≤◌, ◌<◌, List, [], ◌∷◌, ◌++◌, Option}
 use Rattle.site.specs.declared.geometry.Geometry.{Geometry}
 use Rattle.site.specs.State.{State}
-use Rattle.record_model.specs.State.{Content}
 use Rattle.log_records.specs.declared.log_record.LogRecord.{LogRecord}
 use Rattle.log_records.specs.Log.{Entry, entries_of}
 use Rattle.log_records.specs.Unfinished.{owed}
@@ -18,7 +17,7 @@ use Rattle.page_store.specs.Leaves.{AreReady}
 use Rattle.checkpoint.specs.declared.master.Master.{Master}
 use Rattle.image_meaning.specs.Meaning.{logical_image_under, master_of, kept_by}
 use Rattle.image_meaning.specs.Beside.{AreRingsSoundUnder}
-use Rattle.redo_laws.specs.Running.{RunsOn}
+use Rattle.redo_laws.specs.Running.{History, RunsOn}
 use Rattle.redo_laws.specs.Holding.{ShowRecords, blocks_to}
 
 -- a transaction may be committed, as the next one
@@ -30,7 +29,7 @@ pub record MayCommit (newest : Option Master) (records : List Entry) (txn number
 -- Log and pages hold together under a newest master with these records, and the log's tail ends with one more, whatever
 -- that is.
 pub record EndsWith (g : Geometry) (log : LogStore) (pages : PageStore) (site : State) (newest : Option Master)
-    (records : List Entry) (table : List Content) (commits : ℕ) (last : Entry) : Type 0 where
+    (records : List Entry) (history : History) (last : Entry) : Type 0 where
   pub kept : log.kept ≡ kept_by newest
   pub blocks : List (List LogRecord)
   pub front : List LogRecord
@@ -40,7 +39,7 @@ pub record EndsWith (g : Geometry) (log : LogStore) (pages : PageStore) (site : 
     tail = front ++ last.rec ∷ [];
   }) site
   pub rings : AreRingsSoundUnder newest g site.image
-  pub runs_on : RunsOn (logical_image_under newest g site.image blocks) front records table commits
+  pub runs_on : RunsOn (logical_image_under newest g site.image blocks) front records history
   pub next : last.lsn ≡ next_lsn (logical_image_under newest g site.image blocks) front
   pub ahead : IsAhead log pages site.image
   pub shows : ShowRecords g pages site.image records

@@ -7,7 +7,6 @@ use Rattle.site.specs.declared.geometry.Geometry.{Geometry}
 use Rattle.site.specs.State.{State, Image}
 use Rattle.sealed_ring.specs.Ring.{hi_of}
 use Rattle.image_changes.specs.Rings.{master_shape}
-use Rattle.record_model.specs.State.{Content}
 use Rattle.log_records.specs.declared.log_record.LogRecord.{LogRecord}
 use Rattle.log_records.specs.Log.{Entry, number_of}
 use Rattle.log_records.specs.Unfinished.{owed}
@@ -28,7 +27,7 @@ use Rattle.checkpoint.specs.declared.master.Master.{Master}
 use Rattle.image_meaning.specs.Meaning.{logical_image_under, versions_on, version_in, master_of, kept_by}
 use Rattle.image_meaning.specs.Redone.{ShowsAll}
 use Rattle.image_meaning.specs.Beside.{AreRingsSoundUnder}
-use Rattle.redo_laws.specs.Running.{RunsOn}
+use Rattle.redo_laws.specs.Running.{History, RunsOn}
 
 -- how many blocks there are once the tail is sealed
 abbrev pub blocks_to : LogStore → ℕ
@@ -43,16 +42,17 @@ pub record Invariant (log : LogStore) (pages : PageStore) (site : State) : Type 
   pub room : blocks_to log < log.kept + log.geometry.blocks
 
 -- Of an honest site, whatever is loose, but for what the pages show, under a newest master: log and pages fit it, and
--- the log keeps the blocks that the master keeps, with these records. What is sealed of them stands for this table
--- after so many commits. The log is ahead of the pages, and has room to undo all.
+-- the log keeps the blocks that the master keeps, with these records. What is sealed of them stands for
+-- the table after some commits of this history, and all of them for the table after all commits. The log is ahead of
+-- the pages, and has room to undo all.
 pub record RepresentsLog (g : Geometry) (log : LogStore) (pages : PageStore) (site : State) (newest : Option Master)
-    (records : List Entry) (table : List Content) (commits : ℕ) : Type 0 where
+    (records : List Entry) (history : History) : Type 0 where
   pub kept : log.kept ≡ kept_by newest
   pub blocks : List (List LogRecord)
   pub tail : List LogRecord
   pub ready : AreReady pages log (record { first = kept_by newest; blocks = blocks; tail = tail }) site
   pub rings : AreRingsSoundUnder newest g site.image
-  pub runs_on : RunsOn (logical_image_under newest g site.image blocks) tail records table commits
+  pub runs_on : RunsOn (logical_image_under newest g site.image blocks) tail records history
   pub ahead : IsAhead log pages site.image
   pub room : blocks_to log + owed records ≤ log.kept + (g.blocks - 1)
 
@@ -63,14 +63,14 @@ pub record ShowRecords (g : Geometry) (pages : PageStore) (image : Image) (recor
 
 -- Of an honest site: both. No page has an LSN that a next record may get.
 pub record RepresentsIn (g : Geometry) (log : LogStore) (pages : PageStore) (site : State) (newest : Option Master)
-    (records : List Entry) (table : List Content) (commits : ℕ) : Type 0 where
-  pub log_holds : RepresentsLog g log pages site newest records table commits
+    (records : List Entry) (history : History) : Type 0 where
+  pub log_holds : RepresentsLog g log pages site newest records history
   pub shows : ShowRecords g pages site.image records
   pub below : (page : ℕ) → page < g.pages → lsn_of (current pages site.image page) < end_of log
 
-abbrev pub Represents : LogStore → PageStore → State → Option Master → List Entry → List Content → ℕ → Type 0
-Represents log pages site newest records table commits =
-    RepresentsIn pages.flash.geometry log pages site newest records table commits
+abbrev pub Represents : LogStore → PageStore → State → Option Master → List Entry → History → Type 0
+Represents log pages site newest records history =
+    RepresentsIn pages.flash.geometry log pages site newest records history
 
 -- One more record may be appended: it may stand there, is no Commit, and leaves room to undo all.
 pub record MayGrow (log : LogStore) (pages : PageStore) (image : Image) (newest : Option Master) (records : List Entry)

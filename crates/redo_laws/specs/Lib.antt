@@ -1,5 +1,6 @@
 pub mod Calls
 pub mod Running
+pub mod Waiting
 pub mod Holding
 pub mod Numbers
 pub mod UndoingAll

@@ -2,7 +2,6 @@
 use Rattle.std.specs.Prelude.{◌≡◌, ℕ, ◌+◌, ◌≤◌, ◌<◌, true, false, List, [], ◌++◌, length, Some, Option}
 use Rattle.std.specs.List.{AllByRecursion}
 use Rattle.site.specs.State.{State}
-use Rattle.record_model.specs.State.{Content}
 use Rattle.log_records.specs.Log.{Entry, txn_of, is_loser, last_where}
 use Rattle.log_records.specs.Unfinished.{is_clr, left_open, pending, owed}
 use Rattle.log_records.specs.Sound.{InTurn, AreOrderly}
@@ -16,6 +15,7 @@ use Rattle.analysis.specs.Table.{listed}
 use Rattle.analysis.specs.Read.{IsTable, loser_of}
 use Rattle.analysis.specs.Read as analysis_read
 use Rattle.redo_laws.specs.Holding.{Represents}
+use Rattle.redo_laws.specs.Running.{History}
 
 -- what a list says of a transaction, as callers see it
 pub record IsOf (table : List Open) (loser : Loser) : Type 0 where
@@ -45,8 +45,8 @@ AreUpTo known records = AllByRecursion (λ e. e.lsn ≤ known) records
 -- Of an honest site: log and pages have these records, analysis knows what they leave unfinished, and no record stands
 -- behind an LSN.
 pub record IsUndoing (log : LogStore) (pages : PageStore) (site : State) (newest : Option Master) (records : List Entry)
-    (table : List Content) (commits : ℕ) (found : Analysis) (known : ℕ) : Type 0 where
-  pub holds : Represents log pages site newest records table commits
+    (history : History) (found : Analysis) (known : ℕ) : Type 0 where
+  pub holds : Represents log pages site newest records history
   pub analysis : IsTable [] records (listed found.table)
   pub up_to : AreUpTo known records
 
@@ -63,18 +63,18 @@ pub record IsNextUndo (earlier : List Entry) (e : Entry) : Type 0 where
 -- Some of what is unfinished is undone: the log goes on by these records, in turn, and each takes away one that undo
 -- owes.
 pub record UndoesSome (log : LogStore) (pages : PageStore) (site : State) (newest : Option Master)
-    (records : List Entry) (table : List Content) (commits : ℕ) (found : Analysis) (known : ℕ) : Type 0 where
+    (records : List Entry) (history : History) (found : Analysis) (known : ℕ) : Type 0 where
   pub more : List Entry
-  pub now : IsUndoing log pages site newest (records ++ more) table commits found known
+  pub now : IsUndoing log pages site newest (records ++ more) history found known
   pub in_turn : InTurn IsNextUndo records more
   pub count : length more + owed (records ++ more) ≡ owed records
   pub orderly : AreOrderly records → AreOrderly (records ++ more)
 
 -- All unfinished transactions are undone: behind their CLRs and Ends the log leaves none unfinished.
 pub record UndoesAll (log : LogStore) (pages : PageStore) (site : State) (newest : Option Master) (records : List Entry)
-    (table : List Content) (commits : ℕ) : Type 0 where
+    (history : History) : Type 0 where
   pub more : List Entry
-  pub holds : Represents log pages site newest (records ++ more) table commits
+  pub holds : Represents log pages site newest (records ++ more) history
   pub none : (t : ℕ) → is_loser (records ++ more) t ≡ false
   pub count : length more ≡ owed records
   pub in_turn : InTurn IsNextUndo records more

@@ -1,6 +1,6 @@
 -- Calls one after the other, each known by its record.
 use Rattle.std.proofs.lemmas.Grind.{common_steps}
-use Rattle.redo_undo.proofs.Names.{◌≡◌, ◌≢◌, ◌⊎◌, inl, inr, ◌+◌, ◌≤◌, List, refl, sym, subst, ◌∙◌, arith, Option, ℕ, Result, Ok, Err, OnOk, IfOk, IfErr, IsErrOf, IsTrue, Master, log_shape, KeepsUnits, master_shape, LeavesTableUnder, LeavesFor, Entry, end_of, LogStore, next_nothing, next_then, next_failed, next_answered, next_refused, next_read, next_logged, MayStop, PageStore, Content, not_worn_flash, and_then, going_still, holds_still, leaves_still, units_then, ends_answered, ends_behind, ends_failed, ends_leaving, skips_not_saved, skips_still, hi_on, unchanged, then_skips, skips_again, skips_answered, skips_weaker, skips_on, KeepsInvariant, LogsNothing, KeepsInvariantBeside, ReadsOne, Keeps, KeepsBeside, Invariant, Represents, Opening, IsRedoing, LeavesOpened, hi_of, no_call, changes_in_sequence, stays_honest, ok_as, ok_always, no_error, of_error, err_as, err_always, calls_nothing, calls_then, calls_failed, calls_answered, calls_refused, IsUnchanged, FaultRose, LeavesOnly, ChangesOnly, SameBut, State, Snapshot, IsQuiet, Geometry, Dev, Log, Flash, Disk, Stop, Device, Worn, Foreign, Memory}
+use Rattle.redo_undo.proofs.Names.{◌≡◌, ◌≢◌, ◌⊎◌, inl, inr, ◌+◌, ◌≤◌, List, refl, sym, subst, ◌∙◌, arith, Option, ℕ, Result, Ok, Err, OnOk, IfOk, IfErr, IsErrOf, IsTrue, Master, log_shape, KeepsUnits, master_shape, History, LeavesSomeUnder, LeavesTableUnder, LeavesFor, StandsUnder, in_sequence, Leaves, leaves_weaker, holds_now, Entry, end_of, LogStore, next_nothing, next_then, next_failed, next_answered, next_refused, next_read, next_logged, MayStop, PageStore, Content, not_worn_flash, and_then, going_still, holds_still, leaves_still, units_then, ends_answered, ends_behind, ends_failed, ends_leaving, skips_not_saved, skips_still, hi_on, unchanged, then_skips, skips_again, skips_answered, skips_weaker, skips_on, KeepsInvariant, LogsNothing, KeepsInvariantBeside, ReadsOne, Keeps, KeepsBeside, Invariant, Represents, Opening, IsRedoing, LeavesOpened, hi_of, no_call, changes_in_sequence, stays_honest, ok_as, ok_always, no_error, of_error, err_as, err_always, calls_nothing, calls_then, calls_failed, calls_answered, calls_refused, IsUnchanged, FaultRose, LeavesOnly, ChangesOnly, SameBut, State, Snapshot, IsQuiet, Geometry, Dev, Log, Flash, Disk, Stop, Device, Worn, Foreign, Memory}
 use Rattle.std.specs.Prelude.{◌<◌}
 use Rattle.redo_undo.proofs.Saved.{then_for}
 use Rattle.redo_undo.proofs.Redoings.{nothing_happens, then_read}
@@ -146,15 +146,32 @@ beside_answered first = record { calls = calls_answered first.calls; going = fir
 
 -- Log and pages, on an honest site.
 
-pub keeps_then : {A B : Type 0} {a : A} {r : Result B Stop} {g g' k k' : Geometry} {old mid new : LogStore} {before between now : State} {newest : Option Master} {table : List Content} {commits n m n' m' : ℕ} →
-    IsTrue before.honest → g' ≡ g → k' ≡ k → Calls {T = A} (Ok a) before between →
-    Keeps {T = A} (Ok a) g old mid before between (LeavesTableUnder newest k table commits before.told) n m → Keeps r g' mid new between now (LeavesTableUnder newest k' table commits between.told) n' m' →
-    Keeps r g old new before now (LeavesTableUnder newest k table commits before.told) (n + n') (m + m')
-keeps_then {a = a} {r = r} {g = g} {g' = g'} {k = k} {k' = k'} {old = old} {mid = mid} {new = new} {before = before} {between = between} {now = now} {newest = newest} {table = table} {commits = commits} {n = n} {m = m} {n' = n'} {m' = m'} honest sizes same calls first second = record {
-  ends = ends_behind (calls.stays_quiet honest) sizes (λ quiet. and_then newest k k' before between now table commits same (first.any_moment quiet)) second.ends;
+pub keeps_joined : {A B : Type 0} {a : A} {r : Result B Stop} {g g' : Geometry} {old mid new : LogStore} {before between now : State} {P Q W : Snapshot → Type 0} {n m n' m' : ℕ} → IsTrue before.honest → g' ≡ g → Calls {T = A} (Ok a) before between →
+    (LeavesOnly before between P → LeavesOnly between now Q → LeavesOnly before now W) → Keeps {T = A} (Ok a) g old mid before between P n m → Keeps r g' mid new between now Q n' m' → Keeps r g old new before now W (n + n') (m + m')
+keeps_joined {a = a} {r = r} {g = g} {g' = g'} {old = old} {mid = mid} {new = new} {before = before} {between = between} {now = now} {n = n} {m = m} {n' = n'} {m' = m'} honest sizes calls joined first second = record {
+  ends = ends_behind (calls.stays_quiet honest) sizes (λ quiet. joined (first.any_moment quiet)) second.ends;
   numbers = λ quiet. then_skips r a g old mid new before between now n m n' m' (n + n') (m + m') (first.numbers quiet) (skips_on r g' g mid new between now n' m' sizes (second.numbers (calls.stays_quiet honest quiet))) (omega arith) refl;
   masters = λ none. ok_as r _ _ (units_then before.image between.image now.image (first.masters (let no : m ≡ 0 = omega (arith, none) in no))) (second.masters (let no : m' ≡ 0 = omega (arith, none) in no));
 }
+
+pub keeps_then : {A B : Type 0} {a : A} {r : Result B Stop} {g g' k k' : Geometry} {old mid new : LogStore} {before between now : State} {newest : Option Master} {history : History} {n m n' m' : ℕ} →
+    IsTrue before.honest → g' ≡ g → k' ≡ k → Calls {T = A} (Ok a) before between →
+    Keeps {T = A} (Ok a) g old mid before between (LeavesSomeUnder newest k history before.told) n m → Keeps r g' mid new between now (LeavesSomeUnder newest k' history between.told) n' m' →
+    Keeps r g old new before now (LeavesSomeUnder newest k history before.told) (n + n') (m + m')
+keeps_then {k = k} {k' = k'} {before = before} {between = between} {now = now} {newest = newest} {history = history} honest sizes same calls first second =
+    keeps_joined honest sizes calls (and_then newest k k' before between now history same) first second
+
+-- where none is made
+pub redone_then : {A B : Type 0} {a : A} {r : Result B Stop} {g g' k k' : Geometry} {old mid new : LogStore} {before between now : State} {newest : Option Master} {table : List Content} {commits n m n' m' : ℕ} →
+    IsTrue before.honest → g' ≡ g → k' ≡ k → Calls {T = A} (Ok a) before between →
+    Keeps {T = A} (Ok a) g old mid before between (LeavesTableUnder newest k table commits before.told) n m → Keeps r g' mid new between now (LeavesTableUnder newest k' table commits between.told) n' m' →
+    Keeps r g old new before now (LeavesTableUnder newest k table commits before.told) (n + n') (m + m')
+redone_then {k = k} {k' = k'} {before = before} {between = between} {now = now} {newest = newest} {table = table} {commits = commits} honest sizes same calls first second =
+    keeps_joined honest sizes calls (λ begun left. in_sequence before between now (Leaves (LeavesTableUnder newest k table commits before.told)) begun
+    (leaves_weaker between now (LeavesTableUnder newest k' table commits between.told) (LeavesTableUnder newest k table commits before.told) (λ s q. record {
+      told = q.told ∙ (holds_now before between (LeavesTableUnder newest k table commits before.told) begun).told;
+      stands = subst (λ (x : Geometry). StandsUnder newest x s.image table commits) same q.stands;
+    }) left)) first second
 
 -- no more records than these
 pub keeps_few : {T : Type 0} {r : Result T Stop} {g : Geometry} {old new : LogStore} {before now : State} {P : Snapshot → Type 0} {n k m : ℕ} → n ≤ k → Keeps r g old new before now P n m → Keeps r g old new before now P k m
@@ -185,11 +202,11 @@ keeps_still {r = r} {g = g} {log = log} {before = before} {now = now} moments hi
   masters = λ none. ok_always r _ (subst (KeepsUnits master_shape before.image) (sym same.image) (record { units = refl; form = λ form. form }));
 }
 
-pub keeps_unchanged : {T : Type 0} {r : Result T Stop} {log : LogStore} {pages : PageStore} {before now : State} {newest : Option Master} {records : List Entry} {table : List Content} {commits : ℕ} →
-    log.geometry ≡ pages.flash.geometry → Represents log pages before newest records table commits → IsUnchanged before now → ((d : Dev) → IsErrOf r (Worn d) → ⊥) → (IsErrOf r Foreign → ⊥) →
-    Keeps r pages.flash.geometry log log before now (LeavesTableUnder newest pages.flash.geometry table commits before.told) 0 0
-keeps_unchanged {log = log} {pages = pages} {before = before} {now = now} {newest = newest} {records = records} {table = table} {commits = commits} sizes h same =
-    keeps_still (leaves_still log pages before now newest records table commits sizes same h) (hi_on log.geometry pages.flash.geometry log before.image sizes h.log_holds.ready.blocks.hi) same
+pub keeps_unchanged : {T : Type 0} {r : Result T Stop} {log : LogStore} {pages : PageStore} {before now : State} {newest : Option Master} {records : List Entry} {history : History} →
+    log.geometry ≡ pages.flash.geometry → Represents log pages before newest records history → IsUnchanged before now → ((d : Dev) → IsErrOf r (Worn d) → ⊥) → (IsErrOf r Foreign → ⊥) →
+    Keeps r pages.flash.geometry log log before now (LeavesSomeUnder newest pages.flash.geometry history before.told) 0 0
+keeps_unchanged {log = log} {pages = pages} {before = before} {now = now} {newest = newest} {records = records} {history = history} sizes h same =
+    keeps_still (leaves_still log pages before now newest records history sizes same h) (hi_on log.geometry pages.flash.geometry log before.image sizes h.log_holds.ready.blocks.hi) same
 
 -- while records of an opened log are redone
 pub keeps_opened : {T : Type 0} {r : Result T Stop} {o : Opening} {log : LogStore} {pages : PageStore} {before now : State} {front : List Entry} → log.geometry ≡ pages.flash.geometry → IsRedoing o log pages before front → IsUnchanged before now →
@@ -211,22 +228,22 @@ keeps_refused_by {stop = stop} stops sizes h readable =
     keeps_opened sizes h unchanged (λ d is. not_worn stop stops d (let same : stop ≡ Worn d = cc in same)) (λ is. readable (let same : stop ≡ Foreign = cc in same))
 
 -- where only a record is read
-pub keeps_read : {T : Type 0} {r : Result T Stop} {log : LogStore} {pages : PageStore} {before now : State} {newest : Option Master} {records : List Entry} {table : List Content} {commits : ℕ} →
-    log.geometry ≡ pages.flash.geometry → Represents log pages before newest records table commits → ReadsOne r before now → IfErr r (λ stop. stop ≢ Foreign) →
-    Keeps r pages.flash.geometry log log before now (LeavesTableUnder newest pages.flash.geometry table commits before.told) 0 0
+pub keeps_read : {T : Type 0} {r : Result T Stop} {log : LogStore} {pages : PageStore} {before now : State} {newest : Option Master} {records : List Entry} {history : History} →
+    log.geometry ≡ pages.flash.geometry → Represents log pages before newest records history → ReadsOne r before now → IfErr r (λ stop. stop ≢ Foreign) →
+    Keeps r pages.flash.geometry log log before now (LeavesSomeUnder newest pages.flash.geometry history before.told) 0 0
 keeps_read {r = r} sizes h read readable =
     keeps_unchanged sizes h (read.same h.log_holds.ready.blocks.honest) (λ d is. reads_worn d (of_error r (λ stop. (stop ≡ Device Log) ⊎ (stop ≡ Foreign)) (Worn d) read.stops is)) (λ is. of_error r (λ stop. stop ≢ Foreign) Foreign readable is refl)
 
-pub keeps_nothing : {T : Type 0} {x : T} {log : LogStore} {pages : PageStore} {site : State} {newest : Option Master} {records : List Entry} {table : List Content} {commits : ℕ} →
-    log.geometry ≡ pages.flash.geometry → Represents log pages site newest records table commits → Keeps {T = T} (Ok x) pages.flash.geometry log log site site (LeavesTableUnder newest pages.flash.geometry table commits site.told) 0 0
+pub keeps_nothing : {T : Type 0} {x : T} {log : LogStore} {pages : PageStore} {site : State} {newest : Option Master} {records : List Entry} {history : History} →
+    log.geometry ≡ pages.flash.geometry → Represents log pages site newest records history → Keeps {T = T} (Ok x) pages.flash.geometry log log site site (LeavesSomeUnder newest pages.flash.geometry history site.told) 0 0
 keeps_nothing {T = T} {x = x} sizes h =
     keeps_unchanged sizes h unchanged (λ d is. no_error {T = T} {x = x} {e = Worn d} is) (no_error {T = T} {x = x} {e = Foreign})
 
 -- log and pages hold together behind it
-pub held_read : {T : Type 0} {r : Result T Stop} {log : LogStore} {pages : PageStore} {before now : State} {newest : Option Master} {records : List Entry} {table : List Content} {commits : ℕ} →
-    Represents log pages before newest records table commits → ReadsOne r before now → Represents log pages now newest records table commits
-held_read {log = log} {pages = pages} {before = before} {now = now} {newest = newest} {records = records} {table = table} {commits = commits} h read =
-    holds_still log pages before now newest records table commits read.preserves (read.same h.log_holds.ready.blocks.honest) h
+pub held_read : {T : Type 0} {r : Result T Stop} {log : LogStore} {pages : PageStore} {before now : State} {newest : Option Master} {records : List Entry} {history : History} →
+    Represents log pages before newest records history → ReadsOne r before now → Represents log pages now newest records history
+held_read {log = log} {pages = pages} {before = before} {now = now} {newest = newest} {records = records} {history = history} h read =
+    holds_still log pages before now newest records history read.preserves (read.same h.log_holds.ready.blocks.honest) h
 
 -- an append says of the log that it is Foreign, never
 foreign_not : (stop : Stop) → (stop ≡ Device Log) ⊎ (stop ≡ Worn Log) → stop ≢ Foreign

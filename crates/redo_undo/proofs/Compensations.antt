@@ -1,5 +1,5 @@
 -- Undoing an Update.
-use Rattle.redo_undo.proofs.Names.{◌≡◌, ℕ, ◌+◌, ◌-◌, ◌*◌, ◌≤◌, ◌<◌, ◌==◌, ◌||◌, Bool, true, false, List, [], ◌∷◌, ◌++◌, length, Option, None, Some, true≢false, refl, sym, ap, subst, ◌∙◌, arith, none-some, same_Some, if◌then◌else◌, find, Master, next_block_is, length-versions, master_of, logical_image_under, versions_on, kept_by, loser_is_not_closed, owed_clr, whole_is_undoable, clr_is_written, first_read, undo_step, update_is_last, Unfinished, IsUnfinished, Follows, IsUndoable, whole, IsLink, goes_back, Entry, Version, txn_by, txn_of, number_of, before_of, is_closed, is_update, log_from, entries_from, entries_of, LogicalImage, IsLoserChain, AreOrderly, is_clr, left_open, owed, LogRecord, Begin, Update, Clr, Commit, End, entries, at_lsn, LogStore, PageStore, Content, Represents, MayGrow, blocks_to, IsAt, IsStepOf, IsWanted, Undone, Compensate, Pass, UndoCursor, State, Image, Geometry}
+use Rattle.redo_undo.proofs.Names.{History, ◌≡◌, ℕ, ◌+◌, ◌-◌, ◌*◌, ◌≤◌, ◌<◌, ◌==◌, ◌||◌, Bool, true, false, List, [], ◌∷◌, ◌++◌, length, Option, None, Some, true≢false, refl, sym, ap, subst, ◌∙◌, arith, none-some, same_Some, if◌then◌else◌, find, Master, next_block_is, length-versions, master_of, logical_image_under, versions_on, kept_by, loser_is_not_closed, owed_clr, whole_is_undoable, clr_is_written, first_read, undo_step, update_is_last, Unfinished, IsUnfinished, Follows, IsUndoable, whole, IsLink, goes_back, Entry, Version, txn_by, txn_of, number_of, before_of, is_closed, is_update, log_from, entries_from, entries_of, LogicalImage, IsLoserChain, AreOrderly, is_clr, left_open, owed, LogRecord, Begin, Update, Clr, Commit, End, entries, at_lsn, LogStore, PageStore, Content, Represents, MayGrow, blocks_to, IsAt, IsStepOf, IsWanted, Undone, Compensate, Pass, UndoCursor, State, Image, Geometry}
 use Rattle.log_laws.specs.UndoSteps.{IsToUndo}
 use Rattle.redo_undo.specs.declared.undo.Wanted.{Wanted}
 use Rattle.redo_undo.specs.declared.undo.Step.{Step}
@@ -18,7 +18,7 @@ found_at lsn (e ∷ log) u found = found_by (e.lsn == lsn) e u (find (λ e. e.ls
 pub entries_are : (newest : Option Master) (g : Geometry) (image : Image) (blocks : List (List LogRecord)) (tail : List LogRecord) → entries (record { first = kept_by newest; blocks = blocks; tail = tail }) ≡ whole (logical_image_under newest g image blocks) tail
 entries_are newest g image blocks tail = ap (λ (n : ℕ). log_from (kept_by newest) blocks ++ entries_from (512 * n + 2) tail) (sym (next_block_is newest blocks))
 
-module _ (log : LogStore) (pages : PageStore) (site : State) (newest : Option Master) (records : List Entry) (table : List Content) (commits : ℕ) (h : Represents log pages site newest records table commits) (x : Unfinished) (unfinished : IsUnfinished records x) where
+module _ (log : LogStore) (pages : PageStore) (site : State) (newest : Option Master) (records : List Entry) (history : History) (h : Represents log pages site newest records history) (x : Unfinished) (unfinished : IsUnfinished records x) where
   abbrev g : Geometry
   g = pages.flash.geometry
 
@@ -105,11 +105,11 @@ pub may_moved : (log log' : LogStore) (pages pages' : PageStore) (old new : Imag
 may_moved log log' pages pages' old new newest records e other geometry blocks kept may = grind (arith, follows_moved, length-versions)
 
 -- A CLR of an unfinished transaction may be logged: with it there is less to undo.
-module _ (log : LogStore) (pages : PageStore) (site : State) (newest : Option Master) (records : List Entry) (table : List Content) (commits : ℕ) (h : Represents log pages site newest records table commits) (x : Unfinished) (unfinished : IsUnfinished records x) where
+module _ (log : LogStore) (pages : PageStore) (site : State) (newest : Option Master) (records : List Entry) (history : History) (h : Represents log pages site newest records history) (x : Unfinished) (unfinished : IsUnfinished records x) where
   pub owes_less : (e : Entry) → is_clr e.rec ≡ true → txn_of e ≡ x.txn → 0 < x.remaining → owed records ≡ owed (records ++ e ∷ []) + 1
   owes_less e clr own some =
       owed_clr records e clr (subst (λ t. is_closed records t ≡ false) (sym own) (loser_is_not_closed records x.txn unfinished.loser))
-      (subst (λ t. IsLoserChain t (entries_of t records)) (sym own) (chain log pages site newest records table commits h x unfinished))
+      (subst (λ t. IsLoserChain t (entries_of t records)) (sym own) (chain log pages site newest records history h x unfinished))
       (subst (λ t. 0 < length (left_open records t)) (sym own) (omega (arith, some, unfinished.remaining_is)))
 
   pub may_compensate : (at : UndoCursor) (u : Entry) (w : Wanted) (lsn : ℕ) → IsAt at x → 0 < x.remaining → IsWanted pages.flash.geometry site.image newest records x u w →
@@ -130,12 +130,12 @@ module _ (log : LogStore) (pages : PageStore) (site : State) (newest : Option Ma
       omega (arith, owes_less e refl refl some, h.log_holds.room)
 
 -- it was logged
-pub undone : (g : Geometry) (log : LogStore) (pages : PageStore) (image : Image) (site : State) (newest : Option Master) (records : List Entry) (table : List Content) (commits : ℕ) (x : Unfinished) (at : UndoCursor) (u : Entry) (rest : List Entry) (w : Wanted) (lsn : ℕ) →
+pub undone : (g : Geometry) (log : LogStore) (pages : PageStore) (image : Image) (site : State) (newest : Option Master) (records : List Entry) (history : History) (x : Unfinished) (at : UndoCursor) (u : Entry) (rest : List Entry) (w : Wanted) (lsn : ℕ) →
     IsUnfinished records x → IsAt at x → x.chain ≡ u ∷ rest → is_update u.rec ≡ true → 0 < x.remaining → IsWanted g image newest records x u w → x.last < lsn →
-    Represents log pages site newest (records ++ record { lsn = lsn; rec = Clr at.txn at.last w.prev w.page w.slot w.before } ∷ []) table commits →
+    Represents log pages site newest (records ++ record { lsn = lsn; rec = Clr at.txn at.last w.prev w.page w.slot w.before } ∷ []) history →
     owed records ≡ owed (records ++ record { lsn = lsn; rec = Clr at.txn at.last w.prev w.page w.slot w.before } ∷ []) + 1 →
-    (AreOrderly records → AreOrderly (records ++ record { lsn = lsn; rec = Clr at.txn at.last w.prev w.page w.slot w.before } ∷ [])) → Undone log pages site newest records table commits x (record { txn = at.txn; last = lsn; next = w.prev })
-undone g log pages image site newest records table commits x at u rest w lsn unfinished is split update some wanted late holds owes orderly =
+    (AreOrderly records → AreOrderly (records ++ record { lsn = lsn; rec = Clr at.txn at.last w.prev w.page w.slot w.before } ∷ [])) → Undone log pages site newest records history x (record { txn = at.txn; last = lsn; next = w.prev })
+undone g log pages image site newest records history x at u rest w lsn unfinished is split update some wanted late holds owes orderly =
     let e : Entry = record { lsn = lsn; rec = Clr at.txn at.last w.prev w.page w.slot w.before } in
     record {
       e = e;

@@ -1,5 +1,5 @@
 -- Undoing what analysis has found, record by record.
-use Rattle.redo_undo.proofs.Names.{◌≡◌, ℕ, ◌+◌, ◌-◌, ◌*◌, ◌≤◌, ◌<◌, ◌&&◌, ◌||◌, not, Bool, true, false, List, [], ◌∷◌, ◌++◌, length, Option, None, Some, true≢false, refl, sym, ap, subst, ◌∙◌, arith, append_assoc, append-nil, ltb-false, or_parts, length-append, length-map, none-some, same_Some, list_any, if◌then◌else◌, filter, find, ActiveIsUnfinished, Open, found_in, IsTop, Remains, IsTable, is_active, open_at, listed, Analysis, Loser, Master, next_block_is, kept_by, logical_image_under, master_of, versions_on, listed_is_loser, loser_is_listed, loser_is_not_closed, owed_closing, owed_none, whole_in_order, whole_is_undoable, top_stands, unfinished_from_top, chain_goes_on, first_read, undo_end, Unfinished, IsUnfinished, Follows, IsUndoable, next_lsn, top_lsn, Entry, is_of, is_update, is_loser, is_closed, entries_of, AreOrderly, IsInOrder, IsLoserChain, last_number, is_known, left_open, owed, owed_by, End, has_tail, LogStore, PageStore, Content, Represents, MayGrow, blocks_to, IsOf, Remain, AreUpTo, IsUndoing, IsNextUndo, UndoesSome, UndoesAll, State}
+use Rattle.redo_undo.proofs.Names.{History, ◌≡◌, ℕ, ◌+◌, ◌-◌, ◌*◌, ◌≤◌, ◌<◌, ◌&&◌, ◌||◌, not, Bool, true, false, List, [], ◌∷◌, ◌++◌, length, Option, None, Some, true≢false, refl, sym, ap, subst, ◌∙◌, arith, append_assoc, append-nil, ltb-false, or_parts, length-append, length-map, none-some, same_Some, list_any, if◌then◌else◌, filter, find, ActiveIsUnfinished, Open, found_in, IsTop, Remains, IsTable, is_active, open_at, listed, Analysis, Loser, Master, next_block_is, kept_by, logical_image_under, master_of, versions_on, listed_is_loser, loser_is_listed, loser_is_not_closed, owed_closing, owed_none, whole_in_order, whole_is_undoable, top_stands, unfinished_from_top, chain_goes_on, first_read, undo_end, Unfinished, IsUnfinished, Follows, IsUndoable, next_lsn, top_lsn, Entry, is_of, is_update, is_loser, is_closed, entries_of, AreOrderly, IsInOrder, IsLoserChain, last_number, is_known, left_open, owed, owed_by, End, has_tail, LogStore, PageStore, Content, Represents, MayGrow, blocks_to, IsOf, Remain, AreUpTo, IsUndoing, IsNextUndo, UndoesSome, UndoesAll, State}
 use Rattle.analysis.proofs.Pending.{all_found}
 use Rattle.redo_undo.proofs.NextRecords.{order_ends}
 use Rattle.log_laws.proofs.Orders.{InTurn-append_all}
@@ -39,7 +39,7 @@ none_any : (test : Entry → Bool) (xs : List Entry) → list_any test xs ≡ fa
 none_any test [] none = grind (arith)
 none_any test (x ∷ xs) none = grind (arith, (none_any test xs))
 
-module _ (active : ActiveIsUnfinished) (log : LogStore) (pages : PageStore) (site : State) (newest : Option Master) (records : List Entry) (table : List Content) (commits : ℕ) (found : Analysis) (h : Represents log pages site newest records table commits) (is : IsTable [] records (listed found.table)) where
+module _ (active : ActiveIsUnfinished) (log : LogStore) (pages : PageStore) (site : State) (newest : Option Master) (records : List Entry) (history : History) (found : Analysis) (h : Represents log pages site newest records history) (is : IsTable [] records (listed found.table)) where
   pub undoable : IsUndoable records
   undoable = subst IsUndoable h.log_holds.runs_on.records_are (whole_is_undoable (logical_image_under newest pages.flash.geometry site.image h.log_holds.blocks) h.log_holds.tail h.log_holds.runs_on.carries)
 
@@ -123,11 +123,11 @@ module _ (active : ActiveIsUnfinished) (log : LogStore) (pages : PageStore) (sit
           absurd (true≢false (sym marked ∙ ap (λ b. b && not (is_closed records t)) parts.0))
 
 -- The End of a transaction of which nothing remains.
-module _ (log : LogStore) (pages : PageStore) (site : State) (newest : Option Master) (records : List Entry) (table : List Content) (commits : ℕ) (h : Represents log pages site newest records table commits) (x : Unfinished) (unfinished : IsUnfinished records x) (none : x.remaining ≡ 0) where
+module _ (log : LogStore) (pages : PageStore) (site : State) (newest : Option Master) (records : List Entry) (history : History) (h : Represents log pages site newest records history) (x : Unfinished) (unfinished : IsUnfinished records x) (none : x.remaining ≡ 0) where
   pub owes_end : (lsn : ℕ) → owed records ≡ owed (records ++ record { lsn = lsn; rec = End x.txn } ∷ []) + 1
   owes_end lsn =
       let owes : owed records ≡ owed (records ++ record { lsn = lsn; rec = End x.txn } ∷ []) + owed_by records x.txn =
-      owed_closing records (record { lsn = lsn; rec = End x.txn }) refl (loser_is_not_closed records x.txn unfinished.loser) (chain log pages site newest records table commits h x unfinished) in
+      owed_closing records (record { lsn = lsn; rec = End x.txn }) refl (loser_is_not_closed records x.txn unfinished.loser) (chain log pages site newest records history h x unfinished) in
       omega (arith, owes, unfinished.remaining_is, none)
 
   pub room_to_end : blocks_to log + 1 ≤ log.kept + (pages.flash.geometry.blocks - 1)
@@ -145,9 +145,9 @@ module _ (log : LogStore) (pages : PageStore) (site : State) (newest : Option Ma
       }
 
 -- One record more.
-module _ (log : LogStore) (pages : PageStore) (site : State) (newest : Option Master) (records : List Entry) (table : List Content) (commits : ℕ) (found : Analysis) where
-  unfoldable pub one_more : (e : Entry) → Represents log pages site newest (records ++ e ∷ []) table commits → IsTable [] (records ++ e ∷ []) (listed found.table) → IsNextUndo records e → owed records ≡ owed (records ++ e ∷ []) + 1 →
-      (AreOrderly records → AreOrderly (records ++ e ∷ [])) → UndoesSome log pages site newest records table commits found e.lsn
+module _ (log : LogStore) (pages : PageStore) (site : State) (newest : Option Master) (records : List Entry) (history : History) (found : Analysis) where
+  unfoldable pub one_more : (e : Entry) → Represents log pages site newest (records ++ e ∷ []) history → IsTable [] (records ++ e ∷ []) (listed found.table) → IsNextUndo records e → owed records ≡ owed (records ++ e ∷ []) + 1 →
+      (AreOrderly records → AreOrderly (records ++ e ∷ [])) → UndoesSome log pages site newest records history found e.lsn
   one_more e h is next owes orderly =
       let p = logical_image_under newest pages.flash.geometry site.image h.log_holds.blocks in
       record {
@@ -164,42 +164,42 @@ module _ (log : LogStore) (pages : PageStore) (site : State) (newest : Option Ma
       }
 
   -- an End
-  unfoldable pub one_end : (t lsn : ℕ) → Represents log pages site newest (records ++ record { lsn = lsn; rec = End t } ∷ []) table commits → IsTable [] (records ++ record { lsn = lsn; rec = End t } ∷ []) (listed found.table) →
-      owed records ≡ owed (records ++ record { lsn = lsn; rec = End t } ∷ []) + 1 → (AreOrderly records → AreOrderly (records ++ record { lsn = lsn; rec = End t } ∷ [])) → UndoesSome log pages site newest records table commits found lsn
+  unfoldable pub one_end : (t lsn : ℕ) → Represents log pages site newest (records ++ record { lsn = lsn; rec = End t } ∷ []) history → IsTable [] (records ++ record { lsn = lsn; rec = End t } ∷ []) (listed found.table) →
+      owed records ≡ owed (records ++ record { lsn = lsn; rec = End t } ∷ []) + 1 → (AreOrderly records → AreOrderly (records ++ record { lsn = lsn; rec = End t } ∷ [])) → UndoesSome log pages site newest records history found lsn
   one_end t lsn h is owes orderly =
       one_more (record { lsn = lsn; rec = End t }) h is (record { ends_first = λ clr. absurd (true≢false (sym clr)); greatest = λ clr. absurd (true≢false (sym clr)) }) owes orderly
 
 -- Records in turn.
 
 -- nothing is undone yet
-unfoldable pub nothing_undone : (log : LogStore) (pages : PageStore) (site : State) (newest : Option Master) (records : List Entry) (table : List Content) (commits : ℕ) (found : Analysis) (known : ℕ) → IsUndoing log pages site newest records table commits found known →
-    UndoesSome log pages site newest records table commits found known
-nothing_undone log pages site newest records table commits found known is = record {
+unfoldable pub nothing_undone : (log : LogStore) (pages : PageStore) (site : State) (newest : Option Master) (records : List Entry) (history : History) (found : Analysis) (known : ℕ) → IsUndoing log pages site newest records history found known →
+    UndoesSome log pages site newest records history found known
+nothing_undone log pages site newest records history found known is = record {
   more = [];
-  now = subst (λ (l : List Entry). IsUndoing log pages site newest l table commits found known) (sym (append-nil records)) is;
+  now = subst (λ (l : List Entry). IsUndoing log pages site newest l history found known) (sym (append-nil records)) is;
   in_turn = tt;
   count = omega (arith, ap owed (append-nil records));
   orderly = λ was. subst AreOrderly (sym (append-nil records)) was;
 }
 
 -- and more is, behind what was
-unfoldable pub more_undone : (log log' : LogStore) (pages pages' : PageStore) (site site' : State) (newest : Option Master) (records : List Entry) (table : List Content) (commits : ℕ) (found found' : Analysis) (known known' : ℕ) →
-    (a : UndoesSome log pages site newest records table commits found known) → UndoesSome log' pages' site' newest (records ++ a.more) table commits found' known' → UndoesSome log' pages' site' newest records table commits found' known'
-more_undone log log' pages pages' site site' newest records table commits found found' known known' a b =
+unfoldable pub more_undone : (log log' : LogStore) (pages pages' : PageStore) (site site' : State) (newest : Option Master) (records : List Entry) (history : History) (found found' : Analysis) (known known' : ℕ) →
+    (a : UndoesSome log pages site newest records history found known) → UndoesSome log' pages' site' newest (records ++ a.more) history found' known' → UndoesSome log' pages' site' newest records history found' known'
+more_undone log log' pages pages' site site' newest records history found found' known known' a b =
     let all = append_assoc records a.more b.more in
     record {
       more = a.more ++ b.more;
-      now = subst (λ (l : List Entry). IsUndoing log' pages' site' newest l table commits found' known') all b.now;
+      now = subst (λ (l : List Entry). IsUndoing log' pages' site' newest l history found' known') all b.now;
       in_turn = InTurn-append_all IsNextUndo records a.more b.more a.in_turn b.in_turn;
       count = omega (arith, a.count, b.count, length-append a.more b.more, ap owed all);
       orderly = λ was. subst AreOrderly all (b.orderly (a.orderly was));
     }
 
 -- until all is
-pub all_undone : ActiveIsUnfinished → (log : LogStore) (pages : PageStore) (site : State) (newest : Option Master) (records : List Entry) (table : List Content) (commits : ℕ) (found : Analysis) (known : ℕ) →
-    UndoesSome log pages site newest records table commits found known → listed found.table ≡ [] → UndoesAll log pages site newest records table commits
-all_undone active log pages site newest records table commits found known a none =
-    let done = none_unfinished active log pages site newest (records ++ a.more) table commits found a.now.holds a.now.analysis none in
+pub all_undone : ActiveIsUnfinished → (log : LogStore) (pages : PageStore) (site : State) (newest : Option Master) (records : List Entry) (history : History) (found : Analysis) (known : ℕ) →
+    UndoesSome log pages site newest records history found known → listed found.table ≡ [] → UndoesAll log pages site newest records history
+all_undone active log pages site newest records history found known a none =
+    let done = none_unfinished active log pages site newest (records ++ a.more) history found a.now.holds a.now.analysis none in
     record {
       more = a.more;
       holds = a.now.holds;
@@ -210,9 +210,9 @@ all_undone active log pages site newest records table commits found known a none
     }
 
 -- Where each record is sealed all of them stand before the log's next block.
-pub sealed_up_to : (log : LogStore) (pages : PageStore) (site : State) (newest : Option Master) (records : List Entry) (table : List Content) (commits known : ℕ) → Represents log pages site newest records table commits → has_tail log ≡ false → known ≡ 512 * log.ring.hi + 1 →
+pub sealed_up_to : (log : LogStore) (pages : PageStore) (site : State) (newest : Option Master) (records : List Entry) (history : History) (known : ℕ) → Represents log pages site newest records history → has_tail log ≡ false → known ≡ 512 * log.ring.hi + 1 →
     AreUpTo known records
-sealed_up_to log pages site newest records table commits known h none at =
+sealed_up_to log pages site newest records history known h none at =
     let p = logical_image_under newest pages.flash.geometry site.image h.log_holds.blocks in
     let order = subst (λ (l : List Entry). IsInOrder (512 * kept_by newest) l (next_lsn p h.log_holds.tail)) h.log_holds.runs_on.records_are (whole_in_order p h.log_holds.tail h.log_holds.runs_on.carries) in
     let few = ltb-false 2 log.used none in

@@ -1,5 +1,5 @@
 -- Where an unfinished transaction has begun.
-use Rattle.redo_undo.proofs.Names.{◌≡◌, ℕ, ◌≤◌, Bool, true, false, List, [], ◌∷◌, ◌++◌, length, refl, sym, ap, subst, ◌∙◌, arith, ◌*◌, if◌then◌else◌, filter, Master, logical_image_under, kept_by, in_order_filter, whole_in_order, Unfinished, IsUnfinished, next_lsn, Entry, is_of, IsInOrder, LogStore, PageStore, Content, Represents, State}
+use Rattle.redo_undo.proofs.Names.{History, ◌≡◌, ℕ, ◌≤◌, Bool, true, false, List, [], ◌∷◌, ◌++◌, length, refl, sym, ap, subst, ◌∙◌, arith, ◌*◌, if◌then◌else◌, filter, Master, logical_image_under, kept_by, in_order_filter, whole_in_order, Unfinished, IsUnfinished, next_lsn, Entry, is_of, IsInOrder, LogStore, PageStore, Content, Represents, State}
 use Rattle.std.specs.Prelude.{Option}
 use Rattle.redo_undo.proofs.Compensations.{chain}
 
@@ -21,7 +21,7 @@ split_at test (x ∷ xs) front e back is = by (test x) refl front is (split_at t
         let found = later front e back is in
         (x ∷ found.0, found.1, ap (λ (l : List Entry). x ∷ l) found.2, found.3)
 
-module _ (log : LogStore) (pages : PageStore) (site : State) (newest : Option Master) (records : List Entry) (table : List Content) (commits : ℕ) (h : Represents log pages site newest records table commits) (x : Unfinished) (unfinished : IsUnfinished records x) where
+module _ (log : LogStore) (pages : PageStore) (site : State) (newest : Option Master) (records : List Entry) (history : History) (h : Represents log pages site newest records history) (x : Unfinished) (unfinished : IsUnfinished records x) where
   abbrev end : ℕ
   end = next_lsn (logical_image_under newest pages.flash.geometry site.image h.log_holds.blocks) h.log_holds.tail
 
@@ -31,5 +31,5 @@ module _ (log : LogStore) (pages : PageStore) (site : State) (newest : Option Ma
   -- it has begun in the kept log
   pub begin_kept : 512 * kept_by newest ≤ x.txn
   begin_kept =
-      let its = chain log pages site newest records table commits h x unfinished in
+      let its = chain log pages site newest records history h x unfinished in
       (subst (λ (l : List Entry). IsInOrder (512 * kept_by newest) l end) its.begins (in_order_filter (is_of x.txn) (512 * kept_by newest) records end order)).0

@@ -29,7 +29,7 @@ pub use Rattle.image_changes.proofs.Sequence.{ring_kept}
 pub use Rattle.image_changes.specs.Changes.{AppendsMaster, Makes, Reaches, ReadsAs}
 pub use Rattle.image_changes.specs.Reached.{LeavesFront}
 pub use Rattle.image_changes.specs.Rings.{master_shape, KeepsUnits, Masters, log_shape, Blocks, segment_shape}
-pub use Rattle.image_meaning.proofs.Leaving.{under_leaves_for, under_leaves_either_for}
+pub use Rattle.image_meaning.proofs.Leaving.{under_leaves_for}
 pub use Rattle.image_meaning.proofs.Redos.{next_is_redone, redone_is_current, version_is_redone, redone_replaces}
 pub use Rattle.image_meaning.proofs.UnchangedImages.{next_block_is}
 pub use Rattle.image_meaning.proofs.Versions.{length-versions, version_is}
@@ -82,19 +82,19 @@ pub use Rattle.page_store.specs.declared.store.PageStore.{PageStore}
 pub use Rattle.record_model.specs.State.{Content, Write, content_at, length_of, page_room, table_with}
 pub use Rattle.record_model.specs.Touches.{touch, CacheOp, flush, write_touch, page_of}
 pub use Rattle.redo_laws.proofs.Appended.{current_same, if_ok_one, append_leaves, more_sealed, IsAppended, IsNumbered, appended, ends_with, if_ok_four, if_ok_three, if_ok_two, most_blocks, ok_by, rings_now, versions_same}
-pub use Rattle.redo_laws.proofs.Asking.{stages_log, asks_nothing, asks_ok, asks_err, asks_same, asks_stopped, asks_then, stages_read, asks_fails, change_reads, change_stages, no_asks, stages_alone, touch_reads}
+pub use Rattle.redo_laws.proofs.Asking.{stages_log, asks_nothing, asks_ok, asks_err, asks_same, asks_stopped, asks_then, stages_read, asks_fails, change_reads, change_stages, no_asks, touch_reads}
 pub use Rattle.redo_laws.proofs.AskingFlush.{never_worn_flash, asks_around, flush_then}
 pub use Rattle.redo_laws.proofs.AskingUndo.{asks_refused, change_stopped, log_alone, works_are, asks_later, change_made, not_worn_either, not_worn_flash, page_is, work_is}
-pub use Rattle.redo_laws.proofs.CallsInSequence.{some_group, going_still, nothing_happens, only_read, units_then, and_then, found_now, holds_still, leaves_still, opened_holds, sound_there}
+pub use Rattle.redo_laws.proofs.CallsInSequence.{some_group, going_still, nothing_happens, nothing_lost, only_read, units_then, and_then, found_now, holds_still, leaves_still, opened_holds, sound_there}
 pub use Rattle.redo_laws.proofs.Changed.{front_is_current, front_shows, holds_off, holds_on, known_more, other_pages}
 pub use Rattle.redo_laws.proofs.Costs.{touched_next, touch_then_change}
 pub use Rattle.redo_laws.proofs.Endings.{ends_answered, ends_behind, ends_by_pages, ends_failed, ends_leaving, ends_ok, ends_no_memory, leaves_late}
-pub use Rattle.redo_laws.proofs.Forced.{seals_only, quiet_stops, forced_holds, ok_five, some_now}
+pub use Rattle.redo_laws.proofs.Forced.{seals_only, quiet_stops, forced_holds, rests, ok_five, some_now}
 pub use Rattle.redo_laws.proofs.LeftNumbers.{ready_next, log_calls, log_skips, pages_skip, same_at_most, masters_same, save_calls, save_skips, skips_not_saved}
 pub use Rattle.redo_laws.proofs.Names.{actives, named_at}
 pub use Rattle.redo_laws.proofs.Orderlies.{ends_orderly}
 pub use Rattle.redo_laws.proofs.RingNumbers.{skips_on, then_skips, hi_on, skips_again, skips_answered, skips_weaker, unchanged, skips_nothing, skips_refused, skips_still}
-pub use Rattle.redo_laws.proofs.Touched.{forced_tail, leaves_table, touched_holds, hi_is}
+pub use Rattle.redo_laws.proofs.Touched.{forced_tail, leaves_settled, leaves_table, touched_holds, hi_is}
 pub use Rattle.redo_laws.proofs.UndoneWrites.{active_is_undone_by, last_are_undone_by}
 pub use Rattle.redo_laws.proofs.WornLogs.{log_at_end, masters_at_end, sealed_hi}
 pub use Rattle.redo_laws.specs.Calls.{KeepsInvariant, Keeps, KeepsInvariantBeside, ReadsOne, KeepsBeside, LogsNothing}
@@ -103,13 +103,15 @@ pub use Rattle.redo_laws.specs.Committing.{EndsWith, MayCommit}
 pub use Rattle.redo_laws.specs.Holding.{Represents, blocks_to, MayGrow, Invariant, RepresentsIn, IsOnPage, IsLogWorn, IsSpent, RepresentsLog, ShowRecords}
 pub use Rattle.redo_laws.specs.MachineSteps.{StepsMachine, one_change, one_touch, undo_one_works, undo_works, checkpoint_works}
 pub use Rattle.redo_laws.specs.Numbers.{SkipsNone, HasNumbers}
+pub use Rattle.redo_laws.specs.Running.{History, settled}
+pub use Rattle.redo_laws.specs.Waiting.{LeavesSome, LeavesSomeUnder}
 pub use Rattle.redo_laws.specs.UndoWorks.{works_of, UndoesUpdates, IsLastAt}
 pub use Rattle.redo_laws.specs.UndoingAll.{IsUndoing, Remain, HasNone, IsOf, AreUpTo, IsGreatest, IsNextUndo, UndoesAll, UndoesSome}
 pub use Rattle.redo_undo.specs.Mirroring.{clrs_for, Mirrors, none_remains, ends_for, MirrorsStore, PerformsAtRest, PerformsOn, PerformsStore, flush_work, force_work, resting, touch_work, undo_one_work, updates}
 pub use Rattle.redo_undo.specs.Redoing.{Opening, opened, IsRedoing, HasTaken, IsReading, asked_of, AsksAtRest, IsOpened, IsFrom, LeavesOpened, heard_of, IsReadable, touches_of}
 pub use Rattle.redo_undo.specs.Rollback.{AreClrsOf, Compensates, UndoesLast, CompensatesUpTo}
 pub use Rattle.redo_undo.specs.StoreCalls.{KeepsNext, AreNext}
-pub use Rattle.redo_undo.specs.StoreRollback.{RollsBack, ConcernsOnly, GoesBack}
+pub use Rattle.redo_undo.specs.StoreRollback.{RollsBackOver, ConcernsOnly, GoesBackOver}
 pub use Rattle.redo_undo.specs.Stores.{sizes_of, shown_in, update_by, MayWork}
 pub use Rattle.redo_undo.specs.UndoCalls.{UndoesWork, taken_by}
 pub use Rattle.redo_undo.specs.Undoing.{IsAt, IsStepOf, Undone, Passed, IsWanted, clrs_logged}

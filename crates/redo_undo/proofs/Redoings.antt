@@ -1,5 +1,5 @@
 -- Log and pages while the records of an opened log are redone.
-use Rattle.redo_undo.proofs.Names.{◌≡◌, ◌⊎◌, inl, inr, ◌+◌, ◌*◌, ◌<◌, ◌==◌, ◌||◌, ◌&&◌, nat_lt, Bool, false, List, [], append-nil, length, refl, sym, ap, subst, ◌∙◌, arith, ℕ, true≢false, AllByRecursion, frame_of, Frame, Master, version_on, IsCleanOn, log_shape, KeepsUnits, master_shape, redone_is_current, redone_replaces, version_is_redone, next_block_is, length-versions, version_is, AreRingsSoundUnder, IsSoundUnder, StandsUnder, logical_image_under, versions_on, version_in, kept_by, next_block_under, IsRedone, AreKnown, ShowsAll, Entry, Version, log_from, Means, LogRecord, LogList, sealed_if, HasBlocks, has_tail, end_of, LogStore, fits_beside, IsAhead, sealed_end, AreReady, LeavesPages, LeavesRings, KeepsCurrent, IsStore, current, content_by, PageStore, Content, units_then, only_read, opened_holds, Represents, ShowRecords, IsOpened, Opening, opened, IsFrom, LeavesOpened, IsRedoing, IsRing, hi_of, each_both, each_weaker, no_call, unchanged_calm, stays_honest, quiet_leaves, Preserves, IsUnchanged, Leaves, LeavesOnly, State, Image, Snapshot, snapshot_of, IsQuiet, Geometry, lsn_of, IsLogged, end_forced, forces}
+use Rattle.redo_undo.proofs.Names.{settled, ◌≡◌, ◌⊎◌, inl, inr, ◌+◌, ◌*◌, ◌<◌, ◌==◌, ◌||◌, ◌&&◌, nat_lt, Bool, false, List, [], append-nil, length, refl, sym, ap, subst, ◌∙◌, arith, ℕ, true≢false, AllByRecursion, frame_of, Frame, Master, version_on, IsCleanOn, log_shape, KeepsUnits, master_shape, redone_is_current, redone_replaces, version_is_redone, next_block_is, length-versions, version_is, AreRingsSoundUnder, IsSoundUnder, StandsUnder, logical_image_under, versions_on, version_in, kept_by, next_block_under, IsRedone, AreKnown, ShowsAll, Entry, Version, log_from, Means, LogRecord, LogList, sealed_if, HasBlocks, has_tail, end_of, LogStore, fits_beside, IsAhead, sealed_end, AreReady, LeavesPages, LeavesRings, KeepsCurrent, IsStore, current, content_by, PageStore, Content, units_then, only_read, opened_holds, Represents, ShowRecords, IsOpened, Opening, opened, IsFrom, LeavesOpened, IsRedoing, IsRing, hi_of, each_both, each_weaker, no_call, unchanged_calm, stays_honest, quiet_leaves, Preserves, IsUnchanged, Leaves, LeavesOnly, State, Image, Snapshot, snapshot_of, IsQuiet, Geometry, lsn_of, IsLogged, end_forced, forces}
 use Rattle.image_meaning.proofs.Behind.{shows_still}
 use Rattle.image_meaning.proofs.OtherVersions.{version_replaces_itself, versions_are_sound, versions_mean}
 use Rattle.image_meaning.proofs.Replacing.{replace_all}
@@ -216,7 +216,7 @@ module _ (o : Opening) (log : LogStore) (pages : PageStore) (site : State) (h : 
       let less = before_two (lsn_of (current pages site.image number)) (512 * next_block_under o.newest o.blocks) (h.redone number exists).logged in
       omega (arith, h.ready.blocks.hi, h.ready.records.blocks.next, h.ready.records.tail.end, less, next_block_is o.newest o.blocks)
 
-  pub holds_all : Represents log pages site o.newest (log_from (kept_by o.newest) o.blocks) o.table o.commits
+  pub holds_all : Represents log pages site o.newest (log_from (kept_by o.newest) o.blocks) (settled o.table o.commits)
   holds_all =
       let back = sym h.geometry in
       opened_holds log pages site o.newest o.blocks o.table o.commits sizes h.kept h.ready

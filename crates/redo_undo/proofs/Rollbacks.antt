@@ -1,16 +1,16 @@
 -- Undoing a transaction, CLR by CLR, and its End.
-use Rattle.redo_undo.proofs.Names.{◌≡◌, ◌≢◌, ℕ, ◌+◌, ◌-◌, ◌^◌, ◌≤◌, true, List, [], ◌∷◌, ◌++◌, length, refl, sym, ap, subst, ◌∙◌, arith, append_assoc, append-nil, Option, ne_eqb, length-append, Master, all_append, logical_image_under, master_of, versions_on, loser_is_closed, loser_is_not_closed, loser_stays, owed_closing, chain_ends, undo_end, Unfinished, IsUnfinished, after_clr, past_clr, Follows, IsUndoChain, Entry, txn_of, is_loser, AreOrderly, is_clr, left_open, owed, owed_by, End, LogStore, PageStore, Content, Invariant, Represents, MayGrow, blocks_to, AreClrsOf, Compensates, IsAt, Undone, Passed, UndoCursor, State, Geometry}
+use Rattle.redo_undo.proofs.Names.{History, ◌≡◌, ◌≢◌, ℕ, ◌+◌, ◌-◌, ◌^◌, ◌≤◌, true, List, [], ◌∷◌, ◌++◌, length, refl, sym, ap, subst, ◌∙◌, arith, append_assoc, append-nil, Option, ne_eqb, length-append, Master, all_append, logical_image_under, master_of, versions_on, loser_is_closed, loser_is_not_closed, loser_stays, owed_closing, chain_ends, undo_end, Unfinished, IsUnfinished, after_clr, past_clr, Follows, IsUndoChain, Entry, txn_of, is_loser, AreOrderly, is_clr, left_open, owed, owed_by, End, LogStore, PageStore, Content, Invariant, Represents, MayGrow, blocks_to, AreClrsOf, Compensates, IsAt, Undone, Passed, UndoCursor, State, Geometry}
 use Rattle.redo_undo.specs.Rollback.{RollsBack}
 use Rattle.redo_undo.proofs.Compensations.{chain}
 
 -- nothing is compensated yet
-unfoldable pub starts : (log : LogStore) (pages : PageStore) (site : State) (newest : Option Master) (records : List Entry) (table : List Content) (commits : ℕ) (x : Unfinished) (first : UndoCursor) → Represents log pages site newest records table commits → IsUnfinished records x → IsAt first x →
-    Compensates log pages site newest records table commits x.txn (blocks_to log) first
-starts log pages site newest records table commits x first holds unfinished at =
+unfoldable pub starts : (log : LogStore) (pages : PageStore) (site : State) (newest : Option Master) (records : List Entry) (history : History) (x : Unfinished) (first : UndoCursor) → Represents log pages site newest records history → IsUnfinished records x → IsAt first x →
+    Compensates log pages site newest records history x.txn (blocks_to log) first
+starts log pages site newest records history x first holds unfinished at =
     record {
       clrs = [];
       own = tt;
-      holds = subst (λ (l : List Entry). Represents log pages site newest l table commits) (sym (append-nil records)) holds;
+      holds = subst (λ (l : List Entry). Represents log pages site newest l history) (sym (append-nil records)) holds;
       x = x;
       left = subst (λ (l : List Entry). IsUnfinished l x) (sym (append-nil records)) unfinished;
       at = at;
@@ -21,7 +21,7 @@ starts log pages site newest records table commits x first holds unfinished at =
       orderly = λ were. subst AreOrderly (sym (append-nil records)) were;
     }
 
-module _ (log : LogStore) (pages : PageStore) (site : State) (newest : Option Master) (records : List Entry) (table : List Content) (commits txn blocks : ℕ) (now : UndoCursor) (c : Compensates log pages site newest records table commits txn blocks now) where
+module _ (log : LogStore) (pages : PageStore) (site : State) (newest : Option Master) (records : List Entry) (history : History) (txn blocks : ℕ) (now : UndoCursor) (c : Compensates log pages site newest records history txn blocks now) where
   -- as long as undoing hasn't come to the Begin it reads a record
   pub remains : now.next ≢ now.txn → (e : Entry) × (rest : List Entry) × (c.x.chain ≡ e ∷ rest)
   remains differ = by c.x.chain refl
@@ -37,14 +37,14 @@ module _ (log : LogStore) (pages : PageStore) (site : State) (newest : Option Ma
   none_remains same = grind (arith, chain_ends)
 
   -- one more CLR
-  unfoldable pub goes_on : (log' : LogStore) (pages' : PageStore) (new : State) (next : UndoCursor) → Undone log' pages' new newest (records ++ c.clrs) table commits c.x next → blocks_to log' ≤ blocks_to log + 1 →
-      Compensates log' pages' new newest records table commits txn blocks next
+  unfoldable pub goes_on : (log' : LogStore) (pages' : PageStore) (new : State) (next : UndoCursor) → Undone log' pages' new newest (records ++ c.clrs) history c.x next → blocks_to log' ≤ blocks_to log + 1 →
+      Compensates log' pages' new newest records history txn blocks next
   goes_on log' pages' new next u one =
       let all = append_assoc records c.clrs (u.e ∷ []) in
       record {
         clrs = c.clrs ++ u.e ∷ [];
         own = all_append (λ (e : Entry). (is_clr e.rec ≡ true) × (txn_of e ≡ txn)) c.clrs (u.e ∷ []) c.own ((u.clr, u.own ∙ c.same), tt);
-        holds = subst (λ (l : List Entry). Represents log' pages' new newest l table commits) all u.holds;
+        holds = subst (λ (l : List Entry). Represents log' pages' new newest l history) all u.holds;
         x = after_clr c.x u.e;
         left = subst (λ (l : List Entry). IsUnfinished l (after_clr c.x u.e)) all u.left;
         at = u.at;
@@ -56,7 +56,7 @@ module _ (log : LogStore) (pages : PageStore) (site : State) (newest : Option Ma
       }
 
   -- one more is passed over
-  unfoldable pub passes_on : (log' : LogStore) (pages' : PageStore) (new : State) (e : Entry) (next : UndoCursor) → Passed log log' pages' new newest (records ++ c.clrs) table commits c.x e next → Compensates log' pages' new newest records table commits txn blocks next
+  unfoldable pub passes_on : (log' : LogStore) (pages' : PageStore) (new : State) (e : Entry) (next : UndoCursor) → Passed log log' pages' new newest (records ++ c.clrs) history c.x e next → Compensates log' pages' new newest records history txn blocks next
   passes_on log' pages' new e next p = record {
     clrs = c.clrs;
     own = c.own;
@@ -76,7 +76,7 @@ module _ (log : LogStore) (pages : PageStore) (site : State) (newest : Option Ma
     owes_less : (lsn : ℕ) → owed (records ++ c.clrs) ≡ owed ((records ++ c.clrs) ++ record { lsn = lsn; rec = End c.x.txn } ∷ []) + owed_by (records ++ c.clrs) c.x.txn
     owes_less lsn =
         owed_closing (records ++ c.clrs) (record { lsn = lsn; rec = End c.x.txn }) refl (loser_is_not_closed (records ++ c.clrs) c.x.txn c.left.loser)
-        (chain log pages site newest (records ++ c.clrs) table commits c.holds c.x c.left)
+        (chain log pages site newest (records ++ c.clrs) history c.holds c.x c.left)
 
     -- then nothing of it is owed
     pub owes_all : (lsn : ℕ) → owed ((records ++ c.clrs) ++ record { lsn = lsn; rec = End txn } ∷ []) + (length c.clrs + 1) ≡ owed records
@@ -97,10 +97,10 @@ module _ (log : LogStore) (pages : PageStore) (site : State) (newest : Option Ma
         })
 
 -- a log has blocks for all Updates of an unfinished transaction that are left
-pub few_left : (log : LogStore) (pages : PageStore) (site : State) (newest : Option Master) (records : List Entry) (table : List Content) (commits : ℕ) → Represents log pages site newest records table commits → Invariant log pages site → (x : Unfinished) → IsUnfinished records x →
+pub few_left : (log : LogStore) (pages : PageStore) (site : State) (newest : Option Master) (records : List Entry) (history : History) → Represents log pages site newest records history → Invariant log pages site → (x : Unfinished) → IsUnfinished records x →
     length (left_open records x.txn) ≤ 2 ^ 64 - 1
-few_left log pages site newest records table commits h going x unfinished =
-    let owes = owed_closing records (record { lsn = 0; rec = End x.txn }) refl (loser_is_not_closed records x.txn unfinished.loser) (chain log pages site newest records table commits h x unfinished) in
+few_left log pages site newest records history h going x unfinished =
+    let owes = owed_closing records (record { lsn = 0; rec = End x.txn }) refl (loser_is_not_closed records x.txn unfinished.loser) (chain log pages site newest records history h x unfinished) in
     let all = ap (λ (k : Geometry). k.blocks) going.sizes in
     let room = h.log_holds.room in
     let kept = going.log_going.kept in
@@ -113,11 +113,11 @@ others_stay records [] txn t differ own = grind (arith, append-nil)
 others_stay records (e ∷ clrs) txn t differ own = grind (arith, append_assoc, loser_stays, ne_eqb, (others_stay (records ++ e ∷ []) clrs txn t differ own.1))
 
 -- it is logged
-pub rolls_back : (log : LogStore) (pages : PageStore) (site : State) (newest : Option Master) (records : List Entry) (table : List Content) (commits txn : ℕ) (clrs : List Entry) (lsn : ℕ) → AreClrsOf txn clrs → length clrs ≡ length (left_open records txn) →
+pub rolls_back : (log : LogStore) (pages : PageStore) (site : State) (newest : Option Master) (records : List Entry) (history : History) (txn : ℕ) (clrs : List Entry) (lsn : ℕ) → AreClrsOf txn clrs → length clrs ≡ length (left_open records txn) →
     owed ((records ++ clrs) ++ record { lsn = lsn; rec = End txn } ∷ []) + (length clrs + 1) ≡ owed records →
-    Represents log pages site newest ((records ++ clrs) ++ record { lsn = lsn; rec = End txn } ∷ []) table commits →
-    (AreOrderly records → AreOrderly ((records ++ clrs) ++ record { lsn = lsn; rec = End txn } ∷ [])) → RollsBack log pages site newest records table commits txn
-rolls_back log pages site newest records table commits txn clrs lsn own count owes holds orderly =
+    Represents log pages site newest ((records ++ clrs) ++ record { lsn = lsn; rec = End txn } ∷ []) history →
+    (AreOrderly records → AreOrderly ((records ++ clrs) ++ record { lsn = lsn; rec = End txn } ∷ [])) → RollsBack log pages site newest records history txn
+rolls_back log pages site newest records history txn clrs lsn own count owes holds orderly =
     let e : Entry = record { lsn = lsn; rec = End txn } in
     record {
       clrs = clrs;

@@ -1,6 +1,6 @@
 -- Room in the page in front of the pool, as soundness has it.
 use Rattle.std.proofs.lemmas.Grind.{common_steps}
-use Rattle.redo_undo.proofs.Names.{◌≡◌, ℕ, ◌+◌, ◌*◌, ◌/◌, ◌%◌, ◌<◌, ◌≤◌, ◌==◌, suc, cond, List, [], ◌∷◌, ◌++◌, length, Option, Some, None, refl, sym, ap, subst, ◌∙◌, arith, get_or-set_same, get_or-set_other, le-max_left, eq-eqb, ne_eqb, sum_by-cons, range_with_len, sum_by, slice_set, front_of, Master, next_is_redone, length-versions, kept_by, version_in, versions_on, AreKnown, IsRedone, Redoes, shown_push, Follows, IsUndoable, Entry, Version, log_from, number_of, after_of, shown, Fields, InTurn, redone, LogStore, front_exists, IsStore, current, PageStore, Content, content_at, length_of, page_room, front_is_current, front_shows, IsOnPage, MayGrow, Represents, IsRedoing, Opening, opened, State, content_length, lsn_of, slots_of, total_length}
+use Rattle.redo_undo.proofs.Names.{History, ◌≡◌, ℕ, ◌+◌, ◌*◌, ◌/◌, ◌%◌, ◌<◌, ◌≤◌, ◌==◌, suc, cond, List, [], ◌∷◌, ◌++◌, length, Option, Some, None, refl, sym, ap, subst, ◌∙◌, arith, get_or-set_same, get_or-set_other, le-max_left, eq-eqb, ne_eqb, sum_by-cons, range_with_len, sum_by, slice_set, front_of, Master, next_is_redone, length-versions, kept_by, version_in, versions_on, AreKnown, IsRedone, Redoes, shown_push, Follows, IsUndoable, Entry, Version, log_from, number_of, after_of, shown, Fields, InTurn, redone, LogStore, front_exists, IsStore, current, PageStore, Content, content_at, length_of, page_room, front_is_current, front_shows, IsOnPage, MayGrow, Represents, IsRedoing, Opening, opened, State, content_length, lsn_of, slots_of, total_length}
 use Rattle.log_records.specs.Room.{total_on, HasOpenRoom}
 use Rattle.log_laws.proofs.Follow.{undoable_behind}
 use Rattle.log_laws.proofs.Rooms.{room_behind}
@@ -50,7 +50,7 @@ next_fits : (log : List Entry) (pages : List Version) (e : Entry) (slots : List 
     HasOpenRoom (log ++ e ∷ []) pages page → ((k : ℕ) → k < 32 → content_at slots k ≡ shown log pages (32 * page + k)) → total_length (slice_set slots (number % 32) (after_of e.rec)) ≤ page_room
 next_fits log pages e slots number page own at count room shows = grind (arith, common_steps, total_fits, set_slot, shown_push, le-max_left)
 
-module _ (log : LogStore) (pages : PageStore) (site : State) (newest : Option Master) (records : List Entry) (table : List Content) (commits : ℕ) (own : IsStore pages) (there : 0 < length pages.pool.frames) (h : Represents log pages site newest records table commits) where
+module _ (log : LogStore) (pages : PageStore) (site : State) (newest : Option Master) (records : List Entry) (history : History) (own : IsStore pages) (there : 0 < length pages.pool.frames) (h : Represents log pages site newest records history) where
   abbrev versions : List Version
   versions = versions_on pages.flash.geometry site.image
 
@@ -65,7 +65,7 @@ module _ (log : LogStore) (pages : PageStore) (site : State) (newest : Option Ma
   pub fits_behind : (log' : List Entry) (e : Entry) → ((number : ℕ) → shown log' versions number ≡ shown records versions number) → IsOnPage front e.rec → HasOpenRoom (log' ++ e ∷ []) versions front → HasRoomInFront pages e.rec
   fits_behind log' e same on room number is =
       next_fits log' versions e (slots_of (front_of pages.pool.frames).content) number front is (grind (arith, common_steps, on)) (length-slots_of (front_of pages.pool.frames).content) room
-      (λ k less. front_shows log pages site newest records table commits k own there less h ∙ sym (same (32 * front + k)))
+      (λ k less. front_shows log pages site newest records history k own there less h ∙ sym (same (32 * front + k)))
 
   pub fits_next : (e : Entry) → MayGrow log pages site.image newest records e → IsOnPage front e.rec → HasRoomInFront pages e.rec
   fits_next e may on = fits_behind records e (λ number. refl) on (room_behind _ versions records open_in_front.0 e front may.follows open_in_front.1)

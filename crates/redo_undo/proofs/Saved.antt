@@ -1,5 +1,5 @@
 -- A master is saved over flushed pages and an empty tail.
-use Rattle.redo_undo.proofs.Names.{◌≡◌, ◌⊎◌, inl, inr, ℕ, ◌+◌, ◌-◌, ◌*◌, ◌/◌, ◌≤◌, ◌<◌, ◌==◌, Bool, true, false, List, [], ◌∷◌, map, drop, Option, Some, refl, sym, ap, subst, ◌∙◌, arith, append-nil, length, cond-true, cond-false, le-leb, lt-ltb, length-append, sum_by-cons, none-some, same_Some, list_any, AllByRecursion, if◌then◌else◌, filter, flat_map, max, nat_le, slice_get, sum_by, frame_of, Frame, seen, unit, IsUnit, master_in, Master, version_on, AppendsMaster, Makes, Reaches, ReadsAs, LeavesFront, Masters, Blocks, log_shape, KeepsUnits, master_shape, under_leaves_for, redone_is_current, version_is_redone, length-versions, version_is, IsFlushed, IsMasterOf, first_block, oldest_needed, logical_image_under, kept_by, versions_on, version_in, IsSoundUnder, LeavesFor, AreKnown, ShowsAll, listed_is_loser, loser_is_listed, in_order_filter, carries_nothing, whole_is_undoable, IsUndoable, whole, some_octet, Entry, Version, version_at, is_loser, entries_of, is_of, Active, LogicalImage, AreOrderly, from_block, last_lsn, active_in, before_block, IsInOrder, IsSound, IsLoserChain, used_by, spelling, losers, owed, owed_by, open_updates, LogRecord, has_tail, end_of, LogStore, fits_beside, versions_beside, AreLogged, cache_of, pool_page, current, PageStore, Content, current_same, more_sealed, sound_there, nothing_happens, hi_is, AreUnfinished, MayBeMade, begins_of, KeepUnfinished, IsSaved, Represents, blocks_to, Finds, Units, FitsIn, IsRing, hi_of, Ring, Shape, wants_flush, stays_honest, holds_now, in_sequence, Preserves, ChangesOnly, Leaves, LeavesOnly, State, Image, content_of, IsQuiet, Geometry, Log, Flash, Disk, lsn_of, all_member, each_member, end_forced}
+use Rattle.redo_undo.proofs.Names.{History, settled, LeavesSome, LeavesSomeUnder, LeavesTableUnder, leaves_settled, leaves_weaker, ◌≡◌, ◌⊎◌, inl, inr, ℕ, ◌+◌, ◌-◌, ◌*◌, ◌/◌, ◌≤◌, ◌<◌, ◌==◌, Bool, true, false, List, [], ◌∷◌, map, drop, Option, Some, refl, sym, ap, subst, ◌∙◌, arith, append-nil, length, cond-true, cond-false, le-leb, lt-ltb, length-append, sum_by-cons, none-some, same_Some, list_any, AllByRecursion, if◌then◌else◌, filter, flat_map, max, nat_le, slice_get, sum_by, frame_of, Frame, seen, unit, IsUnit, master_in, Master, version_on, AppendsMaster, Makes, Reaches, ReadsAs, LeavesFront, Masters, Blocks, log_shape, KeepsUnits, master_shape, under_leaves_for, redone_is_current, version_is_redone, length-versions, version_is, IsFlushed, IsMasterOf, first_block, oldest_needed, logical_image_under, kept_by, versions_on, version_in, IsSoundUnder, LeavesFor, AreKnown, ShowsAll, listed_is_loser, loser_is_listed, in_order_filter, carries_nothing, whole_is_undoable, IsUndoable, whole, some_octet, Entry, Version, version_at, is_loser, entries_of, is_of, Active, LogicalImage, AreOrderly, from_block, last_lsn, active_in, before_block, IsInOrder, IsSound, IsLoserChain, used_by, spelling, losers, owed, owed_by, open_updates, LogRecord, has_tail, end_of, LogStore, fits_beside, versions_beside, AreLogged, cache_of, pool_page, current, PageStore, Content, current_same, more_sealed, sound_there, nothing_happens, hi_is, AreUnfinished, MayBeMade, begins_of, KeepUnfinished, IsSaved, Represents, blocks_to, Finds, Units, FitsIn, IsRing, hi_of, Ring, Shape, wants_flush, stays_honest, holds_now, in_sequence, Preserves, ChangesOnly, Leaves, LeavesOnly, State, Image, content_of, IsQuiet, Geometry, Log, Flash, Disk, lsn_of, all_member, each_member, end_forced}
 use Rattle.image_meaning.proofs.Flushes.{oldest_is_there}
 use Rattle.log_store.proofs.Standing.{holds_beside}
 use Rattle.std_lemmas.proofs.Bools.{same_bools}
@@ -12,6 +12,7 @@ use Rattle.image_meaning.proofs.Beside.{rings_saved}
 use Rattle.image_meaning.proofs.Saves.{checkpoint_may_save, logical_image_saved, sound_saved, means_saved, orderly_saved}
 use Rattle.image_meaning.proofs.CheckpointMoments.{save_stands}
 use Rattle.checkpoint.proofs.UnitParts.{unit_read}
+use Rattle.redo_laws.proofs.Runs.{runs_settled, means_settled}
 use Rattle.redo_undo.proofs.NextRecords.{order_ends}
 use Rattle.log_store.specs.Representation as log_store
 
@@ -30,8 +31,8 @@ unchanged_frame : (frames : List Frame) (number : ℕ) (frame : Frame) → list_
 unchanged_frame [] number frame clean found = grind (arith, none-some)
 unchanged_frame (x ∷ frames) number frame clean found = grind (arith, same_Some, (unchanged_frame frames number frame))
 
-pub clean_current : (log : LogStore) (pages : PageStore) (site : State) (newest : Option Master) (records : List Entry) (table : List Content) (commits : ℕ) → Represents log pages site newest records table commits → wants_flush (cache_of pages) ≡ false → (number : ℕ) → current pages site.image number ≡ version_on pages.flash.geometry site.image number
-clean_current log pages site newest records table commits h clean number = grind (arith, unchanged_frame)
+pub clean_current : (log : LogStore) (pages : PageStore) (site : State) (newest : Option Master) (records : List Entry) (history : History) → Represents log pages site newest records history → wants_flush (cache_of pages) ≡ false → (number : ℕ) → current pages site.image number ≡ version_on pages.flash.geometry site.image number
+clean_current log pages site newest records history h clean number = grind (arith, unchanged_frame)
 
 -- known records stay known where some are left out
 known_filter : (test : Entry → Bool) (log : List Entry) (page lsn : ℕ) → AreKnown log page lsn → AreKnown (filter test log) page lsn
@@ -87,7 +88,7 @@ chain_kept n t from to log order chain late =
     let begun : IsInOrder t (entries_of t log) to = subst (λ (l : List Entry). IsInOrder t l to) (sym chain.begins) (omega arith, ordered.1) in
     filter_swap (is_of t) (λ e. nat_le (512 * n) e.lsn) log ∙ all_from n t to (entries_of t log) late begun
 
-module _ (log : LogStore) (pages : PageStore) (site : State) (newest : Option Master) (records : List Entry) (table : List Content) (commits : ℕ) (h : Represents log pages site newest records table commits)
+module _ (log : LogStore) (pages : PageStore) (site : State) (newest : Option Master) (records : List Entry) (table : List Content) (commits : ℕ) (h : Represents log pages site newest records (settled table commits))
     (sizes : log.geometry ≡ pages.flash.geometry) (empty : log.used ≡ 2) (clean : wants_flush (cache_of pages) ≡ false) (m : Master) (redo : m.redo ≡ log.ring.hi) (count : m.commits ≡ commits) (ascend : Ascend m.active) (unfinished : AreUnfinished records m.active) where
   abbrev g : Geometry
   g = pages.flash.geometry
@@ -101,20 +102,23 @@ module _ (log : LogStore) (pages : PageStore) (site : State) (newest : Option Ma
   log_is : p.log ≡ records
   log_is = sym (append-nil p.log) ∙ ap (λ (tail : List LogRecord). whole p tail) (sym tail_is) ∙ h.log_holds.runs_on.records_are
 
+  means_now : Means p table commits
+  means_now = means_settled p h.log_holds.tail records table commits h.log_holds.runs_on
+
   pub sound : IsSoundUnder newest pages.flash.geometry site.image h.log_holds.blocks
-  sound = sound_there log pages site newest records table commits sizes h
+  sound = sound_there log pages site newest records (settled table commits) sizes h
 
   flushed : IsFlushed p
   flushed page less =
       let exists : page < g.pages = omega (arith, less, length-versions g site.image) in
       let version : lsn_of (current pages site.image page) ≡ (version_at p.pages page).lsn =
-      ap lsn_of (clean_current log pages site newest records table commits h clean page) ∙ sym (ap (λ (v : Version). v.lsn) (version_is g site.image page exists)) in
+      ap lsn_of (clean_current log pages site newest records (settled table commits) h clean page) ∙ sym (ap (λ (v : Version). v.lsn) (version_is g site.image page exists)) in
       subst (λ (n : ℕ). AreKnown p.log page n) version (subst (λ (l : List Entry). AreKnown l page (lsn_of (current pages site.image page))) (sym log_is) (h.shows.each page exists).known)
 
   pub is_master : IsMasterOf p m
   is_master = record {
-    redo = redo ∙ hi_is log pages site newest records table commits h;
-    commits = count ∙ h.log_holds.runs_on.means.count_is;
+    redo = redo ∙ hi_is log pages site newest records (settled table commits) h;
+    commits = count ∙ means_now.count_is;
     ascend = ascend;
     unfinished = subst (λ (l : List Entry). AllByRecursion (λ pair. (is_loser l pair.begin ≡ true) × (pair.last ≡ last_lsn (entries_of pair.begin l))) m.active) (sym log_is) unfinished.each;
     all = subst (λ (l : List Entry). (t : ℕ) → is_loser l t ≡ true → list_any (λ pair. pair.begin == t) m.active ≡ true) (sym log_is) unfinished.all;
@@ -150,7 +154,7 @@ module _ (log : LogStore) (pages : PageStore) (site : State) (newest : Option Ma
         LeavesOnly site new (LeavesFor pages.flash.geometry table commits site.told)
     save_leaves new quiet front = save_stands newest g site site new h.log_holds.blocks _ table commits
         (under_leaves_for newest g site site table commits site.told (nothing_happens log pages site newest records table commits sizes h quiet)) refl sound
-        h.log_holds.runs_on.means may_save front
+        means_now may_save front
 
     module _ (new : State) (reaches : Reaches pages.flash.geometry (AppendsMaster (unit m) ∷ []) site.image new.image) (changes : ChangesOnly Log site new) (goes : Preserves site new) where
       made : Makes g (AppendsMaster (unit m)) site.image new.image
@@ -239,7 +243,7 @@ module _ (log : LogStore) (pages : PageStore) (site : State) (newest : Option Ma
           let v = version_at q.pages page in
           let here : v ≡ version_in (current pages new.image page) =
           version_is g new.image page exists ∙ ap version_in (versions_beside g site new page changes)
-          ∙ ap version_in (sym (clean_current log pages site newest records table commits h clean page)) ∙ ap version_in (sym (current_same pages site new changes page)) in
+          ∙ ap version_in (sym (clean_current log pages site newest records (settled table commits) h clean page)) ∙ ap version_in (sym (current_same pages site new changes page)) in
           let known : AreKnown q.log page v.lsn =
           subst (λ (l : List Entry). AreKnown l page v.lsn) (sym records_now)
           (subst (λ (w : Version). AreKnown (from_block n.kept records) page w.lsn) (sym here)
@@ -254,8 +258,8 @@ module _ (log : LogStore) (pages : PageStore) (site : State) (newest : Option Ma
           (held : log_store.Finds log new → log_store.Represents log new.image (record
           { first = kept_by newest; blocks = h.log_holds.blocks; tail = h.log_holds.tail }) →
           log_store.Represents log' new.image (record { first = max (kept_by newest) m.kept; blocks = drop (m.kept - kept_by newest) h.log_holds.blocks; tail = h.log_holds.tail })) where
-        pub saved_holds : Represents log' pages new (Some m) (from_block m.kept records) table commits
-        saved_holds = subst (λ (k : Master). Represents log' pages new (Some k) (from_block k.kept records) table commits) read (record {
+        pub saved_holds : Represents log' pages new (Some m) (from_block m.kept records) (settled table commits)
+        saved_holds = subst (λ (k : Master). Represents log' pages new (Some k) (from_block k.kept records) (settled table commits)) read (record {
           log_holds = record {
             kept = ap (λ (l : LogStore). l.kept) is ∙ ap (λ (k : Master). k.kept) (sym read);
             blocks = blocks;
@@ -267,12 +271,8 @@ module _ (log : LogStore) (pages : PageStore) (site : State) (newest : Option Ma
                   (subst (λ (k : Master). log_store.Represents log' new.image (record { first = k.kept; blocks = drop (k.kept - kept_by newest) h.log_holds.blocks; tail = h.log_holds.tail })) (sym read) (held_after log' (held finds_log held_log)));
             };
             rings = rings_saved newest g (unit m) site.image new.image h.log_holds.rings may_save.unit made;
-            runs_on = record {
-              carries = carries_nothing q sound_now.records;
-              means = means_saved newest g site.image new.image h.log_holds.blocks (unit m) sound may_save made table commits h.log_holds.runs_on.means;
-              no_commit = refl;
-              records_are = append-nil q.log ∙ records_now;
-            };
+            runs_on = runs_settled q [] (from_block n.kept records) table commits (carries_nothing q sound_now.records)
+                (means_saved newest g site.image new.image h.log_holds.blocks (unit m) sound may_save made table commits means_now) refl (append-nil q.log ∙ records_now);
             ahead = record {
               pool = subst (λ (l : LogStore). AreLogged (end_forced l) pages.pool.frames) (sym is) h.log_holds.ahead.pool;
               versions = more_sealed pages site new changes log log' sizes (ap (λ (l : LogStore). l.geometry) is) h.log_holds.ready.blocks
@@ -294,7 +294,7 @@ module _ (log : LogStore) (pages : PageStore) (site : State) (newest : Option Ma
             room_now =
                 let owed_is : owed q.log ≡ owed (from_block n.kept records) = ap owed records_now in
                 let hi_is_q : q.hi ≡ p.hi = ap (λ (x : LogicalImage). x.hi) (logical_image_saved newest g site.image new.image h.log_holds.blocks (unit m) sound may_save made) in
-                let hi = hi_is log pages site newest records table commits h in
+                let hi = hi_is log pages site newest records (settled table commits) h in
                 let same : blocks_to log' ≡ blocks_to log = ap blocks_to is in
                 let kept_is : log'.kept ≡ n.kept = ap (λ (l : LogStore). l.kept) is ∙ ap (λ (k : Master). k.kept) (sym read) in
                 omega (arith, sound_now.records.room_for_undo, owed_is, hi_is_q, hi, same, kept_is, none, may_save.may.kept_in_log)
@@ -322,6 +322,17 @@ finds_kept masters old new shape keeps finds = record {
   hi = subst (λ (s : Shape). masters.hi ≡ hi_of s (content_of s.dev new.image)) (sym shape)
       (subst (λ (s : Shape). masters.hi ≡ hi_of s (content_of s.dev old.image)) shape finds.hi ∙ sym (ap (λ (u : Units). u.hi) keeps.units));
 }
+
+-- what a crash leaves, whatever the newest master is
+pub some_leaves_for : (newest : Option Master) (g : Geometry) (old new : State) (history : History) (so_far : List ℕ) → LeavesOnly old new (LeavesSomeUnder newest g history so_far) → LeavesOnly old new (LeavesSome g history so_far)
+some_leaves_for newest g old new history so_far leaves =
+    leaves_weaker old new (LeavesSomeUnder newest g history so_far) (LeavesSome g history so_far)
+    (λ s q. record { told = q.told; count = q.count; from_floor = q.from_floor; within = q.within; stands = record { newest = newest; stands = q.stands } }) leaves
+
+-- which is the table, where no commit waits
+pub settled_leaves_for : (newest : Option Master) (g : Geometry) (old new : State) (table : List Content) (commits : ℕ) (so_far : List ℕ) → LeavesOnly old new (LeavesSomeUnder newest g (settled table commits) so_far) → LeavesOnly old new (LeavesFor g table commits so_far)
+settled_leaves_for newest g old new table commits so_far leaves =
+    under_leaves_for newest g old new table commits so_far (leaves_weaker old new (LeavesSomeUnder newest g (settled table commits) so_far) (LeavesTableUnder newest g table commits so_far) leaves_settled leaves)
 
 -- one call behind others
 pub then_for : (g g' : Geometry) (old mid new : State) (table : List Content) (commits : ℕ) → g' ≡ g → LeavesOnly old mid (LeavesFor g table commits old.told) → LeavesOnly mid new (LeavesFor g' table commits mid.told) → LeavesOnly old new (LeavesFor g table commits old.told)

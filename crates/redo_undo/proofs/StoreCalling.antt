@@ -1,5 +1,5 @@
 -- Calls of a store one after the other, each known by its record.
-use Rattle.redo_undo.proofs.Names.{◌≡◌, ◌+◌, ◌≤◌, List, refl, subst, ◌∙◌, arith, ℕ, Result, Ok, Err, OnOk, IsTrue, StandsFor, LeavesFor, Content, ends_answered, ends_behind, ends_failed, ends_leaving, ends_no_memory, ends_ok, leaves_late, skips_on, then_skips, skips_again, skips_answered, skips_refused, skips_weaker, SkipsNone, sizes_of, MayWork, TransactionStore, holds_now, leaves_weaker, stays_honest, ok_as, calls_then, calls_answered, calls_failed, LeavesOnly, State as Site, Snapshot, IsQuiet, Geometry, Stop, Memory}
+use Rattle.redo_undo.proofs.Names.{LeavesSome, settled, ◌≡◌, ◌+◌, ◌≤◌, List, refl, subst, ◌∙◌, arith, ℕ, Result, Ok, Err, OnOk, IsTrue, StandsFor, LeavesFor, Content, ends_answered, ends_behind, ends_failed, ends_leaving, ends_no_memory, leaves_late, skips_on, then_skips, skips_again, skips_answered, skips_refused, skips_weaker, sizes_of, MayWork, TransactionStore, holds_now, leaves_weaker, stays_honest, ok_as, calls_then, calls_answered, calls_failed, LeavesOnly, State as Site, Snapshot, Geometry, Stop, Memory}
 use Rattle.redo_undo.proofs.NextUnits.{next_then, next_answered, next_failed, store_next}
 use Rattle.redo_undo.specs.StoreCalls.{KeepsInvariant, Keeps}
 use Rattle.redo_laws.specs.Calls as calls
@@ -18,6 +18,9 @@ works_then {r = r} {old = old} {new = new} {before = before} {between = between}
 
 pub works_answered : {A B : Type 0} {a : A} {b : B} {old new : TransactionStore} {before now : Site} {n : ℕ} → KeepsInvariant {T = A} (Ok a) old new before now n → KeepsInvariant {T = B} (Ok b) old new before now n
 works_answered first = record { calls = calls_answered first.calls; going = first.going; next = λ honest. next_answered (first.next honest); made = first.made; blocks = first.blocks; rises = first.rises; kept = first.kept; sizes = first.sizes; stops = tt }
+
+pub works_failed : {A B : Type 0} {stop : Stop} {old new : TransactionStore} {before now : Site} {n k : ℕ} → KeepsInvariant {T = A} (Err stop) old new before now n → KeepsInvariant {T = B} (Err stop) old new before now k
+works_failed first = record { calls = calls_failed first.calls; going = tt; next = λ honest. next_failed (first.next honest); made = tt; blocks = tt; rises = tt; kept = first.kept; sizes = first.sizes; stops = first.stops }
 
 -- a call of log and pages that fails
 pub works_at_error : {A B : Type 0} {stop : Stop} {old new : TransactionStore} {before now : Site} {n : ℕ} → MayWork old before → new.masters ≡ old.masters → calls.KeepsInvariant {T = A} (Err stop) old.log new.log old.pages new.pages before now → KeepsInvariant {T = B} (Err stop) old new before now n
@@ -51,6 +54,12 @@ keeps_both {old = old} {before = before} {between = between} {table = table} {co
 pub keeps_weaker : {T : Type 0} {r : Result T Stop} {old new : TransactionStore} {before now : Site} {P R : Snapshot → Type 0} {n m : ℕ} → ((s : Snapshot) → P s → R s) → Keeps r old new before now P n m → Keeps r old new before now R n m
 keeps_weaker {before = before} {now = now} {P = P} {R = R} more first = record { ends = ends_leaving (leaves_weaker before now P R more) first.ends; numbers = first.numbers }
 
+-- where no commit waits a crash leaves the table
+pub keeps_settled : {T : Type 0} {r : Result T Stop} {old new : TransactionStore} {before now : Site} {g : Geometry} {table : List Content} {commits n m : ℕ} {so_far : List ℕ} → Keeps r old new before now (LeavesSome g (settled table commits) so_far) n m → Keeps r old new before now (LeavesFor g table commits so_far) n m
+keeps_settled {g = g} {table = table} {commits = commits} kept = keeps_weaker (λ s left.
+    let all : left.count ≡ commits = let least = left.from_floor in let most = left.within in omega (arith, least, most) in
+    record { told = left.told; stands = subst (StandsFor g s.image table) all left.stands }) kept
+
 pub keeps_before : {A B : Type 0} {stop : Stop} {old new : TransactionStore} {before now : Site} {P : Snapshot → Type 0} {n k m : ℕ} → n ≤ k → Keeps {T = A} (Err stop) old new before now P n m → Keeps {T = B} (Err stop) old new before now P k m
 keeps_before {A = A} {B = B} {stop = stop} {old = old} {new = new} {before = before} {now = now} {n = n} {k = k} {m = m} few first = record {
   ends = ends_failed first.ends;
@@ -65,7 +74,3 @@ keeps_answered {A = A} {B = B} {a = a} {b = b} {old = old} {new = new} {before =
 
 pub keeps_no_memory : {A B : Type 0} {a : A} {old new : TransactionStore} {before now : Site} {P : Snapshot → Type 0} {i n m : ℕ} → IsTrue before.honest → KeepsInvariant {T = A} (Ok a) old new before now i → Keeps {T = A} (Ok a) old new before now P n m → Keeps {T = B} (Err Memory) old new before now P n m
 keeps_no_memory {A = A} {B = B} {a = a} {old = old} {new = new} {before = before} {now = now} {n = n} {m = m} honest works first = grind (arith, ends_no_memory, skips_refused)
-
-pub keeps_ok : {T : Type 0} {x : T} {old new : TransactionStore} {before now : Site} {P : Snapshot → Type 0} {n m : ℕ} → (IsQuiet before → LeavesOnly before now P) → (IsQuiet before → SkipsNone {T = T} {E = Stop} (Ok x) (sizes_of old) old.log new.log before now n m) →
-    Keeps {T = T} (Ok x) old new before now P n m
-keeps_ok moments numbers = record { ends = ends_ok moments; numbers = numbers }

@@ -1,9 +1,9 @@
 -- A session's transaction is undone, CLR by CLR, and its End is logged.
-use Rattle.redo_undo.proofs.Names.{Option, ◌≡◌, ℕ, Bool, cond, take, ◌+◌, ◌-◌, ◌*◌, ◌≤◌, List, [], ◌∷◌, ◌++◌, length, refl, sym, ap, subst, ◌∙◌, arith, and_right, eq-eqb, ne_eqb, filter-append, Master as Saved, master_of, logical_image_under, active_stays, entries_other, entries_own, loser_stays, open_more, whole_is_undoable, whole_in_order, active_is_unfinished, IsUnfinished, IsActive, IsUndoable, next_lsn, Entry, txn_of, is_of, is_update, is_closing, entries_of, updates_in, IsInOrder, IsOpen, Fields as Master, open_updates, owed, End, Content, Write, blocks_to, AreClrsOf, ConcernsOnly, RollsBack, GoesBack, sizes_of, TransactionStore, Finds, State}
+use Rattle.redo_undo.proofs.Names.{History, Option, ◌≡◌, ℕ, Bool, cond, take, ◌+◌, ◌-◌, ◌*◌, ◌≤◌, List, [], ◌∷◌, ◌++◌, length, refl, sym, ap, subst, ◌∙◌, arith, and_right, eq-eqb, ne_eqb, filter-append, Master as Saved, master_of, logical_image_under, active_stays, entries_other, entries_own, loser_stays, open_more, whole_is_undoable, whole_in_order, active_is_unfinished, IsUnfinished, IsActive, IsUndoable, next_lsn, Entry, txn_of, is_of, is_update, is_closing, entries_of, updates_in, IsInOrder, IsOpen, Fields as Master, open_updates, owed, End, Content, Write, blocks_to, AreClrsOf, ConcernsOnly, RollsBackOver, GoesBackOver, sizes_of, TransactionStore, Finds, State}
 use Rattle.log_laws.proofs.Pendings.{not_closing}
 use Rattle.std.proofs.lemmas.List.{append_assoc, append-nil}
 use Rattle.log_laws.proofs.Standing.{standing_dropped}
-use Rattle.redo_undo.specs.Stores.{Represents}
+use Rattle.redo_undo.specs.Stores.{Holds}
 use Rattle.redo_undo.specs.Rollback as undone
 
 -- one more record of the transaction
@@ -21,19 +21,19 @@ concerns_clrs newest txn before now [] own concerns = grind (arith, append-nil)
 concerns_clrs newest txn before now (e ∷ clrs) own concerns = grind (arith, append_assoc, concerns_more, (concerns_clrs newest txn before (now ++ e ∷ []) clrs own.1 (concerns_more newest txn before now e own.0.1 concerns)))
 
 -- A session's transaction is unfinished, and all its writes that stand remain to be undone. That reads no more records than it has Updates.
-pub active_left : (store : TransactionStore) (site : State) (newest : Option Saved) (records : List Entry) (table : List Content) (commits begin last : ℕ) (writes : List Write) → Represents store site newest records table commits → IsActive (master_of newest) records begin last writes →
+pub active_left : (store : TransactionStore) (site : State) (newest : Option Saved) (records : List Entry) (history : History) (begin last : ℕ) (writes : List Write) → Holds store site newest records history → IsActive (master_of newest) records begin last writes →
     (chain : List Entry) × IsUnfinished records (record { txn = begin; last = last; next = last; remaining = length writes; chain = chain }) × (length chain ≤ length (updates_in (entries_of begin records)))
-active_left store site newest records table commits begin last writes h active =
+active_left store site newest records history begin last writes h active =
     let log = h.both.log_holds in
     let p = logical_image_under newest (sizes_of store) site.image log.blocks in
     active_is_unfinished (master_of newest) (512 * p.master.kept) (next_lsn p log.tail) records begin last writes
     (subst (λ (l : List Entry). IsInOrder (512 * p.master.kept) l (next_lsn p log.tail)) log.runs_on.records_are (whole_in_order p log.tail log.runs_on.carries)) active
 
 -- It is undone as a whole, and the ring of master units stands as before.
-pub rolls_back : (store last : TransactionStore) (old new : State) (newest : Option Saved) (records : List Entry) (table : List Content) (commits begin at writes : ℕ) (made : List Write) → Represents store old newest records table commits → IsActive (master_of newest) records begin at made → length made ≡ writes →
-    undone.RollsBack last.log last.pages new newest records table commits begin → Finds last.masters new → RollsBack last new newest records table commits begin writes
-rolls_back store last old new newest records table commits begin at writes made h active many u masters =
-    let unfinished = (active_left store old newest records table commits begin at made h active).1 in
+pub rolls_back : (store last : TransactionStore) (old new : State) (newest : Option Saved) (records : List Entry) (history : History) (begin at writes : ℕ) (made : List Write) → Holds store old newest records history → IsActive (master_of newest) records begin at made → length made ≡ writes →
+    undone.RollsBack last.log last.pages new newest records history begin → Finds last.masters new → RollsBackOver last new newest records history begin writes
+rolls_back store last old new newest records history begin at writes made h active many u masters =
+    let unfinished = (active_left store old newest records history begin at made h active).1 in
     let e : Entry = record { lsn = u.lsn; rec = End begin } in
     record {
       log = (records ++ u.clrs) ++ e ∷ [];
@@ -44,9 +44,9 @@ rolls_back store last old new newest records table commits begin at writes made 
     }
 
 -- a transaction of so many writes is undone, and there is room to undo what else is owed
-pub has_room : (last : TransactionStore) (new : State) (newest : Option Saved) (records : List Entry) (table : List Content) (commits begin writes more : ℕ) → RollsBack last new newest records table commits begin writes → owed records ≡ more + (writes + 1) →
+pub has_room : (last : TransactionStore) (new : State) (newest : Option Saved) (records : List Entry) (history : History) (begin writes more : ℕ) → RollsBackOver last new newest records history begin writes → owed records ≡ more + (writes + 1) →
     blocks_to last.log + more ≤ last.log.kept + ((sizes_of last).blocks - 1)
-has_room last new newest records table commits begin writes more back is =
+has_room last new newest records history begin writes more back is =
     omega (arith, back.holds.both.log_holds.room, back.owes, is)
 
 -- Its last writes are undone.
@@ -63,9 +63,9 @@ updates_stay records (e ∷ clrs) t own =
     ∙ ap updates_in (entries_own records e t (eq-eqb (txn_of e) t own.0.1)) ∙ filter-append (λ (x : Entry). is_update x.rec) (entries_of t records) (e ∷ [])
     ∙ ap (λ (b : Bool). updates_in (entries_of t records) ++ cond b (e ∷ []) []) (not_closing e.rec own.0.0).1 ∙ append-nil (updates_in (entries_of t records))
 
-pub goes_back : (store last : TransactionStore) (old new : State) (newest : Option Saved) (records : List Entry) (table : List Content) (commits begin at count lsn : ℕ) (writes : List Write) → Represents store old newest records table commits → IsActive (master_of newest) records begin at writes →
-    undone.UndoesLast last.log last.pages new newest records table commits begin count lsn → Finds last.masters new → GoesBack last new newest records table commits begin count writes lsn
-goes_back store last old new newest records table commits begin at count lsn writes h active u masters =
+pub goes_back : (store last : TransactionStore) (old new : State) (newest : Option Saved) (records : List Entry) (history : History) (begin at count lsn : ℕ) (writes : List Write) → Holds store old newest records history → IsActive (master_of newest) records begin at writes →
+    undone.UndoesLast last.log last.pages new newest records history begin count lsn → Finds last.masters new → GoesBackOver last new newest records history begin count writes lsn
+goes_back store last old new newest records history begin at count lsn writes h active u masters =
     let now = u.holds.log_holds in
     let p = logical_image_under newest (sizes_of last) new.image now.blocks in
     let undoable : IsUndoable (records ++ u.clrs) = subst IsUndoable now.runs_on.records_are (whole_is_undoable p now.tail now.runs_on.carries) in

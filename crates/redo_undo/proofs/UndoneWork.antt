@@ -1,5 +1,5 @@
 -- The work of undoing: CLRs one after the other, and the Ends of transactions of which nothing remains.
-use Rattle.redo_undo.proofs.Names.{◌≡◌, ◌==◌, ℕ, zero, suc, ◌+◌, ◌*◌, ◌≤◌, ◌<◌, Bool, true, false, cond, not, ◌&&◌, ◌||◌, nat_eq, List, [], ◌∷◌, ◌++◌, map, drop, replicate, reverse, length, Option, Some, refl, sym, ap, subst, ◌∙◌, arith, append-nil, append_assoc, eqb-true, true≢false, and_from, and_parts, or_left, filter-append, same_Some, list_any, AllByRecursion, Ok, if◌then◌else◌, OneTable, TableOfUnfinished, ActiveIsUnfinished, Open, found_in, AscendFrom, TakesOut, IsTable, open_at, listed, Analysis, Master, logical_image_under, kept_by, top_stands, next_lsn, IsLink, Entry, txn_of, is_of, is_update, is_closed, number_of, before_of, IsInOrder, left_open, pending, losers, LogStore, PageStore, Content, touch, page_is, Represents, UndoesUpdates, HasNone, clrs_for, none_remains, ends_for, UndoesWork, takes_back, ends, RingOp, cached, logged, changed, clr_octets, clr_on, clr_work, undoing_one, is_empty, only_ends, undo_work, undoing_work, State, any_reverse}
+use Rattle.redo_undo.proofs.Names.{History, ◌≡◌, ◌==◌, ℕ, zero, suc, ◌+◌, ◌*◌, ◌≤◌, ◌<◌, Bool, true, false, cond, not, ◌&&◌, ◌||◌, nat_eq, List, [], ◌∷◌, ◌++◌, map, drop, replicate, reverse, length, Option, Some, refl, sym, ap, subst, ◌∙◌, arith, append-nil, append_assoc, eqb-true, true≢false, and_from, and_parts, or_left, filter-append, same_Some, list_any, AllByRecursion, Ok, if◌then◌else◌, OneTable, TableOfUnfinished, ActiveIsUnfinished, Open, found_in, AscendFrom, TakesOut, IsTable, open_at, listed, Analysis, Master, logical_image_under, kept_by, top_stands, next_lsn, IsLink, Entry, txn_of, is_of, is_update, is_closed, number_of, before_of, IsInOrder, left_open, pending, losers, LogStore, PageStore, Content, touch, page_is, Represents, UndoesUpdates, HasNone, clrs_for, none_remains, ends_for, UndoesWork, takes_back, ends, RingOp, cached, logged, changed, clr_octets, clr_on, clr_work, undoing_one, is_empty, only_ends, undo_work, undoing_work, State, any_reverse}
 use Rattle.std.proofs.Common.{filter, find, eq-eqb, ne_eqb, length-append}
 use Rattle.std.proofs.lemmas.Grind.{flat_map-append}
 use Rattle.log_laws.proofs.Pendings.{waits}
@@ -35,10 +35,10 @@ one_end zero = refl
 one_end (suc a) = ap (λ (w : List RingOp). logged 9 ∷ w) (one_end a)
 
 -- so many of them were made, and the others are left
-pub record EndsMade (log log' : LogStore) (pages : PageStore) (before now : State) (newest : Option Master) (table : List Content) (commits records : ℕ) (all left : List Open) : Type 0 where
+pub record EndsMade (log log' : LogStore) (pages : PageStore) (before now : State) (newest : Option Master) (history : History) (records : ℕ) (all left : List Open) : Type 0 where
   pub count : ℕ
   pub of_all : length (filter none_remains all) ≡ count + length (filter none_remains left)
-  pub made : UndoesWork {T = Unit {0}} (Ok tt) (replicate count (logged 9)) [] log log' pages pages before now newest table commits records 0
+  pub made : UndoesWork {T = Unit {0}} (Ok tt) (replicate count (logged 9)) [] log log' pages pages before now newest history records 0
 
 -- a transaction of which nothing remains is taken out
 pub takes_one : (old new : List Open) (t : ℕ) → AscendFrom 0 old → HasNone old t → TakesOut old new t → length (filter none_remains old) ≡ suc (length (filter none_remains new))
@@ -86,10 +86,10 @@ ends_are one unfinished records table from to is order =
     ∙ ap (λ (n : ℕ). replicate n (logged 9)) (counted records (losers records))
 
 -- all that is undone begins with them
-pub ended_first : ActiveIsUnfinished → OneTable → TableOfUnfinished → {log : LogStore} {pages : PageStore} {site : State} {newest : Option Master} {records : List Entry} {table : List Content} {commits : ℕ} (found : Analysis) → Represents log pages site newest records table commits → IsTable [] records (listed found.table) →
+pub ended_first : ActiveIsUnfinished → OneTable → TableOfUnfinished → {log : LogStore} {pages : PageStore} {site : State} {newest : Option Master} {records : List Entry} {history : History} (found : Analysis) → Represents log pages site newest records history → IsTable [] records (listed found.table) →
     undo_work records ≡ ends_for (listed found.table) ++ undoing_work (reverse (pending records))
-ended_first active one unfinished {log = log} {pages = pages} {site = site} {newest = newest} {records = records} {table = table} {commits = commits} found h is =
-    ap (λ (w : List RingOp). w ++ undoing_work (reverse (pending records))) (sym (ends_are one unfinished records (listed found.table) (512 * kept_by newest) _ is (order active log pages site newest records table commits found h is)))
+ended_first active one unfinished {log = log} {pages = pages} {site = site} {newest = newest} {records = records} {history = history} found h is =
+    ap (λ (w : List RingOp). w ++ undoing_work (reverse (pending records))) (sym (ends_are one unfinished records (listed found.table) (512 * kept_by newest) _ is (order active log pages site newest records history found h is)))
 
 -- Whether an Update of a transaction waits to be undone.
 
@@ -138,19 +138,19 @@ still_pending log t next lives = by (left_open log t) refl
         (ap (λ (l : List Entry). list_any (λ v. v.lsn == u.lsn) l) (ap (left_open log) n.0.own ∙ is) ∙ or_left (u.lsn == u.lsn) (list_any (λ v. v.lsn == u.lsn) rest) (eq-eqb u.lsn u.lsn refl)))
 
 -- behind the CLR of the last Update of all: whether its transaction has one of the earlier ones is whether analysis has one of it
-pub waits_where : (active : ActiveIsUnfinished) (log : LogStore) (pages : PageStore) (site : State) (newest : Option Master) (records : List Entry) (table : List Content) (commits : ℕ) (found : Analysis) (known : ℕ) (u : Entry) (earlier : List Entry) → reverse (pending records) ≡ u ∷ earlier →
-    UndoesUpdates log pages site newest records table commits found known (u ∷ []) → (x : Open) → found_in (listed found.table) (txn_of u) ≡ Some x → list_any (is_of (txn_of u)) earlier ≡ not (none_remains x)
-waits_where active log pages site newest records table commits found known u earlier all first x there =
+pub waits_where : (active : ActiveIsUnfinished) (log : LogStore) (pages : PageStore) (site : State) (newest : Option Master) (records : List Entry) (history : History) (found : Analysis) (known : ℕ) (u : Entry) (earlier : List Entry) → reverse (pending records) ≡ u ∷ earlier →
+    UndoesUpdates log pages site newest records history found known (u ∷ []) → (x : Open) → found_in (listed found.table) (txn_of u) ≡ Some x → list_any (is_of (txn_of u)) earlier ≡ not (none_remains x)
+waits_where active log pages site newest records history found known u earlier all first x there =
     let now = first.some.now in
     let log_now = records ++ first.some.more in
     let p = logical_image_under newest pages.flash.geometry site.image now.holds.log_holds.blocks in
-    let lives = lives active log pages site newest log_now table commits found now.holds now.analysis (txn_of u) x there in
+    let lives = lives active log pages site newest log_now history found now.holds now.analysis (txn_of u) x there in
     let next : (v : Entry) (rest : List Entry) → left_open log_now (txn_of u) ≡ v ∷ rest → IsLink log_now (txn_of u) v.lsn v × (is_update v.rec ≡ true) = λ v rest is.
-    (let stands = top_stands (512 * kept_by newest) (next_lsn p now.holds.log_holds.tail) log_now (txn_of u) (order active log pages site newest log_now table commits found now.holds now.analysis)
-    ((undoable active log pages site newest log_now table commits found now.holds now.analysis).undone (txn_of u) lives) v rest is in (stands.0, stands.1)) in
+    (let stands = top_stands (512 * kept_by newest) (next_lsn p now.holds.log_holds.tail) log_now (txn_of u) (order active log pages site newest log_now history found now.holds now.analysis)
+    ((undoable active log pages site newest log_now history found now.holds now.analysis).undone (txn_of u) lives) v rest is in (stands.0, stands.1)) in
     let still : is_closed log_now (txn_of u) ≡ false = not_closed (is_closed log_now (txn_of u)) (and_parts (list_any (is_of (txn_of u)) log_now) (not (is_closed log_now (txn_of u))) lives).1 in
     ap (list_any (is_of (txn_of u))) (ap (drop 1) (sym all ∙ first.left)) ∙ any_reverse (is_of (txn_of u)) (pending log_now) ∙ still_pending log_now (txn_of u) next still
-    ∙ sym (ap not (ap none_remains (open_is active log pages site newest log_now table commits found now.holds now.analysis (txn_of u) x there).1 ∙ empty_is (left_open log_now (txn_of u))))
+    ∙ sym (ap not (ap none_remains (open_is active log pages site newest log_now history found now.holds now.analysis (txn_of u) x there).1 ∙ empty_is (left_open log_now (txn_of u))))
   where
     not_closed : (b : Bool) → not b ≡ true → b ≡ false
     not_closed true is = absurd (true≢false (sym is))

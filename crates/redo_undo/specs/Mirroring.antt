@@ -68,6 +68,10 @@ touch_work page = cached (touch page false) ∷ []
 abbrev pub force_work : List RingOp
 force_work = force ∷ []
 
+-- a Commit is logged
+abbrev pub commit_work : List RingOp
+commit_work = logged 17 ∷ []
+
 abbrev pub flush_work : List RingOp
 flush_work = cached flush ∷ []
 

@@ -1,5 +1,5 @@
 -- Log, pages and master units of a run: over every site, and on an honest one as a list of records.
-use Rattle.std.specs.Prelude.{◌≡◌, ℕ, ◌+◌, ◌/◌, ◌%◌, ◌^◌, ◌≤◌, ◌<◌, List, length, Option, Some}
+use Rattle.std.specs.Prelude.{◌≡◌, ℕ, ◌+◌, ◌/◌, ◌%◌, ◌^◌, ◌≤◌, ◌<◌, List, length, Option, Some, IsTrue}
 use Rattle.site.specs.State.{State}
 use Rattle.site.specs.declared.geometry.Geometry.{Geometry}
 use Rattle.sealed_ring.specs.Ready.{IsUsable, Finds}
@@ -9,13 +9,17 @@ use Rattle.log_records.specs.declared.log_record.LogRecord.{LogRecord}
 use Rattle.log_records.specs.declared.log_record.LogRecord.TheVariants.{Update}
 use Rattle.log_records.specs.Log.{Entry, shown}
 use Rattle.log_records.specs.Sound.{AreOrderly, from_block}
+use Rattle.slotted_page.specs.Layout.{lsn_of}
 use Rattle.buffer_pool.specs.Frames.{front_of}
+use Rattle.log_store.specs.Representation.{end_of}
+use Rattle.page_store.specs.Representation.{current}
 use Rattle.checkpoint.specs.declared.master.Master.{Master}
 use Rattle.checkpoint.specs.declared.pairs.Pair.{Pair}
 use Rattle.image_meaning.specs.Meaning.{versions_on}
 use Rattle.redo_laws.specs.Checkpointing.{KeepUnfinished}
 use Rattle.redo_laws.specs.Holding as both
 use Rattle.redo_laws.specs.Holding.{blocks_to}
+use Rattle.redo_laws.specs.Running.{History, settled}
 use Rattle.redo_undo.specs.declared.store.TransactionStore.{TransactionStore}
 
 -- how large the devices are
@@ -39,12 +43,23 @@ pub record MayLog (store : TransactionStore) (site : State) : Type 0 where
   pub few : store.made < 2 ^ 40
 
 -- Of an honest site: under this newest master log and pages hold these records together, what is sealed of them stands
--- for this table after so many commits, and they are in order. The ring of master units is the one that stands there.
-pub record Represents (store : TransactionStore) (site : State) (newest : Option Master) (records : List Entry)
-    (table : List Content) (commits : ℕ) : Type 0 where
-  pub both : both.Represents store.log store.pages site newest records table commits
+-- for the table after some commits of this history, and they are in order. The ring of master units is the one that
+-- stands there.
+pub record Holds (store : TransactionStore) (site : State) (newest : Option Master) (records : List Entry)
+    (history : History) : Type 0 where
+  pub both : both.Represents store.log store.pages site newest records history
   pub orderly : AreOrderly records
   pub masters : Finds store.masters site
+
+-- what is sealed stands for this table after so many commits, and no commit waits for its seal
+abbrev pub Represents : TransactionStore → State → Option Master → List Entry → List Content → ℕ → Type 0
+Represents store site newest records table commits = Holds store site newest records (settled table commits)
+
+-- of an honest site: no page has an LSN that a next record may get
+pub record HasNext (store : TransactionStore) (site : State) : Type 0 where
+  pub honest : IsTrue site.honest
+  pub below : (page : ℕ) → page < (sizes_of store).pages
+      → lsn_of (current store.pages site.image page) < end_of store.log
 
 -- A checkpoint was made that names these transactions: under its master log and pages hold the records from its oldest
 -- kept block on, and all records of unfinished transactions are among them.

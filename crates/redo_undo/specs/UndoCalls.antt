@@ -8,18 +8,19 @@ use Rattle.ring_machine.specs.Machine.{RingOp}
 use Rattle.log_store.specs.declared.store.LogStore.{LogStore}
 use Rattle.page_store.specs.declared.store.PageStore.{PageStore}
 use Rattle.checkpoint.specs.declared.master.Master.{Master}
-use Rattle.image_meaning.specs.Moments.{LeavesTableUnder}
+use Rattle.redo_laws.specs.Waiting.{LeavesSomeUnder}
+use Rattle.redo_laws.specs.Running.{History}
 use Rattle.redo_laws.specs.Calls.{Keeps}
 use Rattle.redo_laws.specs.MachineSteps.{StepsMachine}
 use Rattle.redo_undo.specs.Mirroring.{PerformsOn}
 
 -- A call does this work of the machine of the rings, for which it asks the cache for these touches. Each crash
--- meanwhile leaves the table, and it logs and reads so many records of the log at most.
+-- meanwhile leaves the table after some commits, none below the floor, and it logs and reads so many records of the log at most.
 pub record UndoesWork {T : Type 0} (result : Result T Stop) (works : List RingOp) (touches : List CacheOp)
-    (old new : LogStore) (pages pages' : PageStore) (before now : State) (newest : Option Master) (table : List Content)
-    (commits records reads : ℕ) : Type 0 where
+    (old new : LogStore) (pages pages' : PageStore) (before now : State) (newest : Option Master) (history : History)
+    (records reads : ℕ) : Type 0 where
   pub keeps : Keeps result pages.flash.geometry old new before now
-      (LeavesTableUnder newest pages.flash.geometry table commits before.told) records 0
+      (LeavesSomeUnder newest pages.flash.geometry history before.told) records 0
   pub asks : StepsMachine result touches pages pages' before now
   pub performs : PerformsOn result works old new pages pages' before now
   pub log_reads : now.log_reads ≤ before.log_reads + reads

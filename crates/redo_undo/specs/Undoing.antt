@@ -20,6 +20,7 @@ use Rattle.redo_undo.specs.declared.undo.UndoCursor.{UndoCursor}
 use Rattle.redo_undo.specs.declared.undo.Wanted.{Wanted}
 use Rattle.redo_undo.specs.declared.undo.Step.{Step}
 use Rattle.redo_undo.specs.declared.undo.Step.TheVariants.{Compensate, Pass}
+use Rattle.redo_laws.specs.Running.{History}
 use Rattle.redo_laws.specs.Holding.{Represents}
 
 -- where undoing an unfinished transaction stands
@@ -56,7 +57,7 @@ pub record IsWanted (g : Geometry) (image : Image) (newest : Option Master) (rec
 
 -- a CLR of the transaction was logged, and its page has what stood there before
 pub record Undone (log : LogStore) (pages : PageStore) (site : State) (newest : Option Master) (records : List Entry)
-    (table : List Content) (commits : ℕ) (x : Unfinished) (now : UndoCursor) : Type 0 where
+    (history : History) (x : Unfinished) (now : UndoCursor) : Type 0 where
   pub e : Entry
   pub page : ℕ
   pub slot : ℕ
@@ -64,7 +65,7 @@ pub record Undone (log : LogStore) (pages : PageStore) (site : State) (newest : 
   pub e_is : e ≡ record { lsn = now.last; rec = Clr x.txn x.last now.next page slot before }
   pub clr : is_clr e.rec ≡ true
   pub own : txn_of e ≡ x.txn
-  pub holds : Represents log pages site newest (records ++ e ∷ []) table commits
+  pub holds : Represents log pages site newest (records ++ e ∷ []) history
   pub left : IsUnfinished (records ++ e ∷ []) (after_clr x e)
   pub at : IsAt now (after_clr x e)
   pub later : x.last < now.last
@@ -74,9 +75,9 @@ pub record Undone (log : LogStore) (pages : PageStore) (site : State) (newest : 
 
 -- a CLR of the transaction was read, and undoing goes on where that says
 pub record Passed (log log' : LogStore) (pages : PageStore) (site : State) (newest : Option Master)
-    (records : List Entry) (table : List Content) (commits : ℕ) (x : Unfinished) (c : Entry)
+    (records : List Entry) (history : History) (x : Unfinished) (c : Entry)
     (now : UndoCursor) : Type 0 where
   pub same : log' ≡ log
-  pub holds : Represents log' pages site newest records table commits
+  pub holds : Represents log' pages site newest records history
   pub left : IsUnfinished records (past_clr x c)
   pub at : IsAt now (past_clr x c)

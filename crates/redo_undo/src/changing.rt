@@ -15,6 +15,7 @@ ghost use Rattle.page_store.specs.Ahead.{IsAhead};
 ghost use Rattle.checkpoint.specs.declared.master.Master.{Master};
 ghost use Rattle.image_meaning.specs.Meaning.{version_in, kept_by};
 ghost use Rattle.image_meaning.specs.Redone.{Redoes};
+ghost use Rattle.redo_laws.specs.Running.{History};
 ghost use Rattle.redo_laws.specs.Holding.{Represents, MayGrow, IsOnPage};
 ghost use Rattle.redo_undo.specs.Fitting.{HasRoomInFront};
 ghost use Rattle.redo_undo.specs.Redoing.{Opening, IsRedoing};
@@ -68,8 +69,8 @@ pub fn fits_front(pages: &PageStore, rec: &LogRecord) -> bool
     // Of an honest site on which log and pages hold together, and of one with an opened log that is redone: the next
     // record has room, there where the page doesn't know of it.
     ensures grows { (log : LogStore) (site : State) (newest : Option Master) (records : List Entry)
-        (table : List Content) (commits lsn : ℕ)
-        → Represents log pages.now site newest records table commits
+        (history : History) (lsn : ℕ)
+        → Represents log pages.now site newest records history
         → MayGrow log pages.now site.image newest records (record { lsn = lsn; rec = rec.now })
         → IsTrue result }
     ensures redone { (o : Opening) (log : LogStore) (site : State) (front rest : List Entry) (lsn : ℕ)

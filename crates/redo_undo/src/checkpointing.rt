@@ -17,7 +17,9 @@ ghost use Rattle.log_store.specs.Representation.{end_of};
 ghost use Rattle.page_store.specs.declared.store.PageStore.{PageStore};
 ghost use Rattle.page_store.specs.Caching.{cache_of};
 ghost use Rattle.page_store.specs.Stopping.{MayStop};
-ghost use Rattle.image_meaning.specs.Moments.{LeavesTableUnder, LeavesFor};
+ghost use Rattle.image_meaning.specs.Moments.{LeavesFor};
+ghost use Rattle.redo_laws.specs.Running.{History, settled};
+ghost use Rattle.redo_laws.specs.Waiting.{LeavesSomeUnder};
 ghost use Rattle.image_meaning.specs.Flushed.{first_block};
 ghost use Rattle.redo_laws.specs.Holding.{Invariant, Represents, blocks_to};
 ghost use Rattle.redo_laws.specs.Checkpointing.{MayBeMade, IsSaved, begins_of};
@@ -39,22 +41,22 @@ use page_store::PageStore;
 use sealed_ring::Ring;
 use site::{Site, Stop};
 
-// Pushes all changed pages. What log and pages hold together stays, and at each moment the devices stand for the same
-// table. The log's tail is empty, so the log isn't forced.
+// Pushes all changed pages. What log and pages hold together stays, and so does what the devices stand for at each
+// moment. The log's tail is empty, so the log isn't forced.
 fn flush<S: Site>(site: &mut S, log: &mut LogStore, pages: &mut PageStore) -> Result<(), Stop>
     requires going { Invariant log.old pages.old (S.state site.old) }
     requires sealed { log.old.used ≡ 2 }
 
     // Of an honest site on which log and pages hold together.
-    ensures holds { (newest : Option Master) (records : List Entry) (table : List Content) (commits : ℕ)
-        → Represents log.old pages.old (S.state site.old) newest records table commits
-        → OnOk result (Represents log.new pages.new (S.state site.new) newest records table commits) }
-    ensures keeps { (newest : Option Master) (records : List Entry) (table : List Content) (commits : ℕ)
-        → Represents log.old pages.old (S.state site.old) newest records table commits
+    ensures holds { (newest : Option Master) (records : List Entry) (history : History)
+        → Represents log.old pages.old (S.state site.old) newest records history
+        → OnOk result (Represents log.new pages.new (S.state site.new) newest records history) }
+    ensures keeps { (newest : Option Master) (records : List Entry) (history : History)
+        → Represents log.old pages.old (S.state site.old) newest records history
         → Keeps result pages.old.flash.geometry log.old log.new (S.state site.old) (S.state site.new)
-        (LeavesTableUnder newest pages.old.flash.geometry table commits (S.state site.old).told) 0 0 }
-    ensures performs { (newest : Option Master) (records : List Entry) (table : List Content) (commits : ℕ)
-        → Represents log.old pages.old (S.state site.old) newest records table commits
+        (LeavesSomeUnder newest pages.old.flash.geometry history (S.state site.old).told) 0 0 }
+    ensures performs { (newest : Option Master) (records : List Entry) (history : History)
+        → Represents log.old pages.old (S.state site.old) newest records history
         → PerformsOn result flush_work log.old log.new pages.old pages.new (S.state site.old) (S.state site.new) }
 
     // Of every site.
@@ -110,13 +112,13 @@ fn save_master<S: Site>(
     // Of an honest site on which log and pages hold together, and of the unfinished transactions.
     ensures saved { (pages : PageStore) (newest : Option Master) (records : List Entry) (table : List Content)
         → log.old.geometry ≡ pages.flash.geometry
-        → Represents log.old pages (S.state site.old) newest records table commits
+        → Represents log.old pages (S.state site.old) newest records (settled table commits)
         → log.old.used ≡ 2 → wants_flush (cache_of pages) ≡ false
         → MayBeMade masters.old (S.state site.old) records active
         → IfOk result (λ master. IsSaved log.new pages masters.new (S.state site.new) records table commits master) }
     ensures keeps { (pages : PageStore) (newest : Option Master) (records : List Entry) (table : List Content)
         → log.old.geometry ≡ pages.flash.geometry
-        → Represents log.old pages (S.state site.old) newest records table commits
+        → Represents log.old pages (S.state site.old) newest records (settled table commits)
         → log.old.used ≡ 2 → wants_flush (cache_of pages) ≡ false
         → MayBeMade masters.old (S.state site.old) records active
         → Keeps result pages.flash.geometry log.old log.new (S.state site.old) (S.state site.new)
@@ -183,16 +185,16 @@ impl TransactionStore {
 
         // Of an honest site on which log and pages hold together, and of the unfinished transactions.
         ensures checkpoint { (newest : Option Master) (records : List Entry) (table : List Content)
-            → Represents self.old.log self.old.pages (S.state site.old) newest records table commits
+            → Represents self.old.log self.old.pages (S.state site.old) newest records (settled table commits)
             → MayBeMade self.old.masters (S.state site.old) records active
             → OnOk result (HasCheckpoint self.new (S.state site.new) records table commits active) }
         ensures keeps { (newest : Option Master) (records : List Entry) (table : List Content)
-            → Represents self.old.log self.old.pages (S.state site.old) newest records table commits
+            → Represents self.old.log self.old.pages (S.state site.old) newest records (settled table commits)
             → MayBeMade self.old.masters (S.state site.old) records active
             → stores.Keeps result self.old self.new (S.state site.old) (S.state site.new)
             (LeavesFor (sizes_of self.old) table commits (S.state site.old).told) 0 1 }
         ensures performs { (newest : Option Master) (records : List Entry) (table : List Content)
-            → Represents self.old.log self.old.pages (S.state site.old) newest records table commits
+            → Represents self.old.log self.old.pages (S.state site.old) newest records (settled table commits)
             → PerformsStore result saves self.old self.new (S.state site.old) (S.state site.new) }
 
         // Of every site.

@@ -16,6 +16,7 @@ ghost use Rattle.analysis.specs.Read as read;
 ghost use Rattle.analysis.specs.Read.{IsAnalysis, IsTable};
 ghost use Rattle.analysis.specs.Taken.{is_named, is_taken, Steps, taken};
 ghost use Rattle.redo_laws.specs.Holding.{Invariant, Represents, IsOnPage, blocks_to};
+ghost use Rattle.redo_laws.specs.Running.{settled};
 ghost use Rattle.redo_undo.specs.Redoing.{IsOpened, Opening, Takes, LeavesOpened, IsRedoing, HasTaken, touches_of};
 ghost use Rattle.redo_undo.specs.Redoing.{AsksAtRest, IsReadable, IsReading, heard_of, opened};
 ghost use Rattle.log_judge.specs.Judging.{HasHeard};
@@ -340,7 +341,7 @@ pub fn redo<S: Site>(
         → master.now ≡ saved_by newest
         → IsOpened pages.old.flash.geometry log.old pages.old (S.state site.old) newest blocks table commits
         → OnOk result (Represents log.new pages.new (S.state site.new) newest (log_from (kept_by newest) blocks)
-        table commits) }
+        (settled table commits)) }
     ensures read { (newest : Option Master) (blocks : List (List LogRecord)) (table : List Content) (commits : ℕ)
         → master.now ≡ saved_by newest
         → IsOpened pages.old.flash.geometry log.old pages.old (S.state site.old) newest blocks table commits

@@ -20,11 +20,13 @@ ghost use Rattle.checkpoint.specs.declared.master.Master.{Master};
 ghost use Rattle.image_meaning.specs.Meaning.{master_of};
 ghost use Rattle.image_meaning.specs.Moments.{LeavesFor};
 ghost use Rattle.redo_laws.specs.Holding.{blocks_to};
+ghost use Rattle.redo_laws.specs.Running.{History};
+ghost use Rattle.redo_laws.specs.Waiting.{LeavesSome};
 ghost use Rattle.redo_undo.specs.Fitting.{FitsFront};
 ghost use Rattle.redo_laws.specs.Holding as both;
-ghost use Rattle.redo_undo.specs.Stores.{sizes_of, MayWork, MayLog, Represents, MayGrow, IsInFront, shown_in};
+ghost use Rattle.redo_undo.specs.Stores.{sizes_of, MayWork, MayLog, Holds, Represents, MayGrow, IsInFront, shown_in};
 ghost use Rattle.redo_undo.specs.Stores.{update_by};
-ghost use Rattle.redo_undo.specs.StoreRollback.{RollsBack, GoesBack};
+ghost use Rattle.redo_undo.specs.StoreRollback.{RollsBack, RollsBackOver, GoesBack, GoesBackOver};
 ghost use Rattle.redo_undo.specs.StoreCalls.{KeepsInvariant, Keeps};
 ghost use Rattle.redo_undo.specs.Mirroring.{PerformsStore, updates, undo_one_work, clrs_for};
 ghost use Rattle.ring_machine.specs.Commands.{reads, begins};
@@ -107,6 +109,21 @@ impl TransactionStore {
             → Keeps result self.old self.new (S.state site.old) (S.state site.new)
             (LeavesFor (sizes_of self.old) table commits (S.state site.old).told) 1 0 }
 
+        // The same of any history, where commits wait for their seal.
+        ensures holds_over { (newest : Option Master) (records : List Entry) (history : History)
+            → Holds self.old (S.state site.old) newest records history
+            → IfOk result (λ lsn. MayGrow self.old (S.state site.old) newest records
+            (record { lsn = lsn; rec = LogRecord.Begin })
+            → Holds self.new (S.state site.new) newest
+            (records ++ record { lsn = lsn; rec = LogRecord.Begin } ∷ []) history) }
+        ensures keeps_over { (newest : Option Master) (records : List Entry) (history : History)
+            → Holds self.old (S.state site.old) newest records history
+            → Keeps result self.old self.new (S.state site.old) (S.state site.new)
+            (LeavesSome (sizes_of self.old) history (S.state site.old).told) 1 0 }
+        ensures performs_over { (newest : Option Master) (records : List Entry) (history : History)
+            → Holds self.old (S.state site.old) newest records history
+            → PerformsStore result begins self.old self.new (S.state site.old) (S.state site.new) }
+
         // Of every site.
         ensures works { KeepsInvariant result self.old self.new (S.state site.old) (S.state site.new) 1 }
         ensures rises { IfOk result (λ lsn. (end_of self.old.log ≤ lsn) × (lsn < end_of self.new.log)) }
@@ -143,6 +160,18 @@ impl TransactionStore {
             → Keeps result self.old self.new (S.state site.old) (S.state site.new)
             (LeavesFor (sizes_of self.old) table commits (S.state site.old).told) 0 0 }
 
+        // The same of any history, where commits wait for their seal.
+        ensures holds_over { (newest : Option Master) (records : List Entry) (history : History)
+            → Holds self.old (S.state site.old) newest records history
+            → OnOk result (Holds self.new (S.state site.new) newest records history) }
+        ensures keeps_over { (newest : Option Master) (records : List Entry) (history : History)
+            → Holds self.old (S.state site.old) newest records history
+            → Keeps result self.old self.new (S.state site.old) (S.state site.new)
+            (LeavesSome (sizes_of self.old) history (S.state site.old).told) 0 0 }
+        ensures performs_over { (newest : Option Master) (records : List Entry) (history : History)
+            → Holds self.old (S.state site.old) newest records history
+            → PerformsStore result (reads number) self.old self.new (S.state site.old) (S.state site.new) }
+
         // Of every site.
         ensures works { KeepsInvariant result self.old self.new (S.state site.old) (S.state site.new) 0 }
         ensures front { OnOk result (IsInFront self.new number) }
@@ -162,9 +191,8 @@ impl TransactionStore {
     pub fn shown(&self, number: u32) -> Option<Octets>
         requires pages { IsStore self.now.pages }
         requires front { IsInFront self.now number }
-        ensures shown { (site : State) (newest : Option Master) (records : List Entry) (table : List Content)
-            (commits : ℕ)
-            → Represents self.now site newest records table commits → result ≡ shown_in self.now site records number }
+        ensures shown { (site : State) (newest : Option Master) (records : List Entry) (history : History)
+            → Holds self.now site newest records history → result ≡ shown_in self.now site records number }
         ensures short { IsShort result }
     {
         match self.pages.get((number % SLOTS) as u8) {
@@ -184,18 +212,18 @@ impl TransactionStore {
 
         // Of an honest site whose log and pages hold these records: where an Update may follow, there or behind the
         // Begin of its transaction, it has room.
-        ensures grows { (site : State) (newest : Option Master) (records : List Entry) (table : List Content)
-            (commits txn prev lsn : ℕ)
-            → Represents self.now site newest records table commits
+        ensures grows { (site : State) (newest : Option Master) (records : List Entry)
+            (history : History) (txn prev lsn : ℕ)
+            → Holds self.now site newest records history
             → MayGrow self.now site newest records
             (record {
               lsn = lsn;
               rec = update_by txn prev number (shown_in self.now site records number) after.now;
             })
             → IsTrue result }
-        ensures begins { (site : State) (newest : Option Master) (records : List Entry) (table : List Content)
-            (commits txn lsn : ℕ)
-            → Represents self.now site newest records table commits
+        ensures begins { (site : State) (newest : Option Master) (records : List Entry)
+            (history : History) (txn lsn : ℕ)
+            → Holds self.now site newest records history
             → MayGrow self.now site newest (records ++ record { lsn = txn; rec = LogRecord.Begin } ∷ [])
             (record {
               lsn = lsn;
@@ -246,6 +274,31 @@ impl TransactionStore {
             → Represents self.old (S.state site.old) newest records table commits
             → Keeps result self.old self.new (S.state site.old) (S.state site.new)
             (LeavesFor (sizes_of self.old) table commits (S.state site.old).told) 1 0 }
+
+        // The same of any history, where commits wait for their seal.
+        ensures holds_over { (newest : Option Master) (records : List Entry) (history : History)
+            → Holds self.old (S.state site.old) newest records history
+            → IfOk result (λ lsn. MayGrow self.old (S.state site.old) newest records
+            (record {
+              lsn = lsn;
+              rec = update_by txn prev number (shown_in self.old (S.state site.old) records number)
+                  after.now;
+            })
+            → Holds self.new (S.state site.new) newest (records
+            ++ record {
+              lsn = lsn;
+              rec = update_by txn prev number (shown_in self.old (S.state site.old) records number)
+                  after.now;
+            } ∷ [])
+            history) }
+        ensures keeps_over { (newest : Option Master) (records : List Entry) (history : History)
+            → Holds self.old (S.state site.old) newest records history
+            → Keeps result self.old self.new (S.state site.old) (S.state site.new)
+            (LeavesSome (sizes_of self.old) history (S.state site.old).told) 1 0 }
+        ensures performs_over { (newest : Option Master) (records : List Entry) (history : History)
+            → Holds self.old (S.state site.old) newest records history
+            → PerformsStore result (updates number (shown_in self.old (S.state site.old) records number) after.now)
+            self.old self.new (S.state site.old) (S.state site.new) }
 
         // Of every site.
         ensures works { KeepsInvariant result self.old self.new (S.state site.old) (S.state site.new) 1 }
@@ -319,6 +372,35 @@ impl TransactionStore {
             → PerformsStore result (undo_one_work records entry.begin) self.old self.new (S.state site.old)
             (S.state site.new) }
 
+        // The same of any history, where commits wait for their seal.
+        ensures undone_over { (newest : Option Master) (records : List Entry) (history : History)
+            → Holds self.old (S.state site.old) newest records history
+            → (writes : List Write) → IsActive (master_of newest) records entry.begin entry.last writes
+            → length writes ≡ entry.writes
+            → OnOk result (RollsBackOver self.new (S.state site.new) newest records history entry.begin
+            entry.writes) }
+        ensures keeps_over { (newest : Option Master) (records : List Entry) (history : History)
+            → Holds self.old (S.state site.old) newest records history
+            → (writes : List Write) → IsActive (master_of newest) records entry.begin entry.last writes
+            → length writes ≡ entry.writes → unfinished.owed records ≡ owed + (entry.writes + 1)
+            → Keeps result self.old self.new (S.state site.old) (S.state site.new)
+            (LeavesSome (sizes_of self.old) history (S.state site.old).told) (entry.writes + 1) 0 }
+        ensures asks_over { (newest : Option Master) (records : List Entry) (history : History)
+            → Holds self.old (S.state site.old) newest records history
+            → (writes : List Write) → IsActive (master_of newest) records entry.begin entry.last writes
+            → StepsMachine result (map (λ write. write_touch write.0) (reverse writes)) self.old.pages self.new.pages
+            (S.state site.old) (S.state site.new) }
+        ensures log_reads_over { (newest : Option Master) (records : List Entry) (history : History)
+            → Holds self.old (S.state site.old) newest records history
+            → (writes : List Write) → IsActive (master_of newest) records entry.begin entry.last writes
+            → (S.state site.new).log_reads
+            ≤ (S.state site.old).log_reads + length (updates_in (entries_of entry.begin records)) }
+        ensures performs_over { (newest : Option Master) (records : List Entry) (history : History)
+            → Holds self.old (S.state site.old) newest records history
+            → (writes : List Write) → IsActive (master_of newest) records entry.begin entry.last writes
+            → PerformsStore result (undo_one_work records entry.begin) self.old self.new (S.state site.old)
+            (S.state site.new) }
+
         // Of every site.
         ensures works { KeepsInvariant result self.old self.new (S.state site.old) (S.state site.new)
             (entry.writes + 1) }
@@ -382,6 +464,39 @@ impl TransactionStore {
             + (count + (length (updates_in (entries_of entry.begin records)) - length writes)) }
         ensures performs { (newest : Option Master) (records : List Entry) (table : List Content) (commits : ℕ)
             → Represents self.old (S.state site.old) newest records table commits
+            → (writes : List Write) → IsActive (master_of newest) records entry.begin entry.last writes
+            → count ≤ length writes
+            → PerformsStore result (clrs_for (take count (left_open records entry.begin))) self.old self.new
+            (S.state site.old) (S.state site.new) }
+
+        // The same of any history, where commits wait for their seal.
+        ensures undone_over { (newest : Option Master) (records : List Entry) (history : History)
+            → Holds self.old (S.state site.old) newest records history
+            → (writes : List Write) → IsActive (master_of newest) records entry.begin entry.last writes
+            → count ≤ length writes
+            → IfOk result (GoesBackOver self.new (S.state site.new) newest records history entry.begin count
+            writes) }
+        ensures keeps_over { (newest : Option Master) (records : List Entry) (history : History)
+            → Holds self.old (S.state site.old) newest records history
+            → (writes : List Write) → IsActive (master_of newest) records entry.begin entry.last writes
+            → count ≤ length writes
+            → Keeps result self.old self.new (S.state site.old) (S.state site.new)
+            (LeavesSome (sizes_of self.old) history (S.state site.old).told) count 0 }
+        ensures asks_over { (newest : Option Master) (records : List Entry) (history : History)
+            → Holds self.old (S.state site.old) newest records history
+            → (writes : List Write) → IsActive (master_of newest) records entry.begin entry.last writes
+            → count ≤ length writes
+            → StepsMachine result (map (λ write. write_touch write.0) (reverse (drop (length writes - count) writes)))
+            self.old.pages self.new.pages (S.state site.old) (S.state site.new) }
+        ensures log_reads_over { (newest : Option Master) (records : List Entry) (history : History)
+            → Holds self.old (S.state site.old) newest records history
+            → (writes : List Write) → IsActive (master_of newest) records entry.begin entry.last writes
+            → count ≤ length writes
+            → (S.state site.new).log_reads
+            ≤ (S.state site.old).log_reads
+            + (count + (length (updates_in (entries_of entry.begin records)) - length writes)) }
+        ensures performs_over { (newest : Option Master) (records : List Entry) (history : History)
+            → Holds self.old (S.state site.old) newest records history
             → (writes : List Write) → IsActive (master_of newest) records entry.begin entry.last writes
             → count ≤ length writes
             → PerformsStore result (clrs_for (take count (left_open records entry.begin))) self.old self.new

@@ -13,6 +13,7 @@ ghost use Rattle.log_store.specs.Representation as log_store;
 ghost use Rattle.log_store.specs.Representation.{end_of};
 ghost use Rattle.page_store.specs.declared.store.PageStore.{PageStore};
 ghost use Rattle.checkpoint.specs.declared.master.Master.{Master};
+ghost use Rattle.redo_laws.specs.Running.{History};
 ghost use Rattle.redo_laws.specs.Holding.{Invariant, Represents, MayGrow, blocks_to};
 ghost use Rattle.redo_undo.specs.Undoing.{IsAt, IsStepOf, Undone, Passed};
 ghost use Rattle.redo_undo.specs.Undoing as spec;
@@ -127,20 +128,20 @@ fn read_step<S: Site>(log: &LogStore, site: &mut S, at: &UndoCursor) -> Result<S
     requires last { at.now.last < end_of log.now }
 
     // Of an honest site on which log and pages hold together.
-    ensures step { (pages : PageStore) (newest : Option Master) (records : List Entry) (table : List Content)
-        (commits : ℕ) (x : Unfinished) (e : Entry) (rest : List Entry)
+    ensures step { (pages : PageStore) (newest : Option Master) (records : List Entry) (history : History)
+        (x : Unfinished) (e : Entry) (rest : List Entry)
         → log.now.geometry ≡ pages.flash.geometry
-        → Represents log.now pages (S.state site.old) newest records table commits
+        → Represents log.now pages (S.state site.old) newest records history
         → IsUnfinished records x → IsAt at.now x → x.chain ≡ e ∷ rest
         → IfOk result (IsStepOf at.now log.now.geometry.pages e.rec) }
-    ensures readable { (pages : PageStore) (newest : Option Master) (records : List Entry) (table : List Content)
-        (commits : ℕ) (x : Unfinished) (e : Entry) (rest : List Entry)
+    ensures readable { (pages : PageStore) (newest : Option Master) (records : List Entry) (history : History)
+        (x : Unfinished) (e : Entry) (rest : List Entry)
         → log.now.geometry ≡ pages.flash.geometry
-        → Represents log.now pages (S.state site.old) newest records table commits
+        → Represents log.now pages (S.state site.old) newest records history
         → IsUnfinished records x → IsAt at.now x → x.chain ≡ e ∷ rest
         → IfErr result (λ stop. stop ≢ Stop.Foreign) }
 
-    // Of every site: a record of this transaction was read.
+    // Of every site: the step is that of some record of this transaction.
     ensures own { IfOk result (λ step. (rec : LogRecord) × HasForm rec
         × IsStepOf at.now log.now.geometry.pages rec step) }
     ensures reads { ReadsOne result (S.state site.old) (S.state site.new) }
@@ -176,8 +177,8 @@ fn compensate<S: Site>(
     requires room { blocks_to log.old + 1 < log.old.kept + log.old.geometry.blocks }
 
     // Of an honest site on which log and pages hold together.
-    ensures holds { (newest : Option Master) (records : List Entry) (table : List Content) (commits : ℕ)
-        → Represents log.old pages.old (S.state site.old) newest records table commits
+    ensures holds { (newest : Option Master) (records : List Entry) (history : History)
+        → Represents log.old pages.old (S.state site.old) newest records history
         → IfOk result (λ lsn. MayGrow log.old pages.old (S.state site.old).image newest records
         (record {
           lsn = lsn;
@@ -190,9 +191,9 @@ fn compensate<S: Site>(
           rec = LogRecord.Clr at.now.txn at.now.last wanted.prev wanted.page wanted.slot
               wanted.before;
         } ∷ [])
-        table commits) }
-    ensures orderly { (newest : Option Master) (records : List Entry) (table : List Content) (commits : ℕ)
-        → Represents log.old pages.old (S.state site.old) newest records table commits
+        history) }
+    ensures orderly { (newest : Option Master) (records : List Entry) (history : History)
+        → Represents log.old pages.old (S.state site.old) newest records history
         → IfOk result (λ lsn. MayGrow log.old pages.old (S.state site.old).image newest records
         (record {
           lsn = lsn;
@@ -205,8 +206,8 @@ fn compensate<S: Site>(
           rec = LogRecord.Clr at.now.txn at.now.last wanted.prev wanted.page wanted.slot
               wanted.before;
         } ∷ [])) }
-    ensures does { (newest : Option Master) (records : List Entry) (table : List Content) (commits lsn : ℕ)
-        → Represents log.old pages.old (S.state site.old) newest records table commits
+    ensures does { (newest : Option Master) (records : List Entry) (history : History) (lsn : ℕ)
+        → Represents log.old pages.old (S.state site.old) newest records history
         → MayGrow log.old pages.old (S.state site.old).image newest records
         (record {
           lsn = lsn;
@@ -214,7 +215,7 @@ fn compensate<S: Site>(
               wanted.before;
         })
         → UndoesWork result (takes_back (32 * wanted.page + wanted.slot, wanted.before)) (one_change wanted.page)
-        log.old log.new pages.old pages.new (S.state site.old) (S.state site.new) newest table commits 1 0 }
+        log.old log.new pages.old pages.new (S.state site.old) (S.state site.new) newest history 1 0 }
 
     // Of every site.
     ensures rises { IfOk result (λ lsn. (end_of log.old ≤ lsn) × (lsn < end_of log.new)) }
@@ -256,19 +257,19 @@ fn put_back<S: Site>(
     requires exists { wanted.page < pages.old.flash.geometry.pages }
 
     // Of an honest site on which log and pages hold together.
-    ensures undone { (newest : Option Master) (records : List Entry) (table : List Content) (commits : ℕ)
+    ensures undone { (newest : Option Master) (records : List Entry) (history : History)
         (x : Unfinished) (u : Entry) (rest : List Entry)
-        → Represents log.old pages.old (S.state site.old) newest records table commits
+        → Represents log.old pages.old (S.state site.old) newest records history
         → IsUnfinished records x → IsAt at x → x.chain ≡ u ∷ rest
         → IsStepOf at log.old.geometry.pages u.rec (Step.Compensate wanted)
-        → IfOk result (Undone log.new pages.new (S.state site.new) newest records table commits x) }
-    ensures does { (newest : Option Master) (records : List Entry) (table : List Content) (commits : ℕ)
+        → IfOk result (Undone log.new pages.new (S.state site.new) newest records history x) }
+    ensures does { (newest : Option Master) (records : List Entry) (history : History)
         (x : Unfinished) (u : Entry) (rest : List Entry)
-        → Represents log.old pages.old (S.state site.old) newest records table commits
+        → Represents log.old pages.old (S.state site.old) newest records history
         → IsUnfinished records x → IsAt at x → x.chain ≡ u ∷ rest
         → IsStepOf at log.old.geometry.pages u.rec (Step.Compensate wanted)
         → UndoesWork result (clr_work u) (works_of (u ∷ [])) log.old log.new pages.old pages.new (S.state site.old)
-        (S.state site.new) newest table commits 1 0 }
+        (S.state site.new) newest history 1 0 }
 
     // Of every site.
     ensures last { IfOk result (λ now. (end_of log.old ≤ now.last) × (now.last < end_of log.new)) }
@@ -305,17 +306,17 @@ pub(crate) fn undo_update<S: Site>(
     requires last { at.last < end_of log.old }
 
     // Of an honest site on which log and pages hold together.
-    ensures undone { (newest : Option Master) (records : List Entry) (table : List Content) (commits : ℕ)
+    ensures undone { (newest : Option Master) (records : List Entry) (history : History)
         (x : Unfinished) (u : Entry) (rest : List Entry)
-        → Represents log.old pages.old (S.state site.old) newest records table commits
+        → Represents log.old pages.old (S.state site.old) newest records history
         → IsUnfinished records x → IsAt at x → x.chain ≡ u ∷ rest → is_update u.rec ≡ true
-        → IfOk result (Undone log.new pages.new (S.state site.new) newest records table commits x) }
-    ensures does { (newest : Option Master) (records : List Entry) (table : List Content) (commits : ℕ) (x : Unfinished)
+        → IfOk result (Undone log.new pages.new (S.state site.new) newest records history x) }
+    ensures does { (newest : Option Master) (records : List Entry) (history : History) (x : Unfinished)
         (u : Entry) (rest : List Entry)
-        → Represents log.old pages.old (S.state site.old) newest records table commits
+        → Represents log.old pages.old (S.state site.old) newest records history
         → IsUnfinished records x → IsAt at x → x.chain ≡ u ∷ rest → is_update u.rec ≡ true
         → UndoesWork result (clr_work u) (works_of (u ∷ [])) log.old log.new pages.old pages.new (S.state site.old)
-        (S.state site.new) newest table commits 1 1 }
+        (S.state site.new) newest history 1 1 }
 
     // Of every site.
     ensures last { IfOk result (λ now. now.last < end_of log.new) }
@@ -343,28 +344,28 @@ fn undo_step<S: Site>(
     requires last { at.last < end_of log.old }
 
     // Of an honest site on which log and pages hold together.
-    ensures undone { (newest : Option Master) (records : List Entry) (table : List Content) (commits : ℕ)
+    ensures undone { (newest : Option Master) (records : List Entry) (history : History)
         (x : Unfinished) (u : Entry) (rest : List Entry)
-        → Represents log.old pages.old (S.state site.old) newest records table commits
+        → Represents log.old pages.old (S.state site.old) newest records history
         → IsUnfinished records x → IsAt at x → x.chain ≡ u ∷ rest → is_update u.rec ≡ true
-        → IfOk result (Undone log.new pages.new (S.state site.new) newest records table commits x) }
-    ensures does { (newest : Option Master) (records : List Entry) (table : List Content) (commits : ℕ) (x : Unfinished)
+        → IfOk result (Undone log.new pages.new (S.state site.new) newest records history x) }
+    ensures does { (newest : Option Master) (records : List Entry) (history : History) (x : Unfinished)
         (u : Entry) (rest : List Entry)
-        → Represents log.old pages.old (S.state site.old) newest records table commits
+        → Represents log.old pages.old (S.state site.old) newest records history
         → IsUnfinished records x → IsAt at x → x.chain ≡ u ∷ rest → is_update u.rec ≡ true
         → UndoesWork result (clr_work u) (works_of (u ∷ [])) log.old log.new pages.old pages.new (S.state site.old)
-        (S.state site.new) newest table commits 1 1 }
-    ensures passed { (newest : Option Master) (records : List Entry) (table : List Content) (commits : ℕ)
+        (S.state site.new) newest history 1 1 }
+    ensures passed { (newest : Option Master) (records : List Entry) (history : History)
         (x : Unfinished) (c : Entry) (rest : List Entry)
-        → Represents log.old pages.old (S.state site.old) newest records table commits
+        → Represents log.old pages.old (S.state site.old) newest records history
         → IsUnfinished records x → IsAt at x → x.chain ≡ c ∷ rest → is_clr c.rec ≡ true
-        → IfOk result (Passed log.old log.new pages.new (S.state site.new) newest records table commits x c) }
-    ensures passes { (newest : Option Master) (records : List Entry) (table : List Content) (commits : ℕ)
+        → IfOk result (Passed log.old log.new pages.new (S.state site.new) newest records history x c) }
+    ensures passes { (newest : Option Master) (records : List Entry) (history : History)
         (x : Unfinished) (c : Entry) (rest : List Entry)
-        → Represents log.old pages.old (S.state site.old) newest records table commits
+        → Represents log.old pages.old (S.state site.old) newest records history
         → IsUnfinished records x → IsAt at x → x.chain ≡ c ∷ rest → is_clr c.rec ≡ true
         → UndoesWork result [] [] log.old log.new pages.old pages.new (S.state site.old) (S.state site.new) newest
-        table commits 0 1 }
+        history 0 1 }
 
     // Of every site.
     ensures last { IfOk result (λ now. (at.last ≤ now.last) × (now.last < end_of log.new)) }
@@ -404,18 +405,18 @@ fn undo_updates<S: Site>(
     requires last { first.last < end_of log.old }
 
     // Of an honest site on which log and pages hold together.
-    ensures undone { (newest : Option Master) (records : List Entry) (table : List Content) (commits : ℕ)
+    ensures undone { (newest : Option Master) (records : List Entry) (history : History)
         (x : Unfinished)
-        → Represents log.old pages.old (S.state site.old) newest records table commits
+        → Represents log.old pages.old (S.state site.old) newest records history
         → IsUnfinished records x → IsAt first x
-        → IfOk result (CompensatesUpTo log.new pages.new (S.state site.new) newest records table commits x.txn count
+        → IfOk result (CompensatesUpTo log.new pages.new (S.state site.new) newest records history x.txn count
         (blocks_to log.old)) }
-    ensures does { (newest : Option Master) (records : List Entry) (table : List Content) (commits : ℕ) (x : Unfinished)
-        → Represents log.old pages.old (S.state site.old) newest records table commits
+    ensures does { (newest : Option Master) (records : List Entry) (history : History) (x : Unfinished)
+        → Represents log.old pages.old (S.state site.old) newest records history
         → IsUnfinished records x → IsAt first x
         → UndoesWork result (clrs_for (take count (left_open records x.txn)))
         (works_of (take count (left_open records x.txn))) log.old log.new pages.old pages.new (S.state site.old)
-        (S.state site.new) newest table commits (min count x.remaining)
+        (S.state site.new) newest history (min count x.remaining)
         (min count x.remaining + (length x.chain - x.remaining)) }
 
     // Of every site.
@@ -456,17 +457,17 @@ pub fn undo_to<S: Site>(
     requires last { last < end_of log.old }
 
     // Of an honest site on which log and pages hold together, and of an unfinished transaction of which so many remain.
-    ensures undone { (newest : Option Master) (records : List Entry) (table : List Content) (commits : ℕ)
+    ensures undone { (newest : Option Master) (records : List Entry) (history : History)
         (x : Unfinished)
-        → Represents log.old pages.old (S.state site.old) newest records table commits
+        → Represents log.old pages.old (S.state site.old) newest records history
         → IsUnfinished records x → x.txn ≡ txn → x.last ≡ last → x.next ≡ last → count ≤ x.remaining
-        → IfOk result (UndoesLast log.new pages.new (S.state site.new) newest records table commits txn count) }
-    ensures does { (newest : Option Master) (records : List Entry) (table : List Content) (commits : ℕ) (x : Unfinished)
-        → Represents log.old pages.old (S.state site.old) newest records table commits
+        → IfOk result (UndoesLast log.new pages.new (S.state site.new) newest records history txn count) }
+    ensures does { (newest : Option Master) (records : List Entry) (history : History) (x : Unfinished)
+        → Represents log.old pages.old (S.state site.old) newest records history
         → IsUnfinished records x → x.txn ≡ txn → x.last ≡ last → x.next ≡ last → count ≤ x.remaining
         → UndoesWork result (clrs_for (take count (left_open records txn)))
         (works_of (take count (left_open records txn))) log.old log.new pages.old pages.new (S.state site.old)
-        (S.state site.new) newest table commits count (count + (length x.chain - x.remaining)) }
+        (S.state site.new) newest history count (count + (length x.chain - x.remaining)) }
 
     // Of every site.
     ensures last { IfOk result (λ now. (last ≤ now) × (now < end_of log.new)) }
@@ -501,19 +502,19 @@ pub fn undo_one<S: Site>(
     requires last { last < end_of log.old }
 
     // Of an honest site on which log and pages hold together, and of an unfinished transaction.
-    ensures undone { (newest : Option Master) (records : List Entry) (table : List Content) (commits : ℕ)
+    ensures undone { (newest : Option Master) (records : List Entry) (history : History)
         (x : Unfinished)
-        → Represents log.old pages.old (S.state site.old) newest records table commits
+        → Represents log.old pages.old (S.state site.old) newest records history
         → IsUnfinished records x → x.txn ≡ txn → x.last ≡ last → x.next ≡ last
-        → OnOk result (RollsBack log.new pages.new (S.state site.new) newest records table commits txn) }
-    ensures does { (newest : Option Master) (records : List Entry) (table : List Content) (commits : ℕ) (x : Unfinished)
-        → Represents log.old pages.old (S.state site.old) newest records table commits
+        → OnOk result (RollsBack log.new pages.new (S.state site.new) newest records history txn) }
+    ensures does { (newest : Option Master) (records : List Entry) (history : History) (x : Unfinished)
+        → Represents log.old pages.old (S.state site.old) newest records history
         → IsUnfinished records x → x.txn ≡ txn → x.last ≡ last → x.next ≡ last
         → UndoesWork result (undo_one_work records txn) (undo_one_works records txn) log.old log.new pages.old pages.new
-        (S.state site.old) (S.state site.new) newest table commits (x.remaining + 1) (length x.chain) }
-    ensures blocks { (newest : Option Master) (records : List Entry) (table : List Content) (commits : ℕ)
+        (S.state site.old) (S.state site.new) newest history (x.remaining + 1) (length x.chain) }
+    ensures blocks { (newest : Option Master) (records : List Entry) (history : History)
         (x : Unfinished)
-        → Represents log.old pages.old (S.state site.old) newest records table commits
+        → Represents log.old pages.old (S.state site.old) newest records history
         → IsUnfinished records x → x.txn ≡ txn → x.last ≡ last → x.next ≡ last
         → OnOk result (blocks_to log.new ≤ blocks_to log.old + (x.remaining + 1)) }
 

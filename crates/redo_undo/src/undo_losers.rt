@@ -14,6 +14,7 @@ ghost use Rattle.analysis.specs.Open.{Replaces, Remains, TakesOut, LeavesSame, D
 ghost use Rattle.analysis.specs.Table.{listed};
 ghost use Rattle.analysis.specs.Read as analysis;
 ghost use Rattle.analysis.specs.Read.{IsTable};
+ghost use Rattle.redo_laws.specs.Running.{History};
 ghost use Rattle.redo_laws.specs.Holding.{Invariant, Represents, blocks_to};
 ghost use Rattle.redo_laws.specs.MachineSteps.{undo_works};
 ghost use Rattle.redo_laws.specs.UndoWorks.{works_of, IsLastAt, UndoesUpdates};
@@ -44,17 +45,17 @@ fn end_one<S: Site>(
     requires none { HasNone (listed found.old.table) txn }
 
     // Of an honest site on which log and pages hold together.
-    ensures does { (pages : PageStore) (newest : Option Master) (records : List Entry) (table : List Content)
-        (commits known : ℕ)
+    ensures does { (pages : PageStore) (newest : Option Master) (records : List Entry) (history : History)
+        (known : ℕ)
         → Invariant log.old pages (S.state site.old)
-        → IsUndoing log.old pages (S.state site.old) newest records table commits found.old known
-        → UndoesWork result ends [] log.old log.new pages pages (S.state site.old) (S.state site.new) newest table
-        commits 1 0 }
-    ensures updates { (pages : PageStore) (newest : Option Master) (records : List Entry) (table : List Content)
-        (commits known : ℕ)
+        → IsUndoing log.old pages (S.state site.old) newest records history found.old known
+        → UndoesWork result ends [] log.old log.new pages pages (S.state site.old) (S.state site.new) newest history
+        1 0 }
+    ensures updates { (pages : PageStore) (newest : Option Master) (records : List Entry) (history : History)
+        (known : ℕ)
         → log.old.geometry ≡ pages.flash.geometry
-        → IsUndoing log.old pages (S.state site.old) newest records table commits found.old known
-        → IfOk result (λ lsn. UndoesUpdates log.new pages (S.state site.new) newest records table commits
+        → IsUndoing log.old pages (S.state site.old) newest records history found.old known
+        → IfOk result (λ lsn. UndoesUpdates log.new pages (S.state site.new) newest records history
         found.new lsn []) }
 
     // Of every site.
@@ -96,18 +97,16 @@ fn end_undone<S: Site>(
     requires known { known < end_of log.old }
 
     // Of an honest site on which log and pages hold together.
-    ensures does { (pages : PageStore) (newest : Option Master) (records : List Entry) (table : List Content)
-        (commits : ℕ)
+    ensures does { (pages : PageStore) (newest : Option Master) (records : List Entry) (history : History)
         → Invariant log.old pages (S.state site.old)
-        → IsUndoing log.old pages (S.state site.old) newest records table commits found.old known
+        → IsUndoing log.old pages (S.state site.old) newest records history found.old known
         → UndoesWork result (ends_for (listed found.old.table)) [] log.old log.new pages pages (S.state site.old)
-        (S.state site.new) newest table commits
+        (S.state site.new) newest history
         (taken_by result (owed_for (listed found.old.table)) (owed_for (listed found.new.table))) 0 }
-    ensures updates { (pages : PageStore) (newest : Option Master) (records : List Entry) (table : List Content)
-        (commits : ℕ)
+    ensures updates { (pages : PageStore) (newest : Option Master) (records : List Entry) (history : History)
         → Invariant log.old pages (S.state site.old)
-        → IsUndoing log.old pages (S.state site.old) newest records table commits found.old known
-        → IfOk result (λ lsn. UndoesUpdates log.new pages (S.state site.new) newest records table commits
+        → IsUndoing log.old pages (S.state site.old) newest records history found.old known
+        → IfOk result (λ lsn. UndoesUpdates log.new pages (S.state site.new) newest records history
         found.new lsn []) }
 
     // Of every site.
@@ -156,18 +155,18 @@ fn undo_greatest<S: Site>(
     requires remain { Remain (listed found.old.table) }
 
     // Of an honest site on which log and pages hold together.
-    ensures updates { (newest : Option Master) (records : List Entry) (table : List Content) (commits known : ℕ)
+    ensures updates { (newest : Option Master) (records : List Entry) (history : History) (known : ℕ)
         (u : Entry)
-        → IsUndoing log.old pages.old (S.state site.old) newest records table commits found.old known
+        → IsUndoing log.old pages.old (S.state site.old) newest records history found.old known
         → IsLastAt records loser.txn lsn u
-        → IfOk result (λ last. UndoesUpdates log.new pages.new (S.state site.new) newest records table commits found.new
+        → IfOk result (λ last. UndoesUpdates log.new pages.new (S.state site.new) newest records history found.new
         last (u ∷ [])) }
-    ensures does { (newest : Option Master) (records : List Entry) (table : List Content) (commits known : ℕ)
+    ensures does { (newest : Option Master) (records : List Entry) (history : History) (known : ℕ)
         (u : Entry)
-        → IsUndoing log.old pages.old (S.state site.old) newest records table commits found.old known
+        → IsUndoing log.old pages.old (S.state site.old) newest records history found.old known
         → IsLastAt records loser.txn lsn u
         → UndoesWork result (clr_work u) (works_of (u ∷ [])) log.old log.new pages.old pages.new (S.state site.old)
-        (S.state site.new) newest table commits 1 1 }
+        (S.state site.new) newest history 1 1 }
 
     // Of every site.
     ensures before { IfOk result (λ last. last < end_of log.new) }
@@ -211,17 +210,17 @@ fn undo_next<S: Site>(
     requires remain { Remain (listed found.old.table) }
 
     // Of an honest site on which log and pages hold together.
-    ensures updates { (newest : Option Master) (records : List Entry) (table : List Content) (commits : ℕ) (u : Entry)
-        → IsUndoing log.old pages.old (S.state site.old) newest records table commits found.old known
+    ensures updates { (newest : Option Master) (records : List Entry) (history : History) (u : Entry)
+        → IsUndoing log.old pages.old (S.state site.old) newest records history found.old known
         → IsLastAt records next.0 next.1 u
-        → IfOk result (λ last. UndoesUpdates log.new pages.new (S.state site.new) newest records table commits found.new
+        → IfOk result (λ last. UndoesUpdates log.new pages.new (S.state site.new) newest records history found.new
         last (u ∷ [])) }
-    ensures does { (newest : Option Master) (records : List Entry) (table : List Content) (commits : ℕ) (u : Entry)
+    ensures does { (newest : Option Master) (records : List Entry) (history : History) (u : Entry)
         (earlier : List Entry)
-        → IsUndoing log.old pages.old (S.state site.old) newest records table commits found.old known
+        → IsUndoing log.old pages.old (S.state site.old) newest records history found.old known
         → IsLastAt records next.0 next.1 u → reverse (pending records) ≡ u ∷ earlier
         → UndoesWork result (undoing_one u earlier) (works_of (u ∷ [])) log.old log.new pages.old pages.new
-        (S.state site.old) (S.state site.new) newest table commits
+        (S.state site.old) (S.state site.new) newest history
         (taken_by result (owed_for (listed found.old.table)) (owed_for (listed found.new.table))) 1 }
 
     // Of every site.
@@ -268,17 +267,17 @@ pub fn undo_all<S: Site>(
 
     // Of an honest site on which log and pages hold together, where each record is sealed and analysis has taken all of
     // them.
-    ensures undone { (newest : Option Master) (records : List Entry) (table : List Content) (commits : ℕ)
+    ensures undone { (newest : Option Master) (records : List Entry) (history : History)
         → has_tail log.old ≡ false
-        → Represents log.old pages.old (S.state site.old) newest records table commits
+        → Represents log.old pages.old (S.state site.old) newest records history
         → IsTable [] records (listed found.old.table)
-        → OnOk result (UndoesAll log.new pages.new (S.state site.new) newest records table commits) }
-    ensures does { (newest : Option Master) (records : List Entry) (table : List Content) (commits : ℕ)
+        → OnOk result (UndoesAll log.new pages.new (S.state site.new) newest records history) }
+    ensures does { (newest : Option Master) (records : List Entry) (history : History)
         → has_tail log.old ≡ false
-        → Represents log.old pages.old (S.state site.old) newest records table commits
+        → Represents log.old pages.old (S.state site.old) newest records history
         → IsTable [] records (listed found.old.table)
         → UndoesWork result (undo_work records) (undo_works records) log.old log.new pages.old pages.new
-        (S.state site.old) (S.state site.new) newest table commits (owed_for (listed found.old.table))
+        (S.state site.old) (S.state site.new) newest history (owed_for (listed found.old.table))
         (length (pending records)) }
 
     // Of every site.

@@ -166,6 +166,19 @@ fn a_commit_outlives_a_crash(rt: HostRuntime) -> Result<(), Fail> {
     Ok(())
 }
 
+// A Commit that is logged waits for its seal.
+#[test]
+fn a_commit_waits_for_its_seal(rt: HostRuntime) -> Result<(), Fail> {
+    let mut site = MemSite::new(rt.alloc(), &SMALL)?;
+    let (log, pages) = changed(rt.alloc(), &mut site)?;
+    let mut store = stored(&mut site, log, pages)?;
+    assert!(rt; store.log_commit(&mut site, 2, 1)? == 29);
+    assert!(rt; !is_committed(&store.log, &mut site)?);
+    store.seal(&mut site)?;
+    assert!(rt; is_committed(&store.log, &mut site)?);
+    Ok(())
+}
+
 // A life in which a transaction changes record 5, and all of its log is sealed, and the next one.
 // The page has the value that its Update wrote, with the Update's LSN, and the transaction is found as unfinished.
 const EARLIER: &[Row] = &[

@@ -1,4 +1,6 @@
 use Rattle.engine.proofs.Names.{◌≡◌, ◌∙◌, ◌++◌, List, [], false, ap, sym, subst, arith, ◌≤◌, refl, ℕ, ◌+◌, length, Ok, OnOk, Result, owed_for, listed, Master, Pair, Ends, log_under, LeavesTable, IsReady, RestartedAs, found_store, found_machine, Restarted, under_leaves_for, logical_image_under, Entry, LogicalImage, owed, pending, LogRecord, has_tail, fits_queue, Content, asks_then, asks_stopped, ends_failed, ends_answered, ends_leaving, skips_on, then_skips, StepsMachine, redo_works, undo_works, checkpoint_works, SkipsNone, store_next, next_then, finds_kept, where_two, Mirrors, KeepsNext, HasCheckpoint, TransactionStore, performs_answered, performs_by, performs_failed, performs_refused, performs_stopped, performs_then, saves, Performs, redo_work, undo_work, Rules, stays_honest, calls_then, calls_failed, calls_answered, calls_refused, IsQuiet, Site as State, Calls, Geometry, Stop, Foreign}
+use Rattle.redo_laws.specs.Running.{settled}
+use Rattle.redo_undo.proofs.Saved.{settled_leaves_for}
 use Rattle.std.proofs.Common.{Err}
 use Rattle.page_store.specs.Caching.{rules}
 use Rattle.redo_undo.specs.declared.redo_pass.Redone.{Redone}
@@ -59,18 +61,18 @@ returns-in-Err-undo_all-clause-recovers g c newest blocks table commits h =
     let n = owed_for (listed c.in-Ok.redone.found.table) in
     let calm = c.in-Ok.ensures.works.calls.stays_quiet h.opened_is.ready.blocks.honest in
     let first = c.in-Ok.ensures.keeps newest blocks table commits h.master h.opened_is in
-    let second = (c.in-Err-undo_all.ensures.does newest records table commits none holds read).keeps in
-    let asks = asks_then c.in-Ok.redone _ (redo_works p) (undo_works p.log) _ _ _ _ _ _ (c.in-Ok.ensures.asks newest blocks table commits h.master h.opened_is).asks (c.in-Err-undo_all.ensures.does newest records table commits none holds read).asks in
+    let second = (c.in-Err-undo_all.ensures.does newest records (settled table commits) none holds read).keeps in
+    let asks = asks_then c.in-Ok.redone _ (redo_works p) (undo_works p.log) _ _ _ _ _ _ (c.in-Ok.ensures.asks newest blocks table commits h.master h.opened_is).asks (c.in-Err-undo_all.ensures.does newest records (settled table commits) none holds read).asks in
     record {
       restarted = tt;
-      ends = ends_failed (ends_then calm c.redo.ensures.works.geometry (ends_leaving (under_leaves_for newest _ _ _ table commits _) first.ends) (ends_leaving (under_leaves_for newest _ _ _ table commits _) second.ends));
+      ends = ends_failed (ends_then calm c.redo.ensures.works.geometry (ends_leaving (under_leaves_for newest _ _ _ table commits _) first.ends) (ends_leaving (settled_leaves_for newest _ _ _ table commits _) second.ends));
       numbers = λ quiet.
           let mine = skips_on (Err c.in-Err-undo_all.stop) c.redo.new.pages.flash.geometry _ c.redo.new.log c.undo_all.new.log mid _ n 0 c.redo.ensures.works.geometry (second.numbers (calm quiet)) in
           let two = then_skips (Err c.in-Err-undo_all.stop) c.in-Ok.redone _ c.args.opened.log c.redo.new.log c.undo_all.new.log old mid _ 0 0 n 0 n 0 (first.numbers quiet) mine (omega arith) (omega arith) in
           restart_failed c.in-Err-undo_all.stop _ _ records c.args.opened.log c.undo_all.new.log old _ n 0 next (omega (arith, owes)) (omega arith) two;
       asks = from_stopped c.in-Err-undo_all.stop _ (redo_works p ++ undo_works p.log) checkpoint_works _ _ _ _ some asks;
       writes = writes_stopped c.in-Err-undo_all.stop (redo_works p ++ undo_works p.log) checkpoint_works _ _ _ _ some asks (fits_queue c.args.opened.pages old c.requires.may.going.pages_going h.opened_is.ready.pages);
-      log_reads = omega (arith, c.redo.ensures.log_reads, kept_of c.args.opened old newest blocks table commits h, (c.undo_all.ensures.does newest records table commits none holds read).log_reads);
+      log_reads = omega (arith, c.redo.ensures.log_reads, kept_of c.args.opened old newest blocks table commits h, (c.undo_all.ensures.does newest records (settled table commits) none holds read).log_reads);
       last = λ quiet. tt;
     }
 
@@ -81,7 +83,7 @@ returns-then-commits-sealed_end-clause-recovers g c newest blocks table commits 
     let holds = c.in-Ok.ensures.holds newest blocks table commits h.master h.opened_is in
     let read = c.in-Ok.ensures.unfinished newest blocks table commits h.master h.opened_is in
     let none : has_tail c.redo.new.log ≡ false = no_tail_still c.args.opened.log c.redo.new.log c.requires.empty c.in-Ok.ensures.blocks c.in-Ok.ensures.rises in
-    let undone = c.in-Ok-undo_all.ensures.undone newest records table commits none holds read in
+    let undone = c.in-Ok-undo_all.ensures.undone newest records (settled table commits) none holds read in
     let found = commits_found c.losers_are_taken.ensures.commits c.args.opened _ newest blocks table commits c.in-Ok.redone.found h (c.in-Ok.ensures.read newest blocks table commits h.master h.opened_is) c.requires.may.going.log_going.usable.bounded in
     let few = commits_fit c.undo_all.new.log c.undo_all.new.pages _ newest (records ++ undone.more) table commits undone.holds in
     absurd (omega (arith, found, few, c.sealed_end-2.ensures, c.undo_all.ensures.commits, c.commits-commits.ensures.commits, c.if-commits-sealed_end.true))
@@ -119,12 +121,12 @@ module _ (g : Over) (c : After-checkpoint g) (newest : Option Master) (blocks : 
       let und = g.S.Site.state c.undo_all.new.site in
       let calm = c.in-Ok.ensures.works.calls.stays_quiet h.opened_is.ready.blocks.honest in
       let first = c.in-Ok.ensures.keeps newest blocks table commits h.master h.opened_is in
-      let second = (c.in-Ok-undo_all.ensures.does newest records table commits none holds read).keeps in
-      let undone = c.in-Ok-undo_all.ensures.undone newest records table commits none holds read in
+      let second = (c.in-Ok-undo_all.ensures.does newest records (settled table commits) none holds read).keeps in
+      let undone = c.in-Ok-undo_all.ensures.undone newest records (settled table commits) none holds read in
       let found = commits_found c.losers_are_taken.ensures.commits c.args.opened old newest blocks table commits c.in-Ok.redone.found h (c.in-Ok.ensures.read newest blocks table commits h.master h.opened_is) c.requires.may.going.log_going.usable.bounded in
       let all = records ++ undone.more in
       let counted : c.commits-commits.result ≡ commits = c.commits-commits.ensures.commits ∙ c.undo_all.ensures.commits ∙ found in
-      let held = subst (both.Represents c.undo_all.new.log c.undo_all.new.pages und newest all table) (sym counted) undone.holds in
+      let held = subst (λ (n : ℕ). both.Represents c.undo_all.new.log c.undo_all.new.pages und newest all (settled table n)) (sym counted) undone.holds in
       let ring = finds_kept c.args.opened.masters old mid c.requires.may.shape (first.masters refl) h.masters in
       let stands = finds_kept c.args.opened.masters mid und c.requires.may.shape (second.masters refl) ring in
       let may = may_be_made c.args.opened.masters und all c.new.result stands undone.none c.new.ensures in
@@ -139,7 +141,7 @@ module _ (g : Over) (c : After-checkpoint g) (newest : Option Master) (blocks : 
       let last = skips_on c.checkpoint.result k' k c.undo_all.new.log c.checkpoint.new.self.log und new 0 1 same (keeps.numbers (calm_und quiet)) in
       then_skips c.checkpoint.result c.in-Ok-undo_all.field-0 k c.args.opened.log c.undo_all.new.log c.checkpoint.new.self.log old und new n 0 0 1
       (owed records) 1 two last (omega (arith, owes)) (omega arith) in
-      let two = asks_then c.in-Ok.redone _ (redo_works p) (undo_works p.log) _ _ _ old mid und (c.in-Ok.ensures.asks newest blocks table commits h.master h.opened_is).asks (c.in-Ok-undo_all.ensures.does newest records table commits none holds read).asks in
+      let two = asks_then c.in-Ok.redone _ (redo_works p) (undo_works p.log) _ _ _ old mid und (c.in-Ok.ensures.asks newest blocks table commits h.master h.opened_is).asks (c.in-Ok-undo_all.ensures.does newest records (settled table commits) none holds read).asks in
       let asks = asks_then c.in-Ok-undo_all.field-0 c.checkpoint.result
       (redo_works p ++ undo_works p.log) checkpoint_works _ _ _ old und new two c.checkpoint.ensures.asks in
       let named = subst (λ (n : ℕ). OnOk c.checkpoint.result (HasCheckpoint c.checkpoint.new.self new all table n c.new.result)) counted
@@ -151,7 +153,7 @@ module _ (g : Over) (c : After-checkpoint g) (newest : Option Master) (blocks : 
       where_two _ _ _ c.checkpoint.result empty c.checkpoint.ensures.made (λ checkpoint made. restarted_as x new all table commits 0 undone.none
       (subst (λ (y : TransactionStore). HasCheckpoint y new all table commits []) (sym store) checkpoint)
       (let same = ap (λ (y : TransactionStore). y.made) store in omega (arith, same, made)) (are ∙ counted)) in
-      subst Behind result (ends_then calm_und same (ends_then calm c.redo.ensures.works.geometry (ends_leaving (under_leaves_for newest _ _ _ table commits _) first.ends) (ends_leaving (under_leaves_for newest _ _ _ table commits _) second.ends)) third, skips, asks, restarted)
+      subst Behind result (ends_then calm_und same (ends_then calm c.redo.ensures.works.geometry (ends_leaving (under_leaves_for newest _ _ _ table commits _) first.ends) (ends_leaving (settled_leaves_for newest _ _ _ table commits _) second.ends)) third, skips, asks, restarted)
 
   read_of : new.log_reads ≤ old.log_reads + (length blocks + length (pending (log_under newest blocks)))
   read_of =
@@ -159,7 +161,7 @@ module _ (g : Over) (c : After-checkpoint g) (newest : Option Master) (blocks : 
       let holds = c.in-Ok.ensures.holds newest blocks table commits h.master h.opened_is in
       let read = c.in-Ok.ensures.unfinished newest blocks table commits h.master h.opened_is in
       let none : has_tail c.redo.new.log ≡ false = no_tail_still c.args.opened.log c.redo.new.log c.requires.empty c.in-Ok.ensures.blocks c.in-Ok.ensures.rises in
-      omega (arith, c.redo.ensures.log_reads, kept_of c.args.opened old newest blocks table commits h, (c.undo_all.ensures.does newest records table commits none holds read).log_reads, c.checkpoint.ensures.log_reads)
+      omega (arith, c.redo.ensures.log_reads, kept_of c.args.opened old newest blocks table commits h, (c.undo_all.ensures.does newest records (settled table commits) none holds read).log_reads, c.checkpoint.ensures.log_reads)
 
 pub returns-in-Ok-checkpoint-clause-recovers : goal.returns-in-Ok-checkpoint-clause-recovers
 returns-in-Ok-checkpoint-clause-recovers g c newest blocks table commits h =
@@ -306,14 +308,14 @@ module _ (g : Over) (c : After-undo_all g) (newest : Option Master) (blocks : Li
   pub rules_after : rules c.undo_all.new.pages ≡ rules c.redo.new.pages
   rules_after =
       let none : has_tail c.redo.new.log ≡ false = no_tail_still c.args.opened.log c.redo.new.log c.requires.empty c.in-Ok.ensures.blocks c.in-Ok.ensures.rises in
-      (c.undo_all.ensures.does newest records table commits none (c.in-Ok.ensures.holds newest blocks table commits h.master h.opened_is) (c.in-Ok.ensures.unfinished newest blocks table commits h.master h.opened_is)).asks.rules_are
+      (c.undo_all.ensures.does newest records (settled table commits) none (c.in-Ok.ensures.holds newest blocks table commits h.master h.opened_is) (c.in-Ok.ensures.unfinished newest blocks table commits h.master h.opened_is)).asks.rules_are
 
   pub both_done : Performs c.undo_all.result (rules c.args.opened.pages) (redo_work (logical_image_under newest c.args.opened.pages.flash.geometry start.image blocks) ++ undo_work records) (λ m. m ≡ found_machine c.args.opened)
       (Mirrors c.undo_all.new.log c.undo_all.new.pages (g.S.Site.state c.undo_all.new.site).image)
   both_done =
       let none : has_tail c.redo.new.log ≡ false = no_tail_still c.args.opened.log c.redo.new.log c.requires.empty c.in-Ok.ensures.blocks c.in-Ok.ensures.rises in
       performs_then redone (performs_by (sym (c.in-Ok.ensures.asks newest blocks table commits h.master h.opened_is).asks.rules_are)
-      (c.undo_all.ensures.does newest records table commits none (c.in-Ok.ensures.holds newest blocks table commits h.master h.opened_is) (c.in-Ok.ensures.unfinished newest blocks table commits h.master h.opened_is)).performs)
+      (c.undo_all.ensures.does newest records (settled table commits) none (c.in-Ok.ensures.holds newest blocks table commits h.master h.opened_is) (c.in-Ok.ensures.unfinished newest blocks table commits h.master h.opened_is)).performs)
 
 pub returns-in-Err-undo_all-clause-performs : goal.returns-in-Err-undo_all-clause-performs
 returns-in-Err-undo_all-clause-performs g c newest blocks table commits h =
@@ -326,13 +328,13 @@ module _ (g : Over) (c : After-checkpoint g) (newest : Option Master) (blocks : 
   abbrev after_undo : TransactionStore
   after_undo = record { log = c.undo_all.new.log; pages = c.undo_all.new.pages; masters = c.args.opened.masters; made = c.in-Ok.redone.records + c.owed-owed.result }
 
-  pub at_checkpoint : (more : List Entry) × (both.Represents c.undo_all.new.log c.undo_all.new.pages (g.S.Site.state c.undo_all.new.site) newest (log_under newest blocks ++ more) table c.commits-commits.result)
+  pub at_checkpoint : (more : List Entry) × (both.Represents c.undo_all.new.log c.undo_all.new.pages (g.S.Site.state c.undo_all.new.site) newest (log_under newest blocks ++ more) (settled table c.commits-commits.result))
   at_checkpoint =
       let none : has_tail c.redo.new.log ≡ false = no_tail_still c.args.opened.log c.redo.new.log c.requires.empty c.in-Ok.ensures.blocks c.in-Ok.ensures.rises in
-      let undone = c.in-Ok-undo_all.ensures.undone newest (log_under newest blocks) table commits none (c.in-Ok.ensures.holds newest blocks table commits h.master h.opened_is) (c.in-Ok.ensures.unfinished newest blocks table commits h.master h.opened_is) in
+      let undone = c.in-Ok-undo_all.ensures.undone newest (log_under newest blocks) (settled table commits) none (c.in-Ok.ensures.holds newest blocks table commits h.master h.opened_is) (c.in-Ok.ensures.unfinished newest blocks table commits h.master h.opened_is) in
       let found = commits_found c.losers_are_taken.ensures.commits c.args.opened (g.S.Site.state c.args.site.now) newest blocks table commits c.in-Ok.redone.found h (c.in-Ok.ensures.read newest blocks table commits h.master h.opened_is) c.requires.may.going.log_going.usable.bounded in
       let counted : c.commits-commits.result ≡ commits = c.commits-commits.ensures.commits ∙ c.undo_all.ensures.commits ∙ found in
-      (undone.more, subst (both.Represents c.undo_all.new.log c.undo_all.new.pages (g.S.Site.state c.undo_all.new.site) newest (log_under newest blocks ++ undone.more) table) (sym counted) undone.holds)
+      (undone.more, subst (λ (n : ℕ). both.Represents c.undo_all.new.log c.undo_all.new.pages (g.S.Site.state c.undo_all.new.site) newest (log_under newest blocks ++ undone.more) (settled table n)) (sym counted) undone.holds)
 
 pub returns-in-Ok-checkpoint-clause-performs : goal.returns-in-Ok-checkpoint-clause-performs
 returns-in-Ok-checkpoint-clause-performs g c newest blocks table commits h =

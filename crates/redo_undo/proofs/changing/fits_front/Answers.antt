@@ -20,8 +20,8 @@ returns-clause-room c =
     )
 
 pub returns-clause-grows : goal.returns-clause-grows
-returns-clause-grows c log site newest records table commits lsn h may =
-    (returns-clause-room c).1 (fits_next log c.args.pages.now site newest records table commits c.requires.store c.requires.there h (record { lsn = lsn; rec = c.args.rec.now }) may c.requires.on_page)
+returns-clause-grows c log site newest records history lsn h may =
+    (returns-clause-room c).1 (fits_next log c.args.pages.now site newest records history c.requires.store c.requires.there h (record { lsn = lsn; rec = c.args.rec.now }) may c.requires.on_page)
 
 pub returns-clause-redone : goal.returns-clause-redone
 returns-clause-redone c o log site front rest lsn h is later =

@@ -14,18 +14,18 @@ returns g c =
     let sealing : Bool = forces log (flushed_contents pages) in
     let tail = forced_tail log (flushed_contents pages) in
     record {
-      holds = λ newest records table commits h.
+      holds = λ newest records history h.
           let list : LogList = record { first = kept_by newest; blocks = h.log_holds.blocks; tail = h.log_holds.tail } in
-          ok_both c.flush_all.result _ _ (Represents c.flush_all.new.log c.flush_all.new.self new newest records table commits)
-          (λ stands end. subst (λ (x : Geometry). RepresentsIn x c.flush_all.new.log c.flush_all.new.self new newest records table commits) (sym c.flush_all.ensures.works.geometry)
-          (touched_holds log pages site newest records table commits h c.flush_all.new.log c.flush_all.new.self new (c.flush_all.ensures.works.forces.geometry ∙ c.requires.going.sizes)
+          ok_both c.flush_all.result _ _ (Represents c.flush_all.new.log c.flush_all.new.self new newest records history)
+          (λ stands end. subst (λ (x : Geometry). RepresentsIn x c.flush_all.new.log c.flush_all.new.self new newest records history) (sym c.flush_all.ensures.works.geometry)
+          (touched_holds log pages site newest records history h c.flush_all.new.log c.flush_all.new.self new (c.flush_all.ensures.works.forces.geometry ∙ c.requires.going.sizes)
           c.flush_all.ensures.works.forces.kept stands.current (stands.ahead h.log_holds.ahead) end (stands.sealed h.log_holds.ahead) (stands.rings newest h.log_holds.rings) c.requires.going.log_going.high sealing (forced_tail log (flushed_contents pages)) stands.ready stands.leaves))
           (c.flush_all.ensures.stands list h.log_holds.ready) c.flush_all.ensures.works.forces.end;
-      keeps = λ newest records table commits h.
+      keeps = λ newest records history h.
           let ready = h.log_holds.ready in
           let list : LogList = record { first = kept_by newest; blocks = h.log_holds.blocks; tail = h.log_holds.tail } in
           record {
-            ends = ends_by_pages (c.flush_all.ensures.keeps list ready) (λ quiet. leaves_table log pages site newest records table commits h c.requires.going.pages_going.own sealing tail new
+            ends = ends_by_pages (c.flush_all.ensures.keeps list ready) (λ quiet. leaves_table log pages site newest records history h c.requires.going.pages_going.own sealing tail new
                 ((c.flush_all.ensures.keeps list ready).any_moment quiet) ((c.flush_all.ensures.keeps list ready).ahead_moment quiet h.log_holds.ahead) ((c.flush_all.ensures.keeps list ready).rings_moment newest quiet h.log_holds.rings));
             numbers = λ quiet. pages_skip c.flush_all.result pages.flash.geometry (current pages site.image) log c.flush_all.new.log list sealing site new (ready_next pages log list site ready) tail ((c.flush_all.ensures.keeps list ready).any_moment quiet) c.flush_all.ensures.works.forces.end (ok_as c.flush_all.result _ _ (λ stands. stands.device_calls quiet) (c.flush_all.ensures.stands list ready));
             masters = λ none. ok_as c.flush_all.result _ (KeepsUnits master_shape site.image new.image) (λ stands. stands.leaves.masters) (c.flush_all.ensures.stands list ready);
@@ -37,7 +37,7 @@ returns g c =
             stages = stages_as (sym (append-nil (staged_by (rules c.args.pages.now) flush (cache_of c.args.pages.now)))) refl c.flush_all.ensures.stages;
             rules_are = (λ i. rules_of (c.flush_all.ensures.works.size i) (c.flush_all.ensures.works.geometry i).groups);
           };
-      performs = λ newest records table commits h.
+      performs = λ newest records history h.
           let list : LogList = record { first = kept_by newest; blocks = h.log_holds.blocks; tail = h.log_holds.tail } in
           let stands = c.flush_all.ensures.stands list h.log_holds.ready in
           let never : sealing ≡ false = never_forced log (flushed_contents pages) c.requires.sealed in

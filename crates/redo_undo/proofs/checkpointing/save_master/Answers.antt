@@ -1,4 +1,4 @@
-use Rattle.redo_undo.proofs.Names.{inl, inr, ◌≡◌, ◌∙◌, ◌≤◌, ◌/◌, ℕ, sym, subst, arith, refl, ap, List, false, [], ◌∷◌, unit, Master, AppendsMaster, LeavesFront, master_shape, first_block, LeavesFor, Entry, cache_of, PageStore, Content, never_worn_flash, ends_ok, save_skips, save_calls, hi_on, masters_at_end, begins_of, MayBeMade, blocks_to, Represents, region, IsReady, Finds, hi_of, Ring, Shape, wants_flush, quiet_settled, no_error, err_again, LeavesOnly, State, IsSettled, IsQuiet, Log, Worn}
+use Rattle.redo_undo.proofs.Names.{settled, inl, inr, ◌≡◌, ◌∙◌, ◌≤◌, ◌/◌, ℕ, sym, subst, arith, refl, ap, List, false, [], ◌∷◌, unit, Master, AppendsMaster, LeavesFront, master_shape, first_block, LeavesFor, Entry, cache_of, PageStore, Content, never_worn_flash, ends_ok, save_skips, save_calls, hi_on, masters_at_end, begins_of, MayBeMade, blocks_to, Represents, region, IsReady, Finds, hi_of, Ring, Shape, wants_flush, quiet_settled, no_error, err_again, LeavesOnly, State, IsSettled, IsQuiet, Log, Worn}
 use Rattle.std.proofs.Common.{Err}
 use Rattle.redo_undo.proofs.Saved.{needed_there, save_leaves, is_saved, log_still}
 use Rattle.log_store.proofs.NextBlocks.{blocks_beside}

@@ -1,4 +1,4 @@
-use Rattle.redo_undo.proofs.Names.{List, ◌≡◌, ◌≤◌, ◌<◌, Bool, true, ◌∷◌, [], ◌++◌, ap, inr, ℕ, length, subst, IfOk, Master, ring_kept, Masters, KeepsUnits, master_shape, AreRingsSoundUnder, versions_on, kept_by, Entry, AreOrderly, spelling, LogList, changes_if, overflows, end_of, has_tail, log_fits, AreSealed, rules as rules_of_pages, PageStore, Content, appended, ends_with, append_leaves, rings_now, more_sealed, versions_same, current_same, IsNumbered, IsAppended, if_ok_four, if_ok_one, if_ok_two, if_ok_three, ok_by, most_blocks, holds_off, quiet_stops, seals_only, log_skips, log_calls, ready_next, ends_orderly, log_at_end, EndsWith, MayGrow, RepresentsLog, Represents, Mirrors, logged, Performs, ok_as, State}
+use Rattle.redo_undo.proofs.Names.{History, List, ◌≡◌, ◌≤◌, ◌<◌, Bool, true, ◌∷◌, [], ◌++◌, ap, inr, ℕ, length, subst, IfOk, Master, ring_kept, Masters, KeepsUnits, master_shape, AreRingsSoundUnder, versions_on, kept_by, Entry, AreOrderly, spelling, LogList, changes_if, overflows, end_of, has_tail, log_fits, AreSealed, rules as rules_of_pages, PageStore, Content, appended, ends_with, append_leaves, rings_now, more_sealed, versions_same, current_same, IsNumbered, IsAppended, if_ok_four, if_ok_one, if_ok_two, if_ok_three, ok_by, most_blocks, holds_off, quiet_stops, seals_only, log_skips, log_calls, ready_next, ends_orderly, log_at_end, EndsWith, MayGrow, RepresentsLog, Represents, Mirrors, logged, Performs, ok_as, State}
 use Rattle.log_store.proofs.TailLaws.{full_tail, spelling_short}
 use Rattle.std.proofs.Common.{lt-ltb}
 use Rattle.std.specs.Prelude.{Option}
@@ -7,10 +7,12 @@ use Rattle.redo_undo.proofs.logging.log_record.Given.{Over}
 use Rattle.redo_undo.proofs.logging.log_record.Goals.{After-append}
 use Rattle.ring_machine.proofs.Spelled.{octets_spelled}
 use Rattle.redo_undo.proofs.Mirroring.{logged_performs, logged_used, numbers_left}
+use Rattle.redo_laws.proofs.Appended.{commit_waits}
+use Rattle.log_records.specs.Log.{number_of}
 use Rattle.redo_undo.proofs.logging.log_record.Goals as goal
 
 pub returns-clause-pages : goal.returns-clause-pages
-returns-clause-pages g c pages newest records table commits h =
+returns-clause-pages g c pages newest records history h =
     let changes = c.append.ensures.seals.changes h.log_holds.ready.blocks.honest in
     record {
       versions = versions_same pages _ _ changes;
@@ -24,8 +26,8 @@ module _ (g : Over) (c : After-append g) where
       (λ lsn next lsn_is rises. record { lsn_is = lsn_is; next = next; below = rises.1; low = c.requires.going.low })
       c.append.ensures.seals.next c.append.ensures.lsn c.append.ensures.rises
 
-module _ (g : Over) (c : After-append g) (pages : PageStore) (newest : Option Master) (records : List Entry) (table : List Content) (commits : ℕ)
-    (h : Represents c.args.log.now pages (g.S.Site.state c.args.site.now) newest records table commits) where
+module _ (g : Over) (c : After-append g) (pages : PageStore) (newest : Option Master) (records : List Entry) (history : History)
+    (h : Represents c.args.log.now pages (g.S.Site.state c.args.site.now) newest records history) where
   abbrev site : State
   site = g.S.Site.state c.args.site.now
 
@@ -60,60 +62,75 @@ module _ (g : Over) (c : After-append g) (pages : PageStore) (newest : Option Ma
       (numbered g c)
 
 pub returns-clause-log_holds : goal.returns-clause-log_holds
-returns-clause-log_holds g c pages newest records table commits sizes h =
+returns-clause-log_holds g c pages newest records history sizes h =
     let site = g.S.Site.state c.args.site.now in
     let new = g.S.Site.state c.append.new.site in
     let log = c.args.log.now in
-    if_ok_one c.append.result (Stands g c pages newest records table commits h)
-    (λ lsn. MayGrow log pages site.image newest records (record { lsn = lsn; rec = c.args.rec.now }) → RepresentsLog pages.flash.geometry c.append.new.self pages new newest (records ++ record { lsn = lsn; rec = c.args.rec.now } ∷ []) table commits)
-    (λ lsn stands. appended log pages site newest records table commits h sizes c.append.new.self
+    if_ok_one c.append.result (Stands g c pages newest records history h)
+    (λ lsn. MayGrow log pages site.image newest records (record { lsn = lsn; rec = c.args.rec.now }) → RepresentsLog pages.flash.geometry c.append.new.self pages new newest (records ++ record { lsn = lsn; rec = c.args.rec.now } ∷ []) history)
+    (λ lsn stands. appended log pages site newest records history h sizes c.append.new.self
     new c.args.rec.now lsn stands.rings stands.are_sealed
-    (overflows log c.args.rec.now) (full g c pages newest records table commits h) stands.appended_is)
-    (stands g c pages newest records table commits h sizes)
+    (overflows log c.args.rec.now) (full g c pages newest records history h) stands.appended_is)
+    (stands g c pages newest records history h sizes)
 
 pub returns-clause-holds : goal.returns-clause-holds
-returns-clause-holds g c pages newest records table commits sizes h none =
+returns-clause-holds g c pages newest records history sizes h none =
     let site = g.S.Site.state c.args.site.now in
     let new = g.S.Site.state c.append.new.site in
     let log = c.args.log.now in
     let rec = c.args.rec.now in
     let k = pages.flash.geometry in
     if_ok_two c.append.result
-    (λ lsn. MayGrow log pages site.image newest records (record { lsn = lsn; rec = rec }) → RepresentsLog k c.append.new.self pages new newest (records ++ record { lsn = lsn; rec = rec } ∷ []) table commits)
+    (λ lsn. MayGrow log pages site.image newest records (record { lsn = lsn; rec = rec }) → RepresentsLog k c.append.new.self pages new newest (records ++ record { lsn = lsn; rec = rec } ∷ []) history)
     (λ lsn. (end_of log ≤ lsn) × (lsn < end_of c.append.new.self))
-    (λ lsn. MayGrow log pages site.image newest records (record { lsn = lsn; rec = rec }) → Represents c.append.new.self pages new newest (records ++ record { lsn = lsn; rec = rec } ∷ []) table commits)
-    (λ lsn holds rises may. holds_off k log c.append.new.self pages site new newest records table commits h (returns-clause-pages g c pages newest records table commits h) rec lsn none rises.0 rises.1 (holds may))
-    (returns-clause-log_holds g c pages newest records table commits sizes h) c.append.ensures.rises
+    (λ lsn. MayGrow log pages site.image newest records (record { lsn = lsn; rec = rec }) → Represents c.append.new.self pages new newest (records ++ record { lsn = lsn; rec = rec } ∷ []) history)
+    (λ lsn holds rises may. holds_off k log c.append.new.self pages site new newest records history h (returns-clause-pages g c pages newest records history h) rec lsn none rises.0 rises.1 (holds may))
+    (returns-clause-log_holds g c pages newest records history sizes h) c.append.ensures.rises
 
-pub returns-clause-last : goal.returns-clause-last
-returns-clause-last g c pages newest records table commits sizes h =
+-- a Commit waits for its seal
+pub returns-clause-commit : goal.returns-clause-commit
+returns-clause-commit g c pages newest records history txn number sizes h is may table =
     let site = g.S.Site.state c.args.site.now in
     let new = g.S.Site.state c.append.new.site in
     let log = c.args.log.now in
     let rec = c.args.rec.now in
-    if_ok_two c.append.result (Stands g c pages newest records table commits h) (λ lsn. (end_of log ≤ lsn) × (lsn < end_of c.append.new.self))
-    (λ lsn. EndsWith pages.flash.geometry c.append.new.self pages new newest records table commits (record { lsn = lsn; rec = rec }))
-    (λ lsn stands rises. ends_with log pages site newest records table commits h sizes
+    let k = pages.flash.geometry in
+    if_ok_two c.append.result (Stands g c pages newest records history h) (λ lsn. (end_of log ≤ lsn) × (lsn < end_of c.append.new.self))
+    (λ lsn. Represents c.append.new.self pages new newest (records ++ record { lsn = lsn; rec = rec } ∷ []) (record history { commits = history.commits + 1 }))
+    (λ lsn stands rises. holds_off k log c.append.new.self pages site new newest records history h (returns-clause-pages g c pages newest records history h) rec lsn (ap number_of is) rises.0 rises.1
+    (commit_waits log pages site newest records history h sizes c.append.new.self new rec lsn stands.rings stands.are_sealed
+    (overflows log rec) (full g c pages newest records history h) stands.appended_is txn number is may table))
+    (stands g c pages newest records history h sizes) c.append.ensures.rises
+
+pub returns-clause-last : goal.returns-clause-last
+returns-clause-last g c pages newest records history sizes h =
+    let site = g.S.Site.state c.args.site.now in
+    let new = g.S.Site.state c.append.new.site in
+    let log = c.args.log.now in
+    let rec = c.args.rec.now in
+    if_ok_two c.append.result (Stands g c pages newest records history h) (λ lsn. (end_of log ≤ lsn) × (lsn < end_of c.append.new.self))
+    (λ lsn. EndsWith pages.flash.geometry c.append.new.self pages new newest records history (record { lsn = lsn; rec = rec }))
+    (λ lsn stands rises. ends_with log pages site newest records history h sizes
     c.append.new.self new rec lsn stands.rings stands.are_sealed
-    (overflows log rec) (full g c pages newest records table commits h) stands.appended_is (returns-clause-pages g c pages newest records table commits h)
+    (overflows log rec) (full g c pages newest records history h) stands.appended_is (returns-clause-pages g c pages newest records history h)
     rises.0)
-    (stands g c pages newest records table commits h sizes) c.append.ensures.rises
+    (stands g c pages newest records history h sizes) c.append.ensures.rises
 
 pub returns-clause-orderly : goal.returns-clause-orderly
-returns-clause-orderly g c pages newest records table commits sizes h =
+returns-clause-orderly g c pages newest records history sizes h =
     let site = g.S.Site.state c.args.site.now in
     let rec = c.args.rec.now in
     let k = pages.flash.geometry in
-    if_ok_one c.append.result (λ lsn. EndsWith k c.append.new.self pages _ newest records table commits (record { lsn = lsn; rec = rec }))
+    if_ok_one c.append.result (λ lsn. EndsWith k c.append.new.self pages _ newest records history (record { lsn = lsn; rec = rec }))
     (λ lsn. MayGrow _ pages site.image newest records (record { lsn = lsn; rec = rec }) → AreOrderly records → AreOrderly (records ++ record { lsn = lsn; rec = rec } ∷ []))
-    (λ lsn ends may. ends_orderly k c.append.new.self pages _ newest records table commits rec lsn (versions_on k site.image) ends
-    (returns-clause-pages g c pages newest records table commits h).versions may.follows)
-    (returns-clause-last g c pages newest records table commits sizes h)
+    (λ lsn ends may. ends_orderly k c.append.new.self pages _ newest records history rec lsn (versions_on k site.image) ends
+    (returns-clause-pages g c pages newest records history h).versions may.follows)
+    (returns-clause-last g c pages newest records history sizes h)
 
 -- a record goes into the block that is sealed next
 
 pub returns-clause-keeps : goal.returns-clause-keeps
-returns-clause-keeps g c pages newest records table commits h =
+returns-clause-keeps g c pages newest records history h =
     let site = g.S.Site.state c.args.site.now in
     let new = g.S.Site.state c.append.new.site in
     let log = c.args.log.now in
@@ -122,7 +139,7 @@ returns-clause-keeps g c pages newest records table commits h =
     let sealing : Bool = overflows log c.args.rec.now in
     let full : overflows log c.args.rec.now ≡ true → has_tail log ≡ true = λ over. lt-ltb 2 log.used (full_tail log.used (length (spelling c.args.rec.now)) (spelling_short c.args.rec.now c.requires.form) over) in
     record {
-      any_moment = λ going quiet. append_leaves log pages site newest records table commits h going.sizes new sealing quiet
+      any_moment = λ going quiet. append_leaves log pages site newest records history h going.sizes new sealing quiet
           (c.append.ensures.seals.changes ready.blocks.honest) (c.append.ensures.seals.any_moment list (log_fits log site quiet ready.blocks) ready.records)
           (c.append.ensures.seals.front list (log_fits log site quiet ready.blocks) ready.records quiet) going.pages_going.own full;
       numbers = λ going quiet. log_skips c.append.result log.geometry log c.append.new.self list sealing site new 1 (ready_next pages log list site ready) full
@@ -136,7 +153,7 @@ returns-clause-keeps g c pages newest records table commits h =
     }
 
 pub returns-clause-performs : goal.returns-clause-performs
-returns-clause-performs g c pages newest records table commits going h =
+returns-clause-performs g c pages newest records history going h =
     let log = c.args.log.now in
     let rec = c.args.rec.now in
     let site = g.S.Site.state c.args.site.now in
@@ -144,4 +161,4 @@ returns-clause-performs g c pages newest records table commits going h =
     subst (λ (n : ℕ). Performs c.append.result (rules_of_pages pages) (logged n ∷ []) (Mirrors log pages site.image) (Mirrors c.append.new.self pages new.image)) (octets_spelled rec)
     (logged_performs log c.append.new.self pages site new (record { high = c.requires.going.high; each = h.below }) c.append.result (length (spelling rec)) (λ over. full_tail log.used (length (spelling rec)) (spelling_short rec c.requires.form) over) (record { worn_log = c.append.ensures.seals.worn.0; stops = c.append.ensures.seals.stops }) c.append.ensures.seals.next
     (logged_used c.append.result (overflows log rec) (length (spelling rec)) log c.append.new.self c.append.ensures.seals.next c.append.ensures.lsn c.append.ensures.end)
-    (returns-clause-pages g c pages newest records table commits h).current (numbers_left c.append.ensures.seals.going going.pages_going))
+    (returns-clause-pages g c pages newest records history h).current (numbers_left c.append.ensures.seals.going going.pages_going))

@@ -37,19 +37,19 @@ returns g c =
           let never = never_forced log (pushed_by_touch pages c.args.page) (h.records.tail.end ∙ ap used_by none) in
           ok_as c.touch.result _ (AreReady c.touch.new.self c.touch.new.log list new)
           (λ stands. subst (λ (b : Bool). AreReady c.touch.new.self c.touch.new.log (sealed_if b list) new) never stands.ready) (c.touch.ensures.stands list h);
-      holds = λ newest records table commits h.
+      holds = λ newest records history h.
           let list : LogList = record { first = kept_by newest; blocks = h.log_holds.blocks; tail = h.log_holds.tail } in
-          ok_both c.touch.result _ _ (Represents c.touch.new.log c.touch.new.self new newest records table commits)
-          (λ stands end. subst (λ (x : Geometry). RepresentsIn x c.touch.new.log c.touch.new.self new newest records table commits)
+          ok_both c.touch.result _ _ (Represents c.touch.new.log c.touch.new.self new newest records history)
+          (λ stands end. subst (λ (x : Geometry). RepresentsIn x c.touch.new.log c.touch.new.self new newest records history)
           (sym c.touch.ensures.works.geometry)
-          (touched_holds log pages site newest records table commits h c.touch.new.log c.touch.new.self new (c.touch.ensures.works.forces.geometry ∙ c.requires.going.sizes) c.touch.ensures.works.forces.kept stands.current (stands.ahead h.log_holds.ahead) end
+          (touched_holds log pages site newest records history h c.touch.new.log c.touch.new.self new (c.touch.ensures.works.forces.geometry ∙ c.requires.going.sizes) c.touch.ensures.works.forces.kept stands.current (stands.ahead h.log_holds.ahead) end
           (stands.sealed h.log_holds.ahead) (stands.rings newest h.log_holds.rings) c.requires.going.log_going.high sealing (forced_tail log (pushed_by_touch pages c.args.page)) stands.ready stands.leaves))
           (c.touch.ensures.stands list h.log_holds.ready) c.touch.ensures.works.forces.end;
-      keeps = λ newest records table commits h.
+      keeps = λ newest records history h.
           let ready = h.log_holds.ready in
           let list : LogList = record { first = kept_by newest; blocks = h.log_holds.blocks; tail = h.log_holds.tail } in
           record {
-            ends = ends_by_pages (c.touch.ensures.keeps list ready) (λ quiet. leaves_table log pages site newest records table commits h c.requires.going.pages_going.own sealing tail new
+            ends = ends_by_pages (c.touch.ensures.keeps list ready) (λ quiet. leaves_table log pages site newest records history h c.requires.going.pages_going.own sealing tail new
                 ((c.touch.ensures.keeps list ready).any_moment quiet) ((c.touch.ensures.keeps list ready).ahead_moment quiet h.log_holds.ahead) ((c.touch.ensures.keeps list ready).rings_moment newest quiet h.log_holds.rings));
             numbers = λ quiet. pages_skip c.touch.result pages.flash.geometry (current pages site.image) log c.touch.new.log list sealing site new (ready_next pages log list site ready) tail ((c.touch.ensures.keeps list ready).any_moment quiet) c.touch.ensures.works.forces.end (ok_as c.touch.result _ _ (λ stands. stands.device_calls quiet) (c.touch.ensures.stands list ready));
             masters = λ none. ok_as c.touch.result _ (KeepsUnits master_shape site.image new.image) (λ stands. stands.leaves.masters) (c.touch.ensures.stands list ready);
@@ -76,7 +76,7 @@ returns g c =
             stages = stages_as (sym (append-nil (staged_by (rules pages) (touch c.args.page false) (cache_of pages)))) (sym (touched_next (rules pages) c.args.page false (cache_of pages) (some_group c.requires.going))) c.touch.ensures.stages;
             rules_are = (λ i. rules_of (c.touch.ensures.works.size i) (c.touch.ensures.works.geometry i).groups);
           };
-      performs = λ newest records table commits h.
+      performs = λ newest records history h.
           let list : LogList = record { first = kept_by newest; blocks = h.log_holds.blocks; tail = h.log_holds.tail } in
           let stands = c.touch.ensures.stands list h.log_holds.ready in
           touch_performs log c.touch.new.log pages c.touch.new.self site new c.args.page c.requires.going.pages_going.own h.log_holds.ahead.pool (record { high = c.requires.going.log_going.high; each = h.below }) (some_group c.requires.going)

@@ -5,7 +5,7 @@ use Rattle.redo_undo.proofs.Judging.{read_none, readable_still, finds_them}
 use Rattle.redo_undo.proofs.Redoings.{begins, holds_all}
 use Rattle.redo_undo.proofs.TakenRecords.{IsUpTo, IsNextBlock, asks_first, up_to_none, opened_count, finds, next_block, one_more_block, all_blocks, same_stop, unfinished_by}
 use Rattle.redo_undo.proofs.RedoWorks.{stops_first, stops_reading, asks_with_read, asks_more, asks_all, stops_within}
-use Rattle.redo_undo.proofs.Calling.{calls_read, keeps_answered, keeps_failed, keeps_opened, keeps_redoing, keeps_refused_by, keeps_then, works_answered, works_nothing, works_read, works_stopped, works_then, reads_worn, not_worn, works_foreign}
+use Rattle.redo_undo.proofs.Calling.{calls_read, keeps_answered, keeps_failed, keeps_opened, keeps_redoing, keeps_refused_by, redone_then, works_answered, works_nothing, works_read, works_stopped, works_then, reads_worn, not_worn, works_foreign}
 use Rattle.redo_undo.proofs.redo_pass.redo.Given.{Over}
 use Rattle.redo_undo.proofs.redo_pass.redo.Goals.{In-Ok-read_block, After-loop-block, After-is_sound}
 use Rattle.redo_undo.proofs.UndoCalls.{read_refuses}
@@ -113,7 +113,7 @@ module _ (g : Over) (c : In-Ok-read_block g) (newest : Option Master) (blocks : 
       (LeavesTableUnder newest c.args.pages.now.flash.geometry table commits old.told) 0 0
   kept_now =
       let i = c.loop-block.invariant in
-      keeps_then h.ready.blocks.honest i.works.geometry refl i.works.calls (i.keeps newest blocks table commits own h)
+      redone_then h.ready.blocks.honest i.works.geometry refl i.works.calls (i.keeps newest blocks table commits own h)
       (keeps_opened {r = Ok c.in-Ok-read_block.used} i.works.going.sizes up.taken.pages_are (c.read_block.ensures.reads.same up.taken.pages_are.ready.blocks.honest)
       (λ d is. no_error {x = c.in-Ok-read_block.used} {e = Worn d} is) (no_error {x = c.in-Ok-read_block.used} {e = Foreign}))
 
@@ -178,7 +178,7 @@ loop-block-preserved g c =
           (g.S.Site.state c.read_block.new.site) new _
           (asked_now g s newest blocks table commits own h) _ _ _ (sym (one_more newest blocks table commits own h))
           (takes newest blocks table commits own h).asks;
-      keeps = λ newest blocks table commits own h. keeps_answered (keeps_then h.ready.blocks.honest i.works.geometry refl
+      keeps = λ newest blocks table commits own h. keeps_answered (redone_then h.ready.blocks.honest i.works.geometry refl
           (calls_then i.works.calls (calls_read (read_one g s)))
           (kept_now g s newest blocks table commits own h) (takes newest blocks table commits own h).keeps);
     }
@@ -335,7 +335,7 @@ returns-in-Err-read_block-clause-keeps g c newest blocks table commits own h =
     let found = finds (opening c.args.pages.now (g.S.Site.state c.args.site.now) newest blocks table commits) c.loop-block.log
     c.loop-block.pages (g.S.Site.state c.args.site.now)
     (g.S.Site.state c.loop-block.site) c.loop-block.so_far c.loop-block.block up in
-    keeps_failed (keeps_then h.ready.blocks.honest i.works.geometry refl i.works.calls (i.keeps newest blocks table commits own h)
+    keeps_failed (redone_then h.ready.blocks.honest i.works.geometry refl i.works.calls (i.keeps newest blocks table commits own h)
     (keeps_opened {T = ℕ} {r = Err c.in-Err-read_block.stop} i.works.going.sizes up.taken.pages_are (c.read_block.ensures.reads.same up.taken.pages_are.ready.blocks.honest)
     (λ d is. reads_worn d (of_error {T = ℕ} (Err c.in-Err-read_block.stop) (λ stop. (stop ≡ Device Log) ⊎ (stop ≡ Foreign)) (Worn d)
     c.in-Err-read_block.ensures.stops is))
@@ -377,7 +377,7 @@ returns-in-Err-take_block-clause-keeps g c newest blocks table commits own h =
     let next = next g s newest blocks table commits own h in
     let place : ℕ = c.loop-block.block - kept_by newest in
     let i = c.loop-block.invariant in
-    keeps_failed (keeps_then h.ready.blocks.honest i.works.geometry refl (calls_then i.works.calls (calls_read (read_one g s)))
+    keeps_failed (redone_then h.ready.blocks.honest i.works.geometry refl (calls_then i.works.calls (calls_read (read_one g s)))
     (kept_now g s newest blocks table commits own h)
     (c.in-Err-take_block.ensures.takes (opening c.args.pages.now (g.S.Site.state c.args.site.now) newest blocks table commits)
     (log_from (kept_by newest) (take place blocks))

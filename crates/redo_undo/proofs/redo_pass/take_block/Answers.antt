@@ -2,7 +2,7 @@ use Rattle.redo_undo.proofs.Names.{◌+◌, ◌*◌, ◌++◌, ◌∷◌, [], Li
 use Rattle.redo_undo.proofs.Judging.{part_read}
 use Rattle.redo_undo.proofs.TakenRecords.{part_begins}
 use Rattle.redo_undo.proofs.RedoWorks.{asks_more, asks_all, stops_within}
-use Rattle.redo_undo.proofs.Calling.{keeps_answered, keeps_redoing, keeps_then, logs_answered, logs_nothing, logs_then}
+use Rattle.redo_undo.proofs.Calling.{keeps_answered, keeps_redoing, redone_then, logs_answered, logs_nothing, logs_then}
 use Rattle.redo_undo.proofs.redo_pass.take_block.Goals as goal
 
 pub loop-at-init : goal.loop-at-init
@@ -73,7 +73,7 @@ loop-at-preserved g c =
       keeps = λ o front rest records own h block used is.
           let a = i.part o front rest records own h block used is in
           let next = next_of_log one_spelled c.args.block c.args.content.now c.args.used c.loop-at.at records a.done a.past front c.in-Ok.rec c.in-Ok.end _ rest before found is in
-          keeps_answered (keeps_then h.pages_are.ready.blocks.honest i.logs.works.geometry refl i.logs.works.calls (i.keeps o front rest records own h block used is) (t.takes o (front ++ a.done) next.0 own a.taken next.1).keeps);
+          keeps_answered (redone_then h.pages_are.ready.blocks.honest i.logs.works.geometry refl i.logs.works.calls (i.keeps o front rest records own h block used is) (t.takes o (front ++ a.done) next.0 own a.taken next.1).keeps);
     }
 
 pub returns-in_default-clause-takes : goal.returns-in_default-clause-takes
@@ -92,7 +92,7 @@ returns-in-Err-clause-takes g c o front rest records own h block used is =
     let takes = c.in-Err.ensures.takes o (front ++ a.done) next.0 own a.taken next.1 in
     record {
       taken = tt;
-      keeps = keeps_then h.pages_are.ready.blocks.honest i.logs.works.geometry refl i.logs.works.calls (i.keeps o front rest records own h block used is) takes.keeps;
+      keeps = redone_then h.pages_are.ready.blocks.honest i.logs.works.geometry refl i.logs.works.calls (i.keeps o front rest records own h block used is) takes.keeps;
       asks = stops_within o c.args.pages.now c.loop-at.pages c.take_record.new.pages (g.S.Site.state c.args.site.now) (g.S.Site.state c.loop-at.site) (g.S.Site.state c.take_record.new.site) a.done a.asked
           c.in-Err.stop (e ∷ []) later.0 entries (some_group c.requires.going) later.1 takes.asks;
     }

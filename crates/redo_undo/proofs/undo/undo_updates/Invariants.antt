@@ -1,4 +1,4 @@
-use Rattle.redo_undo.proofs.Names.{◌<◌, ◌≤◌, ◌+◌, ℕ, List, length, Option, Ok, Master, Unfinished, IsUnfinished, Entry, end_of, Content, KeepsInvariant, Represents, blocks_to, IsAt}
+use Rattle.redo_undo.proofs.Names.{History, ◌<◌, ◌≤◌, ◌+◌, ℕ, List, length, Option, Ok, Master, Unfinished, IsUnfinished, Entry, end_of, Content, KeepsInvariant, Represents, blocks_to, IsAt}
 use Rattle.redo_undo.proofs.UndoSoFar.{UndoesSoFar}
 use Rattle.redo_undo.proofs.undo.undo_updates.Given as goal
 
@@ -10,8 +10,8 @@ invariant-loop-more g l =
       works : KeepsInvariant {T = Unit {0}} (Ok tt) l.fn.log l.log l.fn.pages l.pages old now;
       last : (l.fn.first.last ≤ l.at.last) × (l.at.last < end_of l.log);
       blocks : blocks_to l.log + l.more ≤ blocks_to l.fn.log + l.fn.count;
-      undone : (newest : Option Master) (records : List Entry) (table : List Content) (commits : ℕ) (x : Unfinished) → Represents l.fn.log l.fn.pages old newest records table commits → IsUnfinished records x → IsAt l.fn.first x →
-          UndoesSoFar l.log l.pages now newest records table commits x.txn l.at l.fn.log l.fn.pages old (length x.chain) l.fn.count l.more;
+      undone : (newest : Option Master) (records : List Entry) (history : History) (x : Unfinished) → Represents l.fn.log l.fn.pages old newest records history → IsUnfinished records x → IsAt l.fn.first x →
+          UndoesSoFar l.log l.pages now newest records history x.txn l.at l.fn.log l.fn.pages old (length x.chain) l.fn.count l.more;
     }
 
 abbrev pub decreases-loop-more : goal.decreases-loop-more

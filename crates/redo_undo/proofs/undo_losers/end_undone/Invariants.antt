@@ -1,4 +1,4 @@
-use Rattle.redo_undo.proofs.Names.{◌≡◌, ◌+◌, ◌-◌, ◌≤◌, ◌<◌, ℕ, List, [], Option, drop, Ok, LeavesSame, owed_for, listed, Master, Entry, end_of, PageStore, Content, KeepsInvariantBeside, Invariant, blocks_to, UndoesUpdates, IsUndoing}
+use Rattle.redo_undo.proofs.Names.{History, ◌≡◌, ◌+◌, ◌-◌, ◌≤◌, ◌<◌, ℕ, List, [], Option, drop, Ok, LeavesSame, owed_for, listed, Master, Entry, end_of, PageStore, Content, KeepsInvariantBeside, Invariant, blocks_to, UndoesUpdates, IsUndoing}
 use Rattle.redo_undo.proofs.Opens.{Waits}
 use Rattle.redo_undo.proofs.UndoneWork.{EndsMade}
 use Rattle.analysis.specs.Read as analysis
@@ -18,8 +18,8 @@ invariant-loop-txn g l =
       commits : l.found.commits ≡ l.fn.found.commits;
       blocks : blocks_to l.log + owed_for (listed l.found.table) ≤ blocks_to l.fn.log + owed_for (listed l.fn.found.table);
       fewer : owed_for (listed l.found.table) ≤ owed_for (listed l.fn.found.table);
-      updates : (pages : PageStore) (newest : Option Master) (records : List Entry) (table : List Content) (commits : ℕ) → Invariant l.fn.log pages old → IsUndoing l.fn.log pages old newest records table commits l.fn.found l.fn.known →
-          UndoesUpdates l.log pages now newest records table commits l.found l.last [];
-      ends : (pages : PageStore) (newest : Option Master) (records : List Entry) (table : List Content) (commits : ℕ) → Invariant l.fn.log pages old → IsUndoing l.fn.log pages old newest records table commits l.fn.found l.fn.known →
-          EndsMade l.fn.log l.log pages old now newest table commits (owed_for (listed l.fn.found.table) - owed_for (listed l.found.table)) (listed l.fn.found.table) (listed l.found.table);
+      updates : (pages : PageStore) (newest : Option Master) (records : List Entry) (history : History) → Invariant l.fn.log pages old → IsUndoing l.fn.log pages old newest records history l.fn.found l.fn.known →
+          UndoesUpdates l.log pages now newest records history l.found l.last [];
+      ends : (pages : PageStore) (newest : Option Master) (records : List Entry) (history : History) → Invariant l.fn.log pages old → IsUndoing l.fn.log pages old newest records history l.fn.found l.fn.known →
+          EndsMade l.fn.log l.log pages old now newest history (owed_for (listed l.fn.found.table) - owed_for (listed l.found.table)) (listed l.fn.found.table) (listed l.found.table);
     }

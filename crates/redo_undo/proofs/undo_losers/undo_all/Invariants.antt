@@ -1,4 +1,4 @@
-use Rattle.redo_undo.proofs.Names.{◌≡◌, ◌+◌, ◌-◌, ◌≤◌, ◌<◌, ℕ, List, false, Option, [], Ok, owed_for, IsOrder, IsTable, listed, Master, Entry, end_of, has_tail, Content, KeepsInvariant, Represents, blocks_to, Remain}
+use Rattle.redo_undo.proofs.Names.{History, ◌≡◌, ◌+◌, ◌-◌, ◌≤◌, ◌<◌, ℕ, List, false, Option, [], Ok, owed_for, IsOrder, IsTable, listed, Master, Entry, end_of, has_tail, Content, KeepsInvariant, Represents, blocks_to, Remain}
 use Rattle.redo_undo.proofs.UndoneUpdates.{UndoesSoFar}
 use Rattle.analysis.specs.Read as analysis
 use Rattle.redo_undo.proofs.undo_losers.undo_all.Given as goal
@@ -17,8 +17,8 @@ invariant-loop-next g l =
       blocks : blocks_to l.log + owed_for (listed l.found.table) ≤ blocks_to l.fn.log + owed_for (listed l.fn.found.table);
       fewer : owed_for (listed l.found.table) ≤ owed_for (listed l.fn.found.table);
       log_reads : now.log_reads + owed_for (listed l.found.table) ≤ old.log_reads + owed_for (listed l.fn.found.table);
-      so_far : (newest : Option Master) (records : List Entry) (table : List Content) (commits : ℕ) → has_tail l.fn.log ≡ false → Represents l.fn.log l.fn.pages old newest records table commits → IsTable [] records (listed l.fn.found.table) →
-          UndoesSoFar l.log l.pages now newest records table commits l.found l.known l.fn.log l.fn.pages old (owed_for (listed l.fn.found.table) - owed_for (listed l.found.table));
+      so_far : (newest : Option Master) (records : List Entry) (history : History) → has_tail l.fn.log ≡ false → Represents l.fn.log l.fn.pages old newest records history → IsTable [] records (listed l.fn.found.table) →
+          UndoesSoFar l.log l.pages now newest records history l.found l.known l.fn.log l.fn.pages old (owed_for (listed l.fn.found.table) - owed_for (listed l.found.table));
     }
 
 abbrev pub decreases-loop-next : goal.decreases-loop-next

@@ -1,4 +1,4 @@
-use Rattle.redo_undo.proofs.Names.{◌≢◌, ◌++◌, [], ◌∷◌, refl, drop, sym, subst, arith, ℕ, append-nil, List, ◌≡◌, ◌∙◌, ap, not, reverse, length, nat_eq, Option, Some, none-some, list_any, option_map, IsErrOf, if◌then◌else◌, Open, Replaces, TakesOut, LeavesSame, DropsOne, Remains, owed_for, found_in, loser_of, listed, Master, Entry, txn_of, is_of, pending, Content, if_ok_one, not_worn_either, works_of, IsLastAt, UndoesUpdates, Remain, HasNone, IsUndoing, none_remains, ends, err_as, of_error, ok_as, Flash, Log, Worn}
+use Rattle.redo_undo.proofs.Names.{History, ◌≢◌, ◌++◌, [], ◌∷◌, refl, drop, sym, subst, arith, ℕ, append-nil, List, ◌≡◌, ◌∙◌, ap, not, reverse, length, nat_eq, Option, Some, none-some, list_any, option_map, IsErrOf, if◌then◌else◌, Open, Replaces, TakesOut, LeavesSame, DropsOne, Remains, owed_for, found_in, loser_of, listed, Master, Entry, txn_of, is_of, pending, Content, if_ok_one, not_worn_either, works_of, IsLastAt, UndoesUpdates, Remain, HasNone, IsUndoing, none_remains, ends, err_as, of_error, ok_as, Flash, Log, Worn}
 use Rattle.redo_undo.proofs.UndoCalls.{undoes_few, undoes_as, undoes_then, undoes_stopped, few_taken}
 use Rattle.redo_undo.proofs.Opens.{still_remain, none_remains_of, others_remain, some_owed, left_then, of_found, drops_one, drops_as}
 use Rattle.redo_undo.proofs.Found.{last_known}
@@ -51,17 +51,17 @@ returns-clause-remain g c =
     c.end_one.ensures.takes
 
 pub returns-then-loser-gt1-clause-updates : goal.returns-then-loser-gt1-clause-updates
-returns-then-loser-gt1-clause-updates g c newest records table commits u h last =
-    c.in-Ok.ensures.updates newest records table commits c.args.known u h (subst (λ (t : ℕ). IsLastAt records t c.args.next.1 u) (sym (of_found (listed c.args.found.now.table) c.args.next.0 c.in-Some.loser c.in-Some.ensures.loser).1) last)
+returns-then-loser-gt1-clause-updates g c newest records history u h last =
+    c.in-Ok.ensures.updates newest records history c.args.known u h (subst (λ (t : ℕ). IsLastAt records t c.args.next.1 u) (sym (of_found (listed c.args.found.now.table) c.args.next.0 c.in-Some.loser c.in-Some.ensures.loser).1) last)
 
 pub returns-clause-updates : goal.returns-clause-updates
-returns-clause-updates g c newest records table commits u h last =
-    let first = c.in-Ok.ensures.updates newest records table commits c.args.known u h (subst (λ (t : ℕ). IsLastAt records t c.args.next.1 u) (sym (of_found (listed c.args.found.now.table) c.args.next.0 c.in-Some.loser c.in-Some.ensures.loser).1) last) in
+returns-clause-updates g c newest records history u h last =
+    let first = c.in-Ok.ensures.updates newest records history c.args.known u h (subst (λ (t : ℕ). IsLastAt records t c.args.next.1 u) (sym (of_found (listed c.args.found.now.table) c.args.next.0 c.in-Some.loser c.in-Some.ensures.loser).1) last) in
     if_ok_one c.end_one.result
-    (λ lsn. UndoesUpdates c.end_one.new.log _ _ newest (records ++ first.some.more) table commits c.end_one.new.found lsn [])
-    (λ lsn. UndoesUpdates c.end_one.new.log _ _ newest records table commits c.end_one.new.found lsn (u ∷ []))
-    (λ lsn second. more_updates c.undo_greatest.new.log c.end_one.new.log _ _ _ _ newest records table commits c.undo_greatest.new.found c.end_one.new.found c.in-Ok.last lsn (u ∷ []) [] first second)
-    (c.end_one.ensures.updates _ newest (records ++ first.some.more) table commits c.in-Ok.last c.in-Ok.ensures.works.going.sizes first.some.now)
+    (λ lsn. UndoesUpdates c.end_one.new.log _ _ newest (records ++ first.some.more) history c.end_one.new.found lsn [])
+    (λ lsn. UndoesUpdates c.end_one.new.log _ _ newest records history c.end_one.new.found lsn (u ∷ []))
+    (λ lsn second. more_updates c.undo_greatest.new.log c.end_one.new.log _ _ _ _ newest records history c.undo_greatest.new.found c.end_one.new.found c.in-Ok.last lsn (u ∷ []) [] first second)
+    (c.end_one.ensures.updates _ newest (records ++ first.some.more) history c.in-Ok.last c.in-Ok.ensures.works.going.sizes first.some.now)
 
 pub returns-clause-log_reads : goal.returns-clause-log_reads
 returns-clause-log_reads g c = let one = c.in-Ok.ensures.log_reads in omega (arith, one, c.end_one.ensures.works.reads Log)
@@ -74,53 +74,53 @@ returns-clause-works g c =
 
 -- What it makes of the machine.
 
-module _ (g : Over) (c : In-Ok g) (newest : Option Master) (records : List Entry) (table : List Content) (commits : ℕ) (u : Entry) (earlier : List Entry)
-    (h : IsUndoing c.args.log.now c.args.pages.now (g.S.Site.state c.args.site.now) newest records table commits c.args.found.now c.args.known)
+module _ (g : Over) (c : In-Ok g) (newest : Option Master) (records : List Entry) (history : History) (u : Entry) (earlier : List Entry)
+    (h : IsUndoing c.args.log.now c.args.pages.now (g.S.Site.state c.args.site.now) newest records history c.args.found.now c.args.known)
     (last : IsLastAt records c.args.next.0 c.args.next.1 u) (all : reverse (pending records) ≡ u ∷ earlier) where
   last' : IsLastAt records c.in-Some.loser.txn c.args.next.1 u
   last' = subst (λ (t : ℕ). IsLastAt records t c.args.next.1 u) (sym (of_found (listed c.args.found.now.table) c.args.next.0 c.in-Some.loser c.in-Some.ensures.loser).1) last
 
-  first : UndoesUpdates c.undo_greatest.new.log c.undo_greatest.new.pages (g.S.Site.state c.undo_greatest.new.site) newest records table commits c.undo_greatest.new.found c.in-Ok.last (u ∷ [])
-  first = c.in-Ok.ensures.updates newest records table commits c.args.known u h last'
+  first : UndoesUpdates c.undo_greatest.new.log c.undo_greatest.new.pages (g.S.Site.state c.undo_greatest.new.site) newest records history c.undo_greatest.new.found c.in-Ok.last (u ∷ [])
+  first = c.in-Ok.ensures.updates newest records history c.args.known u h last'
 
   -- whether its transaction has one of the earlier Updates is whether analysis has one of it
   pub waits : (x : Open) → found_in (listed c.undo_greatest.new.found.table) (txn_of u) ≡ Some x → list_any (is_of (txn_of u)) earlier ≡ not (none_remains x)
-  waits x there = waits_where c.table_of_records.ensures.active c.undo_greatest.new.log c.undo_greatest.new.pages (g.S.Site.state c.undo_greatest.new.site) newest records table commits c.undo_greatest.new.found c.in-Ok.last u earlier all first x there
+  waits x there = waits_where c.table_of_records.ensures.active c.undo_greatest.new.log c.undo_greatest.new.pages (g.S.Site.state c.undo_greatest.new.site) newest records history c.undo_greatest.new.found c.in-Ok.last u earlier all first x there
 
   pub own : txn_of u ≡ c.args.next.0
   own = last.own
 
 pub returns-in_default-clause-does : goal.returns-in_default-clause-does
-returns-in_default-clause-does g c newest records table commits u earlier h last all =
+returns-in_default-clause-does g c newest records history u earlier h last all =
     absurd (none-some (loser_of c.requires.greatest.x) (sym c.in_default.is ∙ c.loser.ensures.loser ∙ ap (option_map loser_of) c.requires.greatest.there))
 
 pub returns-then-loser-known-clause-does : goal.returns-then-loser-known-clause-does
-returns-then-loser-known-clause-does g c newest records table commits u earlier h last all =
-    let less = last_known c.table_of_records.ensures.active c.args.log.now c.args.pages.now (g.S.Site.state c.args.site.now) newest records table commits c.args.found.now h.holds h.analysis c.args.known c.in-Some.loser h.up_to (of_found (listed c.args.found.now.table) c.args.next.0 c.in-Some.loser c.in-Some.ensures.loser).0 in
+returns-then-loser-known-clause-does g c newest records history u earlier h last all =
+    let less = last_known c.table_of_records.ensures.active c.args.log.now c.args.pages.now (g.S.Site.state c.args.site.now) newest records history c.args.found.now h.holds h.analysis c.args.known c.in-Some.loser h.up_to (of_found (listed c.args.found.now.table) c.args.next.0 c.in-Some.loser c.in-Some.ensures.loser).0 in
     absurd (omega (arith, less, c.if-loser-known.true))
 
 pub returns-in-Err-clause-does : goal.returns-in-Err-clause-does
-returns-in-Err-clause-does g c newest records table commits u earlier h last all =
+returns-in-Err-clause-does g c newest records history u earlier h last all =
     undoes_few (some_owed (listed c.args.found.now.table) c.args.next.0 c.requires.greatest.x c.requires.greatest.there) (omega arith) (undoes_as refl (sym (append-nil (works_of (u ∷ []))))
-    (undoes_stopped (if list_any (is_of (txn_of u)) earlier then [] else ends) [] c.requires.going (c.in-Err.ensures.does newest records table commits c.args.known u h (subst (λ (t : ℕ). IsLastAt records t c.args.next.1 u) (sym (of_found (listed c.args.found.now.table) c.args.next.0 c.in-Some.loser c.in-Some.ensures.loser).1) last))))
+    (undoes_stopped (if list_any (is_of (txn_of u)) earlier then [] else ends) [] c.requires.going (c.in-Err.ensures.does newest records history c.args.known u h (subst (λ (t : ℕ). IsLastAt records t c.args.next.1 u) (sym (of_found (listed c.args.found.now.table) c.args.next.0 c.in-Some.loser c.in-Some.ensures.loser).1) last))))
 
 pub returns-then-loser-gt1-clause-does : goal.returns-then-loser-gt1-clause-does
-returns-then-loser-gt1-clause-does g c newest records table commits u earlier h last all =
+returns-then-loser-gt1-clause-does g c newest records history u earlier h last all =
     let s = (goal.at.returns-then-loser-gt1-clause-does g c).In-Ok in
     let left = left_then (listed c.args.found.now.table) (listed c.undo_greatest.new.found.table) c.in-Some.loser c.in-Ok.last c.requires.found (of_found (listed c.args.found.now.table) c.args.next.0 c.in-Some.loser c.in-Some.ensures.loser).0 (omega (arith, c.if-loser-gt1.true)) c.in-Ok.ensures.replaces c.undo_greatest.ensures.found.going in
     let there : found_in (listed c.undo_greatest.new.found.table) (txn_of u) ≡ Some left.0 = ap (found_in (listed c.undo_greatest.new.found.table)) (last.own ∙ sym (of_found (listed c.args.found.now.table) c.args.next.0 c.in-Some.loser c.in-Some.ensures.loser).1) ∙ left.1 in
-    undoes_few (omega (arith, c.in-Ok.ensures.owed)) (omega arith) (undoes_as (without_end u earlier (waits g s newest records table commits u earlier h last all left.0 there ∙ ap not left.2)) refl
-    (c.in-Ok.ensures.does newest records table commits c.args.known u h (last' g s newest records table commits u earlier h last all)))
+    undoes_few (omega (arith, c.in-Ok.ensures.owed)) (omega arith) (undoes_as (without_end u earlier (waits g s newest records history u earlier h last all left.0 there ∙ ap not left.2)) refl
+    (c.in-Ok.ensures.does newest records history c.args.known u h (last' g s newest records history u earlier h last all)))
 
 pub returns-clause-does : goal.returns-clause-does
-returns-clause-does g c newest records table commits u earlier h last all =
+returns-clause-does g c newest records history u earlier h last all =
     let s = (goal.at.returns-clause-does g c).In-Ok in
     let none = none_remains_of (listed c.args.found.now.table) (listed c.undo_greatest.new.found.table) c.in-Some.loser c.in-Ok.last c.requires.found c.undo_greatest.ensures.found.going (of_found (listed c.args.found.now.table) c.args.next.0 c.in-Some.loser c.in-Some.ensures.loser).0 (omega (arith, c.if-loser-gt1.false)) c.in-Ok.ensures.replaces in
     let there : found_in (listed c.undo_greatest.new.found.table) (txn_of u) ≡ Some none.x = ap (found_in (listed c.undo_greatest.new.found.table)) (last.own ∙ sym (of_found (listed c.args.found.now.table) c.args.next.0 c.in-Some.loser c.in-Some.ensures.loser).1) ∙ none.there in
     let owes = some_owed (listed c.undo_greatest.new.found.table) c.in-Some.loser.txn none.x none.there in
-    let first = first g s newest records table commits u earlier h last all in
+    let first = first g s newest records history u earlier h last all in
     let works = c.in-Ok.ensures.works in
     undoes_few (few_taken c.end_one.result 2 (owed_for (listed c.args.found.now.table)) (owed_for (listed c.end_one.new.found.table)) (omega (arith, owes, c.in-Ok.ensures.owed)) (ok_as c.end_one.result _ _ (λ falls. omega (arith, falls, c.in-Ok.ensures.owed)) c.end_one.ensures.falls)) (omega arith)
-    (undoes_as (with_end u earlier (waits g s newest records table commits u earlier h last all none.x there ∙ ap (λ (l : List ℕ). not (nat_eq (length l) 0)) none.none)) (sym (append-nil (works_of (u ∷ []))))
-    (undoes_then h.holds works (c.in-Ok.ensures.does newest records table commits c.args.known u h (last' g s newest records table commits u earlier h last all))
-    (c.end_one.ensures.does c.undo_greatest.new.pages newest (records ++ first.some.more) table commits c.in-Ok.last works.going first.some.now)))
+    (undoes_as (with_end u earlier (waits g s newest records history u earlier h last all none.x there ∙ ap (λ (l : List ℕ). not (nat_eq (length l) 0)) none.none)) (sym (append-nil (works_of (u ∷ []))))
+    (undoes_then h.holds works (c.in-Ok.ensures.does newest records history c.args.known u h (last' g s newest records history u earlier h last all))
+    (c.end_one.ensures.does c.undo_greatest.new.pages newest (records ++ first.some.more) history c.in-Ok.last works.going first.some.now)))

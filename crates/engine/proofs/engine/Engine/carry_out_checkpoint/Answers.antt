@@ -1,4 +1,5 @@
 use Rattle.engine.proofs.Names.{◌≤◌, ◌+◌, ◌∙◌, List, refl, sym, ap, subst, arith, ℕ, Ok, option_map, Pair, sizes_of, LeavesTable, first_block, asks_ok, MayBeMade, begins_of, blocks_to, checkpoint_works, next_answered, keeps_answered, keeps_failed, Keeps, HasCheckpoint, performs_answered, stays_honest, calls_answered, counted_from}
+use Rattle.redo_laws.specs.Running.{settled}
 use Rattle.std.proofs.Common.{Err}
 use Rattle.engine.proofs.Keeping.{LetsGo, lets_go}
 use Rattle.engine.proofs.Checkpoints.{may_be_made, goes_on, fits_after}
@@ -38,7 +39,7 @@ returns-in-Ok g c =
       locks = refl;
       absent = λ n none. c.count_from.ensures.entries n ∙ ap (option_map (counted_from c.unwrap_or-first.result)) none;
       does = λ s fits.
-          let holds = subst (λ (n : ℕ). both.Represents engine.store.log engine.store.pages old fits.newest fits.records s.table n) (sym fits.counts.commits) fits.holds.both in
+          let holds = subst (λ (n : ℕ). both.Represents engine.store.log engine.store.pages old fits.newest fits.records (settled s.table n)) (sym fits.counts.commits) fits.holds.both in
           let may = subst (MayBeMade engine.store.masters old fits.records) (sym c.named-named.ensures.named) (may_be_made engine old s fits c.requires.going.table) in
           let made = c.in-Ok.ensures.checkpoint fits.newest fits.records s.table holds may in
           let has = subst (λ (n : ℕ). HasCheckpoint c.checkpoint.new.self new fits.records s.table n c.named-named.result) fits.counts.commits made in
@@ -61,7 +62,7 @@ returns-in-Ok g c =
           };
       asks = asks_ok c.in-Ok.field-0 _ checkpoint_works _ _ _ _ c.in-Ok.ensures.asks;
       performs = λ s fits.
-          performs_answered (c.in-Ok.ensures.performs fits.newest fits.records s.table (subst (λ (n : ℕ). both.Represents engine.store.log engine.store.pages old fits.newest fits.records s.table n) (sym fits.counts.commits) fits.holds.both));
+          performs_answered (c.in-Ok.ensures.performs fits.newest fits.records s.table (subst (λ (n : ℕ). both.Represents engine.store.log engine.store.pages old fits.newest fits.records (settled s.table n)) (sym fits.counts.commits) fits.holds.both));
     }
 
 pub returns-in-Err-clause-does : goal.returns-in-Err-clause-does
@@ -69,7 +70,7 @@ returns-in-Err-clause-does g c s fits =
     let engine = c.args.self.now in
     let old = g.S.Site.state c.args.site.now in
     let new = g.S.Site.state c.checkpoint.new.site in
-    let holds = subst (λ (n : ℕ). both.Represents engine.store.log engine.store.pages old fits.newest fits.records s.table n) (sym fits.counts.commits) fits.holds.both in
+    let holds = subst (λ (n : ℕ). both.Represents engine.store.log engine.store.pages old fits.newest fits.records (settled s.table n)) (sym fits.counts.commits) fits.holds.both in
     let may = subst (MayBeMade engine.store.masters old fits.records) (sym c.named-named.ensures.named) (may_be_made engine old s fits c.requires.going.table) in
     does_of (omega arith) tt
     (keeps_failed (subst (λ (n : ℕ). Keeps {T = Unit {0}} (Err c.in-Err.stop) engine.store c.checkpoint.new.self old new (LeavesTable (sizes_of engine.store) s.table n old.told) 0 1) fits.counts.commits (c.in-Err.ensures.keeps fits.newest fits.records s.table holds may)))
@@ -78,4 +79,4 @@ pub returns-in-Err-clause-performs : goal.returns-in-Err-clause-performs
 returns-in-Err-clause-performs g c s fits =
     let engine = c.args.self.now in
     let old = g.S.Site.state c.args.site.now in
-    c.in-Err.ensures.performs fits.newest fits.records s.table (subst (λ (n : ℕ). both.Represents engine.store.log engine.store.pages old fits.newest fits.records s.table n) (sym fits.counts.commits) fits.holds.both)
+    c.in-Err.ensures.performs fits.newest fits.records s.table (subst (λ (n : ℕ). both.Represents engine.store.log engine.store.pages old fits.newest fits.records (settled s.table n)) (sym fits.counts.commits) fits.holds.both)

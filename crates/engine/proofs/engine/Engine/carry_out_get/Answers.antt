@@ -1,3 +1,4 @@
+use Rattle.redo_laws.specs.Running.{settled}
 use Rattle.engine.proofs.Names.{◌≡◌, ◌*◌, ◌<◌, None, refl, sym, ap, ◌∙◌, arith, ◌/◌, sizes_of, Matches, Engine, found, asks_ok, one_touch, keeps_failed, keeps_answered, works_answered, performs_failed, performs_answered, stays_honest, Geometry}
 use Rattle.engine.proofs.Meanings.{busy_read_is, got_is}
 use Rattle.engine.proofs.Writes.{touched_fits}
@@ -16,7 +17,7 @@ returns-in-Ok g c =
           let holds = c.in-Ok.ensures.holds fits.newest fits.records s.table s.commits fits.holds in
           let fits_mid : Matches mid _ s = touched_fits engine c.touch.new.self _ _ s fits (stays_honest _ _ c.touch.ensures.works.calls.preserves fits.honest) holds c.touch.ensures.made in
           let free : model.busy_read s None number ≡ None = sym (busy_read_is engine.locks s fits.locks_are None number) ∙ c.requires.may.free in
-          c.found.ensures ∙ ap found (c.shown.ensures.shown _ fits.newest fits.records s.table s.commits holds ∙ sym (got_is mid _ s fits_mid number c.requires.going.table less free));
+          c.found.ensures ∙ ap found (c.shown.ensures.shown _ fits.newest fits.records (settled s.table s.commits) holds ∙ sym (got_is mid _ s fits_mid number c.requires.going.table less free));
       does = λ s fits.
           let holds = c.in-Ok.ensures.holds fits.newest fits.records s.table s.commits fits.holds in
           does_of (omega arith) (touched_fits c.args.self.now c.touch.new.self _ _ s fits (stays_honest _ _ c.touch.ensures.works.calls.preserves fits.honest) holds c.touch.ensures.made)

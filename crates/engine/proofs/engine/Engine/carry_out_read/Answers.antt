@@ -1,3 +1,4 @@
+use Rattle.redo_laws.specs.Running.{settled}
 use Rattle.engine.proofs.Names.{◌≡◌, ◌*◌, ◌<◌, None, Some, refl, sym, ap, ◌∙◌, arith, ◌/◌, rules, sizes_of, Matches, Engine, asks_ok, one_touch, keeps_failed, keeps_answered, keeps_no_memory, works_answered, performs_answered, performs_failed, performs_refused, stays_honest, Geometry}
 use Rattle.engine.proofs.FootprintChanges.{locked_read}
 use Rattle.engine.proofs.Meanings.{busy_read_is, seen_is}
@@ -21,7 +22,7 @@ returns-in-Ok-add g c =
           let holds = c.in-Ok.ensures.holds fits.newest fits.records s.table s.commits fits.holds in
           let fits_mid : Matches mid _ s = touched_fits engine c.touch.new.self _ _ s fits (stays_honest _ _ c.touch.ensures.works.calls.preserves fits.honest) holds c.touch.ensures.made in
           let free : model.busy_read s (Some n) number ≡ None = sym (busy_read_is engine.locks s fits.locks_are (Some n) number) ∙ c.requires.may.shown.free in
-          c.shown.ensures.shown _ fits.newest fits.records s.table s.commits holds ∙ sym (seen_is mid _ s fits_mid n number own.own c.requires.going.table less own.is free);
+          c.shown.ensures.shown _ fits.newest fits.records (settled s.table s.commits) holds ∙ sym (seen_is mid _ s fits_mid n number own.own c.requires.going.table less own.is free);
       does = λ s fits.
           let holds = c.in-Ok.ensures.holds fits.newest fits.records s.table s.commits fits.holds in
           let fits_mid : Matches mid _ s = touched_fits engine c.touch.new.self _ _ s fits (stays_honest _ _ c.touch.ensures.works.calls.preserves fits.honest) holds c.touch.ensures.made in

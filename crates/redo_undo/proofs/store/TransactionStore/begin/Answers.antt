@@ -1,20 +1,23 @@
-use Rattle.redo_undo.proofs.Names.{refl, ℕ, ◌+◌, Ok, IsTrue, under_leaves_for, next_logged, stages_ok, stages_err, asks_nothing, stages_log, KeepsNext, no_error}
+use Rattle.redo_undo.proofs.Names.{History, settled, refl, ℕ, ◌+◌, Ok, IsTrue, next_logged, stages_ok, stages_err, asks_nothing, stages_log, KeepsNext, no_error}
 use Rattle.std.proofs.Common.{rules}
 use Rattle.redo_undo.proofs.Calling.{keeps_appended, works_appended}
 use Rattle.redo_undo.proofs.NextUnits.{store_next}
-use Rattle.redo_undo.proofs.StoreCalling.{keeps_of, works_at_error}
-use Rattle.redo_undo.proofs.Saved.{finds_kept}
+use Rattle.redo_undo.proofs.StoreCalling.{keeps_settled, keeps_of, works_at_error}
+use Rattle.redo_undo.proofs.Saved.{some_leaves_for, finds_kept}
 use Rattle.redo_undo.proofs.MirroringStores.{store_performs}
 use Rattle.redo_undo.proofs.store.TransactionStore.begin.Goals as goal
 
-pub returns-in-Ok-clause-holds : goal.returns-in-Ok-clause-holds
-returns-in-Ok-clause-holds g c newest records table commits h = λ may.
+pub returns-in-Ok-clause-holds_over : goal.returns-in-Ok-clause-holds_over
+returns-in-Ok-clause-holds_over g c newest records history h = λ may.
     let going = c.requires.may.going in
     record {
-      both = c.in-Ok.ensures.holds c.args.self.now.pages newest records table commits going.both.sizes h.both refl may;
-      orderly = c.in-Ok.ensures.orderly c.args.self.now.pages newest records table commits going.both.sizes h.both may h.orderly;
-      masters = finds_kept c.args.self.now.masters (g.S.Site.state c.args.site.now) (g.S.Site.state c.log_record.new.site) going.shape ((c.in-Ok.ensures.keeps c.args.self.now.pages newest records table commits h.both).masters) h.masters;
+      both = c.in-Ok.ensures.holds c.args.self.now.pages newest records history going.both.sizes h.both refl may;
+      orderly = c.in-Ok.ensures.orderly c.args.self.now.pages newest records history going.both.sizes h.both may h.orderly;
+      masters = finds_kept c.args.self.now.masters (g.S.Site.state c.args.site.now) (g.S.Site.state c.log_record.new.site) going.shape ((c.in-Ok.ensures.keeps c.args.self.now.pages newest records history h.both).masters) h.masters;
     }
+
+pub returns-in-Ok-clause-holds : goal.returns-in-Ok-clause-holds
+returns-in-Ok-clause-holds g c newest records table commits = returns-in-Ok-clause-holds_over g c newest records (settled table commits)
 
 pub returns-in-Ok-clause-asks : goal.returns-in-Ok-clause-asks
 returns-in-Ok-clause-asks g c = asks_nothing _ c.args.self.now.pages _ _ c.log_record.ensures.works.reads (stages_ok (stages_log c.in-Ok.ensures.works))
@@ -22,13 +25,19 @@ returns-in-Ok-clause-asks g c = asks_nothing _ c.args.self.now.pages _ _ c.log_r
 pub returns-in-Err-clause-asks : goal.returns-in-Err-clause-asks
 returns-in-Err-clause-asks g c = asks_nothing _ c.args.self.now.pages _ _ c.log_record.ensures.works.reads (stages_err (stages_log c.in-Err.ensures.works))
 
+pub returns-in-Ok-clause-keeps_over : goal.returns-in-Ok-clause-keeps_over
+returns-in-Ok-clause-keeps_over g c newest records history h =
+    keeps_of (some_leaves_for newest _ _ _ history _) (keeps_appended c.requires.may.going.both tt (c.in-Ok.ensures.keeps c.args.self.now.pages newest records history h.both))
+
 pub returns-in-Ok-clause-keeps : goal.returns-in-Ok-clause-keeps
-returns-in-Ok-clause-keeps g c newest records table commits h =
-    keeps_of (under_leaves_for newest _ _ _ table commits _) (keeps_appended c.requires.may.going.both tt (c.in-Ok.ensures.keeps c.args.self.now.pages newest records table commits h.both))
+returns-in-Ok-clause-keeps g c newest records table commits h = keeps_settled (returns-in-Ok-clause-keeps_over g c newest records (settled table commits) h)
+
+pub returns-in-Err-clause-keeps_over : goal.returns-in-Err-clause-keeps_over
+returns-in-Err-clause-keeps_over g c newest records history h =
+    keeps_of (some_leaves_for newest _ _ _ history _) (keeps_appended c.requires.may.going.both c.in-Err.ensures.stops (c.in-Err.ensures.keeps c.args.self.now.pages newest records history h.both))
 
 pub returns-in-Err-clause-keeps : goal.returns-in-Err-clause-keeps
-returns-in-Err-clause-keeps g c newest records table commits h =
-    keeps_of (under_leaves_for newest _ _ _ table commits _) (keeps_appended c.requires.may.going.both c.in-Err.ensures.stops (c.in-Err.ensures.keeps c.args.self.now.pages newest records table commits h.both))
+returns-in-Err-clause-keeps g c newest records table commits h = keeps_settled (returns-in-Err-clause-keeps_over g c newest records (settled table commits) h)
 
 pub returns-in-Ok-clause-works : goal.returns-in-Ok-clause-works
 returns-in-Ok-clause-works g c =
@@ -41,8 +50,14 @@ returns-in-Ok-clause-works g c =
 pub returns-in-Err-clause-works : goal.returns-in-Err-clause-works
 returns-in-Err-clause-works g c = works_at_error c.requires.may.going refl (works_appended c.requires.may.going.both tt c.in-Err.ensures.stops c.in-Err.ensures.works)
 
+pub returns-in-Ok-clause-performs_over : goal.returns-in-Ok-clause-performs_over
+returns-in-Ok-clause-performs_over g c newest records history h = store_performs refl refl (c.in-Ok.ensures.performs c.args.self.now.pages newest records history c.requires.may.going.both h.both)
+
 pub returns-in-Ok-clause-performs : goal.returns-in-Ok-clause-performs
-returns-in-Ok-clause-performs g c newest records table commits h = store_performs refl refl (c.in-Ok.ensures.performs c.args.self.now.pages newest records table commits c.requires.may.going.both h.both)
+returns-in-Ok-clause-performs g c newest records table commits = returns-in-Ok-clause-performs_over g c newest records (settled table commits)
+
+pub returns-in-Err-clause-performs_over : goal.returns-in-Err-clause-performs_over
+returns-in-Err-clause-performs_over g c newest records history h = store_performs refl refl (c.in-Err.ensures.performs c.args.self.now.pages newest records history c.requires.may.going.both h.both)
 
 pub returns-in-Err-clause-performs : goal.returns-in-Err-clause-performs
-returns-in-Err-clause-performs g c newest records table commits h = store_performs refl refl (c.in-Err.ensures.performs c.args.self.now.pages newest records table commits c.requires.may.going.both h.both)
+returns-in-Err-clause-performs g c newest records table commits = returns-in-Err-clause-performs_over g c newest records (settled table commits)

@@ -1,6 +1,6 @@
-use Rattle.redo_undo.proofs.Names.{◌≡◌, ◌-◌, refl, ap, arith, ◌≤◌, ◌∙◌, ℕ, List, ◌∷◌, [], sym, Ok, IsTrue, ⊤, Result, Master, under_leaves_for, LeavesFor, LeavesTableUnder, Entry, LogStore, next_logged, next_then, stages_ok, stages_err, stages_beside, rules, current, Content, flush, current_same, stages_log, never_worn_flash, asks_around, flush_then, asks_refused, log_alone, MayBeMade, checkpoint_works, MirrorsStore, KeepsNext, TransactionStore, performs_by, performs_then, performs_stopped, cached, force, save, Performs, stays_honest, no_error, calls_then, err_again, State, Log, Stop, Worn}
+use Rattle.redo_undo.proofs.Names.{settled, ◌≡◌, ◌-◌, refl, ap, arith, ◌≤◌, ◌∙◌, ℕ, List, ◌∷◌, [], sym, Ok, IsTrue, ⊤, Result, Master, LeavesFor, LeavesSomeUnder, Entry, LogStore, next_logged, next_then, stages_ok, stages_err, stages_beside, rules, current, Content, flush, current_same, stages_log, never_worn_flash, asks_around, flush_then, asks_refused, log_alone, MayBeMade, checkpoint_works, MirrorsStore, KeepsNext, TransactionStore, performs_by, performs_then, performs_stopped, cached, force, save, Performs, stays_honest, no_error, calls_then, err_again, State, Log, Stop, Worn}
 use Rattle.std.proofs.Common.{Err}
-use Rattle.redo_undo.proofs.Saved.{may_still}
+use Rattle.redo_undo.proofs.Saved.{settled_leaves_for, may_still}
 use Rattle.redo_undo.proofs.Calling.{log_stops, keeps_answered, keeps_failed, keeps_appended, keeps_saved, keeps_then, keeps_unsaved}
 use Rattle.redo_undo.proofs.StoreCalling.{keeps_of}
 use Rattle.std.specs.Prelude.{Option}
@@ -29,22 +29,22 @@ module _ (g : Over) (c : After-save_master g) (honest : IsTrue (g.S.Site.state c
       store_next c.requires.going.both.sizes refl tt
       (next_then works.geometry refl (next_logged (works.next honest) (works.changes honest) (λ says. no_error says)) (c.in-Ok-flush.ensures.works.next honest_mid))
 
-module _ (g : Over) (c : After-save_master g) (newest : Option Master) (records : List Entry) (table : List Content) (h : both.Represents c.args.self.now.log c.args.self.now.pages (g.S.Site.state c.args.site.now) newest records table c.args.commits) where
+module _ (g : Over) (c : After-save_master g) (newest : Option Master) (records : List Entry) (table : List Content) (h : both.Represents c.args.self.now.log c.args.self.now.pages (g.S.Site.state c.args.site.now) newest records (settled table c.args.commits)) where
   abbrev mid : TransactionStore
   mid = record c.args.self.now { log = c.force.new.log }
 
   abbrev before_save : TransactionStore
   before_save = record c.args.self.now { log = c.flush.new.log; pages = c.flush.new.pages }
 
-  held : both.Represents c.force.new.log c.args.self.now.pages (g.S.Site.state c.force.new.site) newest records table c.args.commits
-  held = c.in-Ok.ensures.holds c.args.self.now.pages newest records table c.args.commits c.requires.going.both.sizes h
+  held : both.Represents c.force.new.log c.args.self.now.pages (g.S.Site.state c.force.new.site) newest records (settled table c.args.commits)
+  held = c.in-Ok.ensures.holds c.args.self.now.pages newest records (settled table c.args.commits) c.requires.going.both.sizes h
 
   honest : IsTrue (g.S.Site.state c.args.site.now).honest
   honest = h.log_holds.ready.blocks.honest
 
   pub two_first : Performs {T = Unit {0}} (Ok tt) (rules c.args.self.now.pages) (force ∷ cached flush ∷ []) (MirrorsStore c.args.self.now (g.S.Site.state c.args.site.now).image) (MirrorsStore before_save (g.S.Site.state c.flush.new.site).image)
-  two_first = performs_then (store_performs {old = c.args.self.now} {new = mid} refl refl (c.in-Ok.ensures.performs c.args.self.now.pages newest records table c.args.commits c.requires.going.both h))
-      (store_performs {old = mid} {new = before_save} refl refl (c.in-Ok-flush.ensures.performs newest records table c.args.commits held))
+  two_first = performs_then (store_performs {old = c.args.self.now} {new = mid} refl refl (c.in-Ok.ensures.performs c.args.self.now.pages c.requires.going.both h.log_holds.ready.blocks.honest h.below))
+      (store_performs {old = mid} {new = before_save} refl refl (c.in-Ok-flush.ensures.performs newest records (settled table c.args.commits) held))
 
   pub same_pages : (page : ℕ) → current c.flush.new.pages (g.S.Site.state c.save_master.new.site).image page ≡ current c.flush.new.pages (g.S.Site.state c.flush.new.site).image page
   same_pages = current_same c.flush.new.pages (g.S.Site.state c.flush.new.site) (g.S.Site.state c.save_master.new.site) (c.save_master.ensures.changes (honest_then g c honest))
@@ -52,13 +52,13 @@ module _ (g : Over) (c : After-save_master g) (newest : Option Master) (records 
   abbrev still : State
   still = g.S.Site.state c.flush.new.site
 
-  flushed_still : both.Represents c.flush.new.log c.flush.new.pages still newest records table c.args.commits
-  flushed_still = c.in-Ok-flush.ensures.holds newest records table c.args.commits held
+  flushed_still : both.Represents c.flush.new.log c.flush.new.pages still newest records (settled table c.args.commits)
+  flushed_still = c.in-Ok-flush.ensures.holds newest records (settled table c.args.commits) held
 
-  first_kept : calls.Keeps {T = Unit {0}} (Ok tt) c.args.self.now.pages.flash.geometry c.args.self.now.log c.flush.new.log (g.S.Site.state c.args.site.now) still (LeavesTableUnder newest c.args.self.now.pages.flash.geometry table c.args.commits (g.S.Site.state c.args.site.now).told) 0 0
+  first_kept : calls.Keeps {T = Unit {0}} (Ok tt) c.args.self.now.pages.flash.geometry c.args.self.now.log c.flush.new.log (g.S.Site.state c.args.site.now) still (LeavesSomeUnder newest c.args.self.now.pages.flash.geometry (settled table c.args.commits) (g.S.Site.state c.args.site.now).told) 0 0
   first_kept =
-      keeps_then honest refl refl c.in-Ok.ensures.works.calls (keeps_appended c.requires.going.both tt (c.in-Ok.ensures.keeps c.args.self.now.pages newest records table c.args.commits h))
-      (c.in-Ok-flush.ensures.keeps newest records table c.args.commits held)
+      keeps_then honest refl refl c.in-Ok.ensures.works.calls (keeps_appended c.requires.going.both tt (c.in-Ok.ensures.keeps c.args.self.now.pages newest records (settled table c.args.commits) h))
+      (c.in-Ok-flush.ensures.keeps newest records (settled table c.args.commits) held)
 
   pub may_save : MayBeMade c.args.self.now.masters (g.S.Site.state c.args.site.now) records c.args.active → MayBeMade c.args.self.now.masters still records c.args.active
   may_save may = may_still c.args.self.now.masters (g.S.Site.state c.args.site.now) still records c.args.active c.requires.going.shape (first_kept.masters refl) may
@@ -68,7 +68,7 @@ module _ (g : Over) (c : After-save_master g) (newest : Option Master) (records 
       calls.Keeps r c.args.self.now.pages.flash.geometry c.args.self.now.log log (g.S.Site.state c.args.site.now) new (LeavesFor c.args.self.now.pages.flash.geometry table c.args.commits (g.S.Site.state c.args.site.now).told) 0 1
   saved_behind second =
       keeps_saved honest c.flush.ensures.works.geometry (calls_then c.in-Ok.ensures.works.calls c.in-Ok-flush.ensures.works.calls)
-      (under_leaves_for newest c.args.self.now.pages.flash.geometry (g.S.Site.state c.args.site.now) still table c.args.commits (g.S.Site.state c.args.site.now).told) first_kept second
+      (settled_leaves_for newest c.args.self.now.pages.flash.geometry (g.S.Site.state c.args.site.now) still table c.args.commits (g.S.Site.state c.args.site.now).told) first_kept second
 
 pub returns-in-Ok-save_master-clause-checkpoint : goal.returns-in-Ok-save_master-clause-checkpoint
 returns-in-Ok-save_master-clause-checkpoint g c newest records table h may =
@@ -85,18 +85,18 @@ pub returns-in-Err-clause-keeps : goal.returns-in-Err-clause-keeps
 returns-in-Err-clause-keeps g c newest records table h may =
     let old = g.S.Site.state c.args.site.now in
     let pages = c.args.self.now.pages in
-    keeps_of (λ leaves. leaves) (keeps_unsaved (under_leaves_for newest pages.flash.geometry old (g.S.Site.state c.force.new.site) table c.args.commits old.told)
-    (keeps_appended c.requires.going.both c.in-Err.ensures.stops (c.in-Err.ensures.keeps pages newest records table c.args.commits h)))
+    keeps_of (λ leaves. leaves) (keeps_unsaved (settled_leaves_for newest pages.flash.geometry old (g.S.Site.state c.force.new.site) table c.args.commits old.told)
+    (keeps_appended c.requires.going.both c.in-Err.ensures.stops (c.in-Err.ensures.keeps pages newest records (settled table c.args.commits) h)))
 
 pub returns-in-Err-flush-clause-keeps : goal.returns-in-Err-flush-clause-keeps
 returns-in-Err-flush-clause-keeps g c newest records table h may =
     let old = g.S.Site.state c.args.site.now in
     let pages = c.args.self.now.pages in
     let going = c.requires.going.both in
-    let begun = c.in-Ok.ensures.keeps pages newest records table c.args.commits h in
-    let held = c.in-Ok.ensures.holds pages newest records table c.args.commits going.sizes h in
-    keeps_of (λ leaves. leaves) (keeps_unsaved (under_leaves_for newest pages.flash.geometry old _ table c.args.commits old.told)
-    (keeps_then h.log_holds.ready.blocks.honest refl refl c.in-Ok.ensures.works.calls (keeps_appended going tt begun) (c.in-Err-flush.ensures.keeps newest records table c.args.commits held)))
+    let begun = c.in-Ok.ensures.keeps pages newest records (settled table c.args.commits) h in
+    let held = c.in-Ok.ensures.holds pages newest records (settled table c.args.commits) going.sizes h in
+    keeps_of (λ leaves. leaves) (keeps_unsaved (settled_leaves_for newest pages.flash.geometry old _ table c.args.commits old.told)
+    (keeps_then h.log_holds.ready.blocks.honest refl refl c.in-Ok.ensures.works.calls (keeps_appended going tt begun) (c.in-Err-flush.ensures.keeps newest records (settled table c.args.commits) held)))
 
 pub returns-in-Err-save_master-clause-keeps : goal.returns-in-Err-save_master-clause-keeps
 returns-in-Err-save_master-clause-keeps g c newest records table h may =
@@ -177,14 +177,14 @@ returns-in-Ok-save_master-clause-next g c honest =
 
 pub returns-in-Err-clause-performs : goal.returns-in-Err-clause-performs
 returns-in-Err-clause-performs g c newest records table h =
-    performs_stopped (cached flush ∷ save ∷ []) (store_performs {new = record c.args.self.now { log = c.force.new.log }} refl refl (c.in-Err.ensures.performs c.args.self.now.pages newest records table c.args.commits c.requires.going.both h))
+    performs_stopped (cached flush ∷ save ∷ []) (store_performs {new = record c.args.self.now { log = c.force.new.log }} refl refl (c.in-Err.ensures.performs c.args.self.now.pages c.requires.going.both h.log_holds.ready.blocks.honest h.below))
 
 pub returns-in-Err-flush-clause-performs : goal.returns-in-Err-flush-clause-performs
 returns-in-Err-flush-clause-performs g c newest records table h =
     let pages = c.args.self.now.pages in
-    let held = c.in-Ok.ensures.holds pages newest records table c.args.commits c.requires.going.both.sizes h in
-    performs_stopped (save ∷ []) (performs_then (store_performs {new = record c.args.self.now { log = c.force.new.log }} refl refl (c.in-Ok.ensures.performs pages newest records table c.args.commits c.requires.going.both h))
-    (store_performs {old = record c.args.self.now { log = c.force.new.log }} {new = record c.args.self.now { log = c.flush.new.log; pages = c.flush.new.pages }} refl refl (c.in-Err-flush.ensures.performs newest records table c.args.commits held)))
+    let held = c.in-Ok.ensures.holds pages newest records (settled table c.args.commits) c.requires.going.both.sizes h in
+    performs_stopped (save ∷ []) (performs_then (store_performs {new = record c.args.self.now { log = c.force.new.log }} refl refl (c.in-Ok.ensures.performs pages c.requires.going.both h.log_holds.ready.blocks.honest h.below))
+    (store_performs {old = record c.args.self.now { log = c.force.new.log }} {new = record c.args.self.now { log = c.flush.new.log; pages = c.flush.new.pages }} refl refl (c.in-Err-flush.ensures.performs newest records (settled table c.args.commits) held)))
 
 pub returns-in-Err-save_master-clause-performs : goal.returns-in-Err-save_master-clause-performs
 returns-in-Err-save_master-clause-performs g c newest records table h =
