@@ -173,6 +173,9 @@ returns-in-Ok-save_master-clause-next g c honest =
     next_answered (next_saved {new = record { log = c.save_master.new.log; pages = c.flush.new.pages; masters = c.save_master.new.masters; made = c.args.self.now.made - c.args.first }}
     c.flush.ensures.works.geometry refl (saved.changes there) tt (next_flushed g s honest) (saved.next there) (saved.worn there))
 
+pub returns-in-Err-save_master-clause-calls : goal.returns-in-Err-save_master-clause-calls
+returns-in-Err-save_master-clause-calls g c = calls_then c.in-Ok.ensures.works.calls (calls_then c.in-Ok-flush.ensures.works.calls c.in-Err-save_master.ensures.calls)
+
 -- What it makes of the machine.
 
 pub returns-in-Err-clause-performs : goal.returns-in-Err-clause-performs
