@@ -1,5 +1,5 @@
 -- What a crash leaves of calls that change images.
-use Rattle.image_meaning.proofs.Names.{◌≡◌, ◌⊎◌, inl, inr, ℕ, ◌+◌, List, [], ◌∷◌, ◌++◌, length, take, drop, Option, refl, sym, ap, subst, ◌∙◌, arith, append_assoc, AllByRecursion, Master, LeavesPush, Change, SealsBlock, RewritesPages, AppendsGroup, AppendsSegment, AppendsMaster, ReadsAs, Reaches, IsReached, IsFrontOf, Groups, MayMakeAll, SealsNoCommit, SavesNoMaster, newest_after, blocks_after, newest_after_all, blocks_after_all, next_block_lsn, kept_by, logical_image_under, IsSoundUnder, StandsUnder, LeavesTableUnder, LeavesEitherUnder, LeavesFor, FrontStandsFor, FrontStands, PushStands, CommitStands, writes_in, Entry, log_from, entries_from, LogicalImage, Means, commit_numbers, LogRecord, Content, table_with, leaves_weaker, LeavesOnly, State, Image, Snapshot, Geometry, all_left}
+use Rattle.image_meaning.proofs.Names.{◌≡◌, ◌⊎◌, inl, inr, ℕ, ◌+◌, List, [], ◌∷◌, ◌++◌, length, take, drop, Option, refl, sym, ap, subst, ◌∙◌, arith, append_assoc, AllByRecursion, Master, LeavesPush, Change, SealsBlock, RewritesPages, AppendsGroup, AppendsSegment, AppendsMaster, ReadsAs, Reaches, IsReached, IsFrontOf, Groups, MayMakeAll, SealsNoCommit, SavesNoMaster, newest_after, blocks_after, newest_after_all, blocks_after_all, next_block_lsn, kept_by, logical_image_under, IsSoundUnder, StandsUnder, LeavesTableUnder, LeavesEitherUnder, LeavesFor, LeavesEitherFor, FrontStandsFor, FrontStands, PushStands, CommitStands, writes_in, Entry, log_from, entries_from, LogicalImage, Means, commit_numbers, LogRecord, Content, table_with, leaves_weaker, LeavesOnly, State, Image, Snapshot, Geometry, all_left}
 use Rattle.log_records.specs.declared.log_record.LogRecord.TheVariants.{Commit}
 use Rattle.image_changes.proofs.Sequence.{changes_add_up, reaches_parts}
 use Rattle.image_meaning.proofs.Versions.{versions_same, version_stays}
@@ -37,6 +37,17 @@ pub under_leaves_for : (newest : Option Master) (g : Geometry) (old new : State)
 under_leaves_for newest g old new table count so_far leaves =
     leaves_weaker old new (LeavesTableUnder newest g table count so_far) (LeavesFor g table count so_far)
     (λ snapshot is. record { told = is.told; stands = record { newest = newest; stands = is.stands } }) leaves
+
+-- What stands under a newest master stands whatever it is.
+pub under_leaves_either_for : (newest : Option Master) (g : Geometry) (old new : State) (before after : List Content) (count : ℕ) (so_far : List ℕ) → LeavesOnly old new (LeavesEitherUnder newest g before after count so_far) → LeavesOnly old new (LeavesEitherFor g before after count so_far)
+under_leaves_either_for newest g old new before after count so_far leaves =
+    leaves_weaker old new (LeavesEitherUnder newest g before after count so_far) (LeavesEitherFor g before after count so_far) (λ snapshot is. record {
+      told = is.told;
+      stands = elim is.stands [
+        | inl first ↦ inl (record { newest = newest; stands = first })
+        | inr then ↦ inr (record { newest = newest; stands = then })
+      ];
+    }) leaves
 
 -- a push
 pub push_stands : PushStands

@@ -1,6 +1,8 @@
 -- A log that goes on record by record.
-use Rattle.log_laws.proofs.Names.{◌≡◌, ℕ, ◌+◌, ◌*◌, List, [], ◌∷◌, ◌++◌, length, Some, None, ap, subst, ◌∙◌, append_assoc, arith, append-nil, length-append, filter_map-append, length-range_with_len, AllByRecursion, cons_option, Option, flat_map, Follows, IsUndoable, sealed, next_entries, table_after_all, Carries, CommitsRunOn, whole, next_lsn, in_order_from, Entry, entries_from, log_from, table_of, LogicalImage, IsSound, IsInOrder, InTurn, IsInTable, HasRoom, AreOrderly, Means, commit_number, commit_numbers, commit_count, LogRecord, Content, all_append}
+use Rattle.log_laws.proofs.Names.{◌≡◌, ℕ, ◌+◌, ◌*◌, List, [], ◌∷◌, ◌++◌, length, Some, None, ap, subst, ◌∙◌, append_assoc, arith, append-nil, length-append, filter_map-append, length-range_with_len, AllByRecursion, cons_option, Option, flat_map, Follows, IsUndoable, sealed, next_entries, table_after, table_after_all, writes_in, Carries, CommitsRunOn, whole, next_lsn, in_order_from, Entry, entries_from, log_from, table_of, LogicalImage, IsSound, IsInOrder, InTurn, IsInTable, HasRoom, AreOrderly, Means, commit_number, commit_numbers, commit_count, LogRecord, Commit, Content, table_with, all_append}
 use Rattle.log_records.specs.Spelling.{spelling, AreBlock}
+use Rattle.log_laws.proofs.Parts.{InTurn-right}
+use Rattle.log_laws.proofs.Follow.{table_behind}
 use Rattle.log_laws.proofs.Orders.{InTurn-all, InTurn-append, entries_in_order, in_order_to, in_order-append}
 use Rattle.log_laws.proofs.Seals.{undoable_behind_all, table_behind_all, sealed_is_sound, sealed_means, numbered_with}
 use Rattle.log_laws.proofs.Commits.{table_none}
@@ -41,6 +43,10 @@ whole_stays_orderly p tail c orderly =
     orderly_behind p (next_entries p tail) (512 * p.hi + 2 + length (flat_map spelling tail)) c.sound orderly
     (in_order_from (512 * p.hi + 2) (512 * p.hi) (next_entries p tail) (512 * p.hi + 2 + length (flat_map spelling tail)) (omega arith) (entries_in_order (512 * p.hi + 2) tail)) c.follow
 
+pub table_more : (p : LogicalImage) (tail : List LogRecord) (e : Entry) → Carries p tail → Follows p.master p.pages (whole p tail) e →
+    table_of (whole p tail ++ e ∷ []) p.pages ≡ table_after (table_of (whole p tail) p.pages) (whole p tail) e.rec
+table_more p tail e c f = table_behind p.master p.pages (whole p tail) (whole_is_undoable p tail c) e f
+
 pub commits_more : (log : List Entry) (e : Entry) (number : ℕ) → commit_number e ≡ Some number → commit_numbers (log ++ e ∷ []) ≡ commit_numbers log ++ number ∷ []
 commits_more log e number h = filter_map-append commit_number log (e ∷ []) ∙ ap (λ (o : Option ℕ). commit_numbers log ++ cons_option o []) h
 
@@ -77,3 +83,14 @@ InTurn-left P earlier (x ∷ xs) ys h = (h.0, InTurn-left P (earlier ++ x ∷ []
 
 pub whole_sealed : (p : LogicalImage) (tail : List LogRecord) → whole (sealed p tail) [] ≡ whole p tail
 whole_sealed p tail = append-nil (whole p tail)
+
+pub carries_front : (p : LogicalImage) (front : List LogRecord) (rec : LogRecord) → Carries p (front ++ rec ∷ []) → Carries p front × Follows p.master p.pages (whole p front) (record { lsn = next_lsn p front; rec = rec })
+carries_front p front rec c = grind (arith, last_entry, InTurn-left, InTurn-right)
+
+pub tail_with_commit : (p : LogicalImage) (front : List LogRecord) (t number : ℕ) → Carries p (front ++ Commit t number ∷ []) → commit_numbers (next_entries p front) ≡ [] →
+    table_of (whole p (front ++ Commit t number ∷ [])) p.pages ≡ table_with (table_of p.log p.pages) (writes_in t (whole p front))
+tail_with_commit p front t number c none =
+    let before = carries_front p front (Commit t number) c in
+    ap (λ (l : List Entry). table_of l p.pages) (whole_more p front (Commit t number))
+    ∙ table_more p front (record { lsn = next_lsn p front; rec = Commit t number }) before.0 before.1
+    ∙ ap (λ (table : List Content). table_with table (writes_in t (whole p front))) (tail_without_commit p front before.0 none)
