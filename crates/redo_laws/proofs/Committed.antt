@@ -31,17 +31,18 @@ awaits log pages site newest records before after commits h =
     (resettled p h.log_holds.tail records (next_to before after commits) (omega arith)
     (subst (λ (t : List Content). RunsOn p h.log_holds.tail records (settled t commits)) (sym (first_is before after commits)) h.log_holds.runs_on))
 
--- a crash leaves the table before it, or the one after it
+-- what is so of a number up to the next is so of the table before it, or of the one after it
+pub first_or_next : (P : List Content → ℕ → Type 0) (before after : List Content) (commits count : ℕ) → commits ≤ count → count ≤ commits + 1 → P (first_then before after commits count) count → P before commits ⊎ P after (commits + 1)
+first_or_next P before after commits count least most holds = elim (cases_eq count commits) [
+  | inl same ↦ inl (subst (λ (t : List Content). P t commits) (first_is before after commits) (subst (λ (n : ℕ). P (first_then before after commits n) n) same holds))
+  | inr other ↦
+      let last : count ≡ commits + 1 = omega (arith, least, most, other) in
+      inr (subst (λ (t : List Content). P t (commits + 1)) (next_is before after commits) (subst (λ (n : ℕ). P (first_then before after commits n) n) last holds))
+]
+
+-- a crash leaves that
 pub either_left : (g : Geometry) (before after : List Content) (commits : ℕ) (so_far : List ℕ) (s : Snapshot) → LeavesSome g (record (next_to before after commits) { commits = commits + 1 }) so_far s → LeavesEitherFor g before after commits so_far s
-either_left g before after commits so_far s left = record { told = left.told; stands = by left.count left.from_floor left.within left.stands }
-  where
-    by : (count : ℕ) → commits ≤ count → count ≤ commits + 1 → StandsFor g s.image (first_then before after commits count) count → StandsFor g s.image before commits ⊎ StandsFor g s.image after (commits + 1)
-    by count least most stands = elim (cases_eq count commits) [
-      | inl same ↦ inl (subst (λ (t : List Content). StandsFor g s.image t commits) (first_is before after commits) (subst (λ (n : ℕ). StandsFor g s.image (first_then before after commits n) n) same stands))
-      | inr other ↦
-          let last : count ≡ commits + 1 = omega (arith, least, most, other) in
-          inr (subst (λ (t : List Content). StandsFor g s.image t (commits + 1)) (next_is before after commits) (subst (λ (n : ℕ). StandsFor g s.image (first_then before after commits n) n) last stands))
-    ]
+either_left g before after commits so_far s left = record { told = left.told; stands = first_or_next (StandsFor g s.image) before after commits left.count left.from_floor left.within left.stands }
 
 -- and before it is logged
 pub before_left : (g : Geometry) (before after : List Content) (commits : ℕ) (so_far : List ℕ) (s : Snapshot) → LeavesSome g (next_to before after commits) so_far s → LeavesEitherFor g before after commits so_far s

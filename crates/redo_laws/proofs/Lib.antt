@@ -7,6 +7,7 @@ pub mod Changed
 pub mod CallsInSequence
 pub mod Empties
 pub mod Committed
+mod Examples
 pub mod Forced
 pub mod Orderlies
 pub mod Outliving

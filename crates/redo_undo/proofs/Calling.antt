@@ -144,6 +144,9 @@ beside_then {before = before} {between = between} {now = now} first second = rec
 pub beside_answered : {A B : Type 0} {a : A} {b : B} {old new : LogStore} {before now : State} → KeepsInvariantBeside {T = A} (Ok a) old new before now → KeepsInvariantBeside {T = B} (Ok b) old new before now
 beside_answered first = record { calls = calls_answered first.calls; going = first.going; log_going = first.log_going; kept = first.kept; geometry = first.geometry; reads = first.reads; changes = first.changes; next = λ honest. blocks.next_answered (first.next honest) }
 
+pub beside_failed : {A B : Type 0} {stop : Stop} {old new : LogStore} {before now : State} → KeepsInvariantBeside {T = A} (Err stop) old new before now → KeepsInvariantBeside {T = B} (Err stop) old new before now
+beside_failed first = record { calls = calls_failed first.calls; going = λ pages may. tt; log_going = first.log_going; kept = first.kept; geometry = first.geometry; reads = first.reads; changes = first.changes; next = λ honest. blocks.next_failed (first.next honest) }
+
 -- Log and pages, on an honest site.
 
 pub keeps_joined : {A B : Type 0} {a : A} {r : Result B Stop} {g g' : Geometry} {old mid new : LogStore} {before between now : State} {P Q W : Snapshot → Type 0} {n m n' m' : ℕ} → IsTrue before.honest → g' ≡ g → Calls {T = A} (Ok a) before between →

@@ -1,5 +1,5 @@
 -- A master is saved over flushed pages and an empty tail.
-use Rattle.redo_undo.proofs.Names.{History, settled, LeavesSome, LeavesSomeUnder, LeavesTableUnder, leaves_settled, leaves_weaker, ◌≡◌, ◌⊎◌, inl, inr, ℕ, ◌+◌, ◌-◌, ◌*◌, ◌/◌, ◌≤◌, ◌<◌, ◌==◌, Bool, true, false, List, [], ◌∷◌, map, drop, Option, Some, refl, sym, ap, subst, ◌∙◌, arith, append-nil, length, cond-true, cond-false, le-leb, lt-ltb, length-append, sum_by-cons, none-some, same_Some, list_any, AllByRecursion, if◌then◌else◌, filter, flat_map, max, nat_le, slice_get, sum_by, frame_of, Frame, seen, unit, IsUnit, master_in, Master, version_on, AppendsMaster, Makes, Reaches, ReadsAs, LeavesFront, Masters, Blocks, log_shape, KeepsUnits, master_shape, under_leaves_for, redone_is_current, version_is_redone, length-versions, version_is, IsFlushed, IsMasterOf, first_block, oldest_needed, logical_image_under, kept_by, versions_on, version_in, IsSoundUnder, LeavesFor, AreKnown, ShowsAll, listed_is_loser, loser_is_listed, in_order_filter, carries_nothing, whole_is_undoable, IsUndoable, whole, some_octet, Entry, Version, version_at, is_loser, entries_of, is_of, Active, LogicalImage, AreOrderly, from_block, last_lsn, active_in, before_block, IsInOrder, IsSound, IsLoserChain, used_by, spelling, losers, owed, owed_by, open_updates, LogRecord, has_tail, end_of, LogStore, fits_beside, versions_beside, AreLogged, cache_of, pool_page, current, PageStore, Content, current_same, more_sealed, sound_there, nothing_happens, hi_is, AreUnfinished, MayBeMade, begins_of, KeepUnfinished, IsSaved, Represents, blocks_to, Finds, Units, FitsIn, IsRing, hi_of, Ring, Shape, wants_flush, stays_honest, holds_now, in_sequence, Preserves, ChangesOnly, Leaves, LeavesOnly, State, Image, content_of, IsQuiet, Geometry, Log, Flash, Disk, lsn_of, all_member, each_member, end_forced}
+use Rattle.redo_undo.proofs.Names.{Means, History, settled, LeavesSome, LeavesSomeUnder, LeavesTableUnder, leaves_settled, leaves_weaker, ◌≡◌, ◌⊎◌, inl, inr, ℕ, ◌+◌, ◌-◌, ◌*◌, ◌/◌, ◌≤◌, ◌<◌, ◌==◌, Bool, true, false, List, [], ◌∷◌, map, drop, Option, Some, refl, sym, ap, subst, ◌∙◌, arith, append-nil, length, cond-true, cond-false, le-leb, lt-ltb, length-append, sum_by-cons, none-some, same_Some, list_any, AllByRecursion, if◌then◌else◌, filter, flat_map, max, nat_le, slice_get, sum_by, frame_of, Frame, seen, unit, IsUnit, master_in, Master, version_on, AppendsMaster, Makes, Reaches, ReadsAs, LeavesFront, Masters, Blocks, log_shape, KeepsUnits, master_shape, under_leaves_for, redone_is_current, version_is_redone, length-versions, version_is, IsFlushed, IsMasterOf, first_block, oldest_needed, logical_image_under, kept_by, versions_on, version_in, IsSoundUnder, LeavesFor, AreKnown, ShowsAll, listed_is_loser, loser_is_listed, in_order_filter, carries_nothing, whole_is_undoable, IsUndoable, whole, some_octet, Entry, Version, version_at, is_loser, entries_of, is_of, Active, LogicalImage, AreOrderly, from_block, last_lsn, active_in, before_block, IsInOrder, IsSound, IsLoserChain, used_by, spelling, losers, owed, owed_by, open_updates, LogRecord, has_tail, end_of, LogStore, fits_beside, versions_beside, AreLogged, cache_of, pool_page, current, PageStore, Content, current_same, more_sealed, sound_there, nothing_happens, hi_is, AreUnfinished, MayBeMade, begins_of, KeepUnfinished, IsSaved, Represents, blocks_to, Finds, Units, FitsIn, IsRing, hi_of, Ring, Shape, wants_flush, stays_honest, holds_now, in_sequence, Preserves, ChangesOnly, Leaves, LeavesOnly, State, Image, content_of, IsQuiet, Geometry, Log, Flash, Disk, lsn_of, all_member, each_member, end_forced}
 use Rattle.image_meaning.proofs.Flushes.{oldest_is_there}
 use Rattle.log_store.proofs.Standing.{holds_beside}
 use Rattle.std_lemmas.proofs.Bools.{same_bools}

@@ -15,7 +15,8 @@ use Rattle.redo_laws.specs.MachineSteps.{StepsMachine}
 use Rattle.redo_undo.specs.Mirroring.{PerformsOn}
 
 -- A call does this work of the machine of the rings, for which it asks the cache for these touches. Each crash
--- meanwhile leaves the table after some commits, none below the floor, and it logs and reads so many records of the log at most.
+-- meanwhile leaves the table after some commits, none below the floor, and it logs and reads so many records of the log
+-- at most.
 pub record UndoesWork {T : Type 0} (result : Result T Stop) (works : List RingOp) (touches : List CacheOp)
     (old new : LogStore) (pages pages' : PageStore) (before now : State) (newest : Option Master) (history : History)
     (records reads : ℕ) : Type 0 where

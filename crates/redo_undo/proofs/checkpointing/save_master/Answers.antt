@@ -1,4 +1,4 @@
-use Rattle.redo_undo.proofs.Names.{settled, inl, inr, ◌≡◌, ◌∙◌, ◌≤◌, ◌/◌, ℕ, sym, subst, arith, refl, ap, List, false, [], ◌∷◌, unit, Master, AppendsMaster, LeavesFront, master_shape, first_block, LeavesFor, Entry, cache_of, PageStore, Content, never_worn_flash, ends_ok, save_skips, save_calls, hi_on, masters_at_end, begins_of, MayBeMade, blocks_to, Represents, region, IsReady, Finds, hi_of, Ring, Shape, wants_flush, quiet_settled, no_error, err_again, LeavesOnly, State, IsSettled, IsQuiet, Log, Worn}
+use Rattle.redo_undo.proofs.Names.{settled, settled, inl, inr, ◌≡◌, ◌∙◌, ◌≤◌, ◌/◌, ℕ, sym, subst, arith, refl, ap, List, false, [], ◌∷◌, unit, Master, AppendsMaster, LeavesFront, master_shape, first_block, LeavesFor, Entry, cache_of, PageStore, Content, never_worn_flash, ends_ok, save_skips, save_calls, hi_on, masters_at_end, begins_of, MayBeMade, blocks_to, Represents, region, IsReady, Finds, hi_of, Ring, Shape, wants_flush, quiet_settled, no_error, err_again, LeavesOnly, State, IsSettled, IsQuiet, Log, Worn}
 use Rattle.std.proofs.Common.{Err}
 use Rattle.redo_undo.proofs.Saved.{needed_there, save_leaves, is_saved, log_still}
 use Rattle.log_store.proofs.NextBlocks.{blocks_beside}
@@ -25,7 +25,7 @@ returns-clause-log_going g c = c.keep.ensures.going (g.S.Site.state c.save.new.s
 
 module _ (g : Over) (c : After-save g) (pages : PageStore) (newest : Option Master) (records : List Entry) (table : List Content)
     (sizes : c.args.log.now.geometry ≡ pages.flash.geometry)
-    (h : Represents c.args.log.now pages (g.S.Site.state c.args.site.now) newest records table c.args.commits) (empty : c.args.log.now.used ≡ 2)
+    (h : Represents c.args.log.now pages (g.S.Site.state c.args.site.now) newest records (settled table c.args.commits)) (empty : c.args.log.now.used ≡ 2)
     (clean : wants_flush (cache_of pages) ≡ false)
     (may : MayBeMade c.args.masters.now (g.S.Site.state c.args.site.now) records c.args.active) where
   abbrev m : Master

@@ -1,4 +1,4 @@
-use Rattle.redo_undo.proofs.Names.{History, List, ◌≡◌, ◌≤◌, ◌<◌, Bool, true, ◌∷◌, [], ◌++◌, ap, inr, ℕ, length, subst, IfOk, Master, ring_kept, Masters, KeepsUnits, master_shape, AreRingsSoundUnder, versions_on, kept_by, Entry, AreOrderly, spelling, LogList, changes_if, overflows, end_of, has_tail, log_fits, AreSealed, rules as rules_of_pages, PageStore, Content, appended, ends_with, append_leaves, rings_now, more_sealed, versions_same, current_same, IsNumbered, IsAppended, if_ok_four, if_ok_one, if_ok_two, if_ok_three, ok_by, most_blocks, holds_off, quiet_stops, seals_only, log_skips, log_calls, ready_next, ends_orderly, log_at_end, EndsWith, MayGrow, RepresentsLog, Represents, Mirrors, logged, Performs, ok_as, State}
+use Rattle.redo_undo.proofs.Names.{◌+◌, History, List, ◌≡◌, ◌≤◌, ◌<◌, Bool, true, ◌∷◌, [], ◌++◌, ap, inr, ℕ, length, subst, IfOk, Master, ring_kept, Masters, KeepsUnits, master_shape, AreRingsSoundUnder, versions_on, kept_by, Entry, AreOrderly, spelling, LogList, changes_if, overflows, end_of, has_tail, log_fits, AreSealed, rules as rules_of_pages, PageStore, Content, appended, ends_with, append_leaves, rings_now, more_sealed, versions_same, current_same, IsNumbered, IsAppended, if_ok_four, if_ok_one, if_ok_two, if_ok_three, ok_by, most_blocks, holds_off, quiet_stops, seals_only, log_skips, log_calls, ready_next, ends_orderly, log_at_end, EndsWith, MayGrow, RepresentsLog, Represents, Mirrors, logged, Performs, ok_as, State}
 use Rattle.log_store.proofs.TailLaws.{full_tail, spelling_short}
 use Rattle.std.proofs.Common.{lt-ltb}
 use Rattle.std.specs.Prelude.{Option}

@@ -1,4 +1,4 @@
-use Rattle.redo_undo.proofs.Names.{settled, ◌≡◌, ◌-◌, refl, ap, arith, ◌≤◌, ◌∙◌, ℕ, List, ◌∷◌, [], sym, Ok, IsTrue, ⊤, Result, Master, LeavesFor, LeavesSomeUnder, Entry, LogStore, next_logged, next_then, stages_ok, stages_err, stages_beside, rules, current, Content, flush, current_same, stages_log, never_worn_flash, asks_around, flush_then, asks_refused, log_alone, MayBeMade, checkpoint_works, MirrorsStore, KeepsNext, TransactionStore, performs_by, performs_then, performs_stopped, cached, force, save, Performs, stays_honest, no_error, calls_then, err_again, State, Log, Stop, Worn}
+use Rattle.redo_undo.proofs.Names.{calls_failed, settled, ◌≡◌, ◌-◌, refl, ap, arith, ◌≤◌, ◌∙◌, ℕ, List, ◌∷◌, [], sym, Ok, IsTrue, ⊤, Result, Master, LeavesFor, LeavesSomeUnder, Entry, LogStore, next_logged, next_then, stages_ok, stages_err, stages_beside, rules, current, Content, flush, current_same, stages_log, never_worn_flash, asks_around, flush_then, asks_refused, log_alone, MayBeMade, checkpoint_works, MirrorsStore, KeepsNext, TransactionStore, performs_by, performs_then, performs_stopped, cached, force, save, Performs, stays_honest, no_error, calls_then, err_again, State, Log, Stop, Worn}
 use Rattle.std.proofs.Common.{Err}
 use Rattle.redo_undo.proofs.Saved.{settled_leaves_for, may_still}
 use Rattle.redo_undo.proofs.Calling.{log_stops, keeps_answered, keeps_failed, keeps_appended, keeps_saved, keeps_then, keeps_unsaved}
@@ -172,6 +172,9 @@ returns-in-Ok-save_master-clause-next g c honest =
     let saved = c.in-Ok-save_master.ensures in
     next_answered (next_saved {new = record { log = c.save_master.new.log; pages = c.flush.new.pages; masters = c.save_master.new.masters; made = c.args.self.now.made - c.args.first }}
     c.flush.ensures.works.geometry refl (saved.changes there) tt (next_flushed g s honest) (saved.next there) (saved.worn there))
+
+pub returns-in-Err-save_master-clause-calls : goal.returns-in-Err-save_master-clause-calls
+returns-in-Err-save_master-clause-calls g c = calls_failed (calls_then c.in-Ok.ensures.works.calls (calls_then c.in-Ok-flush.ensures.works.calls c.in-Err-save_master.ensures.calls))
 
 -- What it makes of the machine.
 

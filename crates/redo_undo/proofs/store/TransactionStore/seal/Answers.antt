@@ -1,6 +1,6 @@
 use Rattle.redo_undo.proofs.Names.{refl, ◌+◌, Ok, Err, IsTrue, next_logged, stages_ok, stages_err, asks_nothing, stages_log, never_worn_flash, KeepsNext, no_error}
 use Rattle.std.proofs.Common.{rules}
-use Rattle.redo_undo.proofs.Calling.{keeps_appended, works_appended}
+use Rattle.redo_undo.proofs.Calling.{beside_failed, keeps_appended, works_appended}
 use Rattle.redo_undo.proofs.NextUnits.{store_next}
 use Rattle.redo_undo.proofs.StoreCalling.{keeps_of, works_at_error}
 use Rattle.redo_undo.proofs.Saved.{some_leaves_for, finds_kept}
@@ -36,7 +36,7 @@ returns-in-Ok-clause-works g c =
     search rules
 
 pub returns-in-Err-clause-works : goal.returns-in-Err-clause-works
-returns-in-Err-clause-works g c = works_at_error c.requires.going refl (works_appended c.requires.going.both tt c.in-Err.ensures.stops c.in-Err.ensures.works)
+returns-in-Err-clause-works g c = works_at_error c.requires.going refl (works_appended c.requires.going.both tt c.in-Err.ensures.stops (beside_failed c.in-Err.ensures.works))
 
 pub returns-in-Ok-clause-asks : goal.returns-in-Ok-clause-asks
 returns-in-Ok-clause-asks g c = asks_nothing _ c.args.self.now.pages _ _ c.force.ensures.works.reads (stages_ok (stages_log c.in-Ok.ensures.works))
