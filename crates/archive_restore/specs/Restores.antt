@@ -2,6 +2,7 @@
 use Rattle.std.specs.Prelude.{◌≡◌, ◌⊎◌, ℕ, ◌+◌, ◌-◌, ◌≤◌, ◌<◌, List, [], ◌∷◌, ◌++◌, length, slice_index_or}
 use Rattle.std.specs.Prelude.{take, true, IsTrue}
 use Rattle.site.specs.State.{State as Site, Image, Snapshot, no_loose}
+use Rattle.site.specs.Calls.{IsUnchanged}
 use Rattle.site.specs.Moments.{LeavesOnly}
 use Rattle.site.specs.declared.geometry.Geometry.{Geometry}
 use Rattle.site.specs.declared.outside.Stop.TheVariants.{Foreign}
@@ -13,7 +14,7 @@ use Rattle.log_archive.specs.Accepted.{Accepted, AfterLine, Stream, archive_tabl
 use Rattle.net_lines.specs.Nets.{Fits, net_lines}
 use Rattle.engine.specs.Image.{Stands}
 use Rattle.engine.specs.Leaves.{HasNoSizes}
-use Rattle.front_end.specs.New.{IsBlank, IsNotBlank}
+use Rattle.front_end.specs.New.{IsBlank, IsNotBlank, ReadsOnce}
 use Rattle.front_end.specs.declared.halt.Halt.TheVariants as halt
 use Rattle.face.specs.Causes.{HasCause}
 use Rattle.face.specs.Image.{blank_table}
@@ -64,6 +65,13 @@ TellsBehind g s k so_far snapshot = (snapshot.told ≡ so_far) ⊎ StandsAfter g
 pub record HasSealed (g : Geometry) (s : Stream) (k : ℕ) (old new : Site) : Type 0 where
   pub stands : StandsAfter g s k new.image
   pub behind : LeavesOnly old new (TellsBehind g s k old.told)
+
+-- The devices were tested, each read once and nothing of them changed, and then this holds.
+pub record HasTested (old : Site) (P : Site → Type 0) : Type 0 where
+  pub tested : Site
+  pub same : IsUnchanged old tested
+  pub read : ReadsOnce old tested
+  pub holds : P tested
 
 -- the net of a commit
 abbrev pub net_at : Stream → ℕ → List Write
