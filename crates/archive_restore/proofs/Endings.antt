@@ -22,6 +22,8 @@ use Rattle.engine.specs.Leaves.{HasNoSizes}
 use Rattle.front_end.specs.declared.halt.Halt.{Halt}
 use Rattle.face.specs.Causes.{HasCause, IsForeign}
 use Rattle.page_store.proofs.Counting.{unsynced_told}
+use Rattle.face.specs.Headline.{Resources}
+use Rattle.face.specs.Working.{Demands}
 use Rattle.face.specs.Run.{Run, first_lines}
 use Rattle.face.proofs.CallCounts.{calls_told}
 use Rattle.face.proofs.Demanded.{asked_done, demands_done, demands_failed, demands_lost}
@@ -162,8 +164,8 @@ module _ (count pool : ℕ) (g : Geometry) (old mid new : Site) {T : Type 0} (re
     pub asks_done : new.told ≡ mid.told ++ line → TellsOnly (length line) mid new → AsksAsLines pool g o.s o.begun line new 0 tested
     asks_done is only =
         let each = tells.any_moment honest in
-        let d = demands_done pool (first_lines run all) tested mid new same.image tells.reads each tt tt (calls_told g line mid new same.image is each.grown only) (unsynced_told mid new each.grown only.works) a.demands in
-        let r = asked_done pool run all tested new tt a.all a.earlier d in
+        let d : Demands {T = ⊤} pool (first_lines run all) tested new (Ok tt) = demands_done pool (first_lines run all) tested mid new same.image tells.reads each {T = ⊤} {U = ⊤} tt tt (calls_told g line mid new same.image is each.grown only) (unsynced_told mid new each.grown only.works) a.demands in
+        let r : Resources pool run all [] tested new 0 = asked_done pool run all tested new {T = ⊤} tt a.all a.earlier d in
         record {
           begun = all;
           few = omega arith;
@@ -174,7 +176,7 @@ module _ (count pool : ℕ) (g : Geometry) (old mid new : Site) {T : Type 0} (re
     -- or was to be told
     pub asks_lost : AsksAsLines pool g o.s o.begun line new 6 tested
     asks_lost =
-        let d = demands_lost {U = ⊤} pool (first_lines run all) tested mid new same.image tells.reads (tells.any_moment honest) tt a.demands in
+        let d : Demands {T = ⊤} pool (first_lines run all) tested new (Err halt.Output) = demands_lost pool (first_lines run all) tested mid new same.image tells.reads (tells.any_moment honest) {T = ⊤} {U = ⊤} tt a.demands in
         record {
           begun = all;
           few = omega arith;
@@ -248,7 +250,7 @@ module _ {T : Type 0} (count : ℕ) (g : Geometry) (old mid new : Site) (goes : 
   pub tells_done : (x : T) → IsKnown count g old mid (Ok x) → {U : Type 0} (told : Result U Failed) → Tells (restored_line count) mid new told → (status : ℕ) → (status ≡ 0) ⊎ (status ≡ 6) → RestoreTells count g old new status
   tells_done x k told tells status is = tells_by (Ok x) k (restored_line count) told tells status (inl (is, refl, k.done, tt))
 
-  pub tells_stopped : (f : Fault) → IsKnown count g old mid (Err f) → {U : Type 0} (told : Result U Failed) → Tells (fault_line f) mid new told → (status : ℕ) → status ≡ fault_status f → RestoreTells count g old new status
+  pub tells_stopped : (f : Fault) → IsKnown {T = T} count g old mid (Err f) → {U : Type 0} (told : Result U Failed) → Tells (fault_line f) mid new told → (status : ℕ) → status ≡ fault_status f → RestoreTells count g old new status
   tells_stopped f k told tells status is = tells_by (Err f) k (fault_line f) told tells status
       (inr (f, is, refl, ends_then f g k.lines k.behind k.s k.begun old mid new k.stops.0 tells.preserves (λ h. tells.devices honest), λ between. (k.stops.1 between, tt)))
 

@@ -170,14 +170,11 @@ cause_known (fault.Short commits) a b c same goes is = tt
 cause_known fault.Full a b c same goes is = tt
 
 module _ {T : Type 0} (count : ℕ) (g : Geometry) (old tested new : Site) (honest : IsTrue old.honest) (same : IsTrue old.honest → IsUnchanged old tested) (goes : Preserves old tested) (limits : HasLimits g) (lengths : HasLengths g old.image) where
-  there : IsTrue tested.honest
-  there = stays_honest old tested goes honest
-
   -- it ends before its last commit
   pub known_stopped : (f : Fault) → EndsOnSite count tested new f → IsKnown {T = T} count g old new (Err f)
   known_stopped f e =
       let is : e.g ≡ g = one_geometry e.g g old.image e.limits (subst (λ (x : Image). HasLengths e.g x) (same honest).image e.lengths) limits lengths in
-      let early = subst (λ (x : Geometry). IsHeard x.pages e.lines e.behind e.s tested × EndsEarly x e.lines e.behind e.s count tested new f) is (e.early there) in
+      let early = subst (λ (x : Geometry). IsHeard x.pages e.lines e.behind e.s tested × EndsEarly x e.lines e.behind e.s count tested new f) is (e.early (stays_honest old tested goes honest)) in
       record {
         lines = e.lines;
         behind = e.behind;
@@ -200,7 +197,7 @@ module _ {T : Type 0} (count : ℕ) (g : Geometry) (old tested new : Site) (hone
         lines = e.lines;
         behind = lines_of true (to_hear r.source new);
         s = e.s;
-        heard = record { all = lines_since old tested (e.lines ++ lines_of true (to_hear r.source new)) (same honest) (e.heard there).all; accepted = accepted };
+        heard = record { all = lines_since old tested (e.lines ++ lines_of true (to_hear r.source new)) (same honest) (e.heard (stays_honest old tested goes honest)).all; accepted = accepted };
         begun = r.written;
         few = e.archived.few;
         most = omega (arith, all);

@@ -92,6 +92,7 @@ module _ (law : BlankLaw) (g : Geometry) (old new : Site) (s : Stream) (t : IsTa
 
   -- it ends where nothing was changed
   pub stops_untouched : (behind : List (List ℕ)) (count : ℕ) (f : Fault) → EndsBy f g [] behind s 0 old new → (IsBetween f → 0 < count) → StopsRestoring g [] behind s count old new f
+  unfolding ends_first
   stops_untouched behind count f ends some = record {
     early = ends_first g s old new behind count f ends some;
     told = same.told;
@@ -157,6 +158,7 @@ module _ (law : BlankLaw) (g : Geometry) (old mid new : Site) (s : Stream) (t : 
   restart_told = (holds_now mid new (LeavesTable g (blank_table g) 0 mid.told) moments).told ∙ same.told
 
   pub stops_at_restart : (behind : List (List ℕ)) (count : ℕ) (f : Fault) → EndsBy f g [] behind s 0 old new → (IsBetween f → ⊥) → (fault_status f ≢ 3 → new.loose ≡ no_loose) → StopsRestoring g [] behind s count old new f
+  unfolding ends_first
   stops_at_restart behind count f ends never quiet = record {
     early = ends_first g s old new behind count f ends (λ is. absurd (never is));
     told = restart_told;

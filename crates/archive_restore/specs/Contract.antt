@@ -98,8 +98,8 @@ pub record EndsUntouched (old new : Site) (status : ℕ) : Type 0 where
   pub devices : SameDevices old new
   pub read : ReadsOnce old new
 
--- What the lines ask of the devices that write the nets of so many commits, of which some were begun, the last one under
--- way: all those of the commits before the last.
+-- What the lines ask of the devices that write the nets of so many commits, of which some were begun, all those of the
+-- commits before the last.
 pub record AsksAsLines (pool : ℕ) (g : Geometry) (s : Stream) (commits : ℕ) (line : List ℕ) (new : Site) (status : ℕ)
     (old : Site) : Type 0 where
   pub begun : ℕ

@@ -1,5 +1,6 @@
 -- A restore under way.
-use Rattle.std.specs.Prelude.{◌≡◌, ◌≢◌, ◌⊎◌, ℕ, ◌+◌, ◌-◌, ◌*◌, ◌≤◌, ◌<◌, List, [], ◌∷◌, ◌++◌, length, take, true, IsTrue}
+use Rattle.std.specs.Prelude.{◌≡◌, ◌≢◌, ◌⊎◌, ℕ, ◌+◌, ◌-◌, ◌*◌, ◌≤◌, ◌<◌, List, [], ◌∷◌, ◌++◌, length, take, true}
+use Rattle.std.specs.Prelude.{IsTrue}
 use Rattle.site.specs.State.{State as Site, Snapshot, MayLeave, now_of, no_loose}
 use Rattle.site.specs.declared.geometry.Geometry.{Geometry}
 use Rattle.site.specs.Calls.{IsUnchanged, Preserves}
@@ -18,7 +19,8 @@ use Rattle.front_end.specs.declared.halt.Halt.{Halt}
 use Rattle.front_end.specs.declared.halt.Halt.TheVariants as halt
 use Rattle.face.specs.Image.{blank_table}
 use Rattle.face.specs.RunInProgress.{GoesOn}
-use Rattle.archive_restore.specs.Restores.{EndsBy, HasFaultCause, HasFewCommits, HasTested, HaveFit, IsBetween, IsHeard, IsLeft}
+use Rattle.archive_restore.specs.Restores.{EndsBy, HasFaultCause, HasFewCommits, HasTested, HaveFit, IsBetween}
+use Rattle.archive_restore.specs.Restores.{IsHeard, IsLeft}
 use Rattle.archive_restore.specs.Restores.{StandsAfter, StandsNear}
 use Rattle.archive_restore.specs.Restores.{lines_of_nets}
 use Rattle.archive_restore.specs.Writing.{AsksSome, HasCarried, blank_state}

@@ -120,7 +120,7 @@ IsBetween (fault.Halt halt.Limit) = Unit {0}
 IsBetween (fault.Halt h) = ⊥
 IsBetween (fault.Unfit unfit) = ⊥
 
--- These lines are an archive with fewer commits than that. Input is asked for behind no others: none is taken behind the
--- last commit, or behind a line that isn't accepted.
+-- These lines are an archive with fewer commits. Input is asked for behind no others: none is taken behind the last
+-- commit, or behind a line that isn't accepted.
 abbrev pub HasFewCommits : ℕ → ℕ → List (List ℕ) → Type 0
 HasFewCommits pages count lines = (s : Stream) × Accepted pages lines (blank_stream pages) s × (length s.nets < count)

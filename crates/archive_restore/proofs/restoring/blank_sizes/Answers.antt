@@ -1,4 +1,4 @@
-use Rattle.std.proofs.Common.{refl}
+use Rattle.std.proofs.Common.{arith, refl}
 use Rattle.std.specs.Prelude.{⊤}
 use Rattle.archive_restore.proofs.Starts.{ends_first, stops_untouched, untouched_unfit}
 use Rattle.archive_restore.proofs.Faults.{test_faults}

@@ -1,4 +1,4 @@
-use Rattle.std.proofs.Common.{◌≡◌, ◌++◌, ◌∷◌, [], List, ℕ, true, refl, sym, ◌∙◌, ap, subst, arith, Err}
+use Rattle.std.proofs.Common.{◌≡◌, ◌+◌, ◌++◌, ◌∷◌, [], List, ℕ, true, refl, sym, ◌∙◌, ap, subst, arith, Err}
 use Rattle.std.specs.Prelude.{take}
 use Rattle.site.specs.Faults.{faults_in}
 use Rattle.site.proofs.Laws.{rose_since, stays_honest}
