@@ -7,7 +7,8 @@ Each PROGRAM is one to measure, named by its path; without any it is the one tha
 so many transactions with no Update or with one, and one transaction with so many, each Update on another page than the one before, and
 on a record of its own. A sound log of as many blocks, whose transactions have all ended, stands beside each. The table has the seconds
 of a start, the reply `open` among them; it gives up after two minutes. Last come a check and a start over a log that is full of Begins
-and has no room to undo them, beside one of as many blocks that is full of transactions of a Begin and an End: the seconds of a
+and has no room to undo them, beside sound ones of as many blocks: full of transactions of a Begin and an End, one after the other; full
+of transactions that are open all at once and then end; with an Update of each transaction to undo. The row has the seconds of a
 processor, the memory, and the status. The files are made in the current folder, in folders of their own that are removed."""
 import os
 import shutil
@@ -23,7 +24,7 @@ PAGES, GROUPS, LIMIT = 8192, 8, 120
 COUNTS = [1000, 10000, 50100, 200400]
 WRITES = [1000, 10000, 100000, 260000]
 POOLS = [1, 64]
-REFUSED = 16000  # blocks
+REFUSED = 307700, 16000  # transactions with one Update each to undo, and the blocks that they fill
 
 
 def update(txn, prev, number):
@@ -76,6 +77,21 @@ def ended(blocks):
     return log
 
 
+def at_once(blocks):
+    """A log of so many blocks, or a few less, whose transactions are open all at once before the first of them ends."""
+    log = Log()
+    for txn in [log.add(b"\x01") for _ in range(501 * (55 * blocks // 556))]:
+        log.add(b"\x05" + struct.pack(">Q", txn))
+    return log
+
+
+def full(blocks):
+    """A log of so many blocks of Begins alone."""
+    log = Log()
+    log.blocks = [b"\x01" * 501] * blocks
+    return log
+
+
 def seconds(face, log, owed, pool):
     folder = tempfile.mkdtemp(dir=".")
     try:
@@ -90,11 +106,11 @@ def seconds(face, log, owed, pool):
         shutil.rmtree(folder, ignore_errors=True)
 
 
-def costs(face, log, words):
-    """What these words cost over a log with as much room as it has blocks."""
+def costs(face, words, log, owed):
+    """What these words cost over a log."""
     folder = tempfile.mkdtemp(dir=".")
     try:
-        log.write(folder, len(log.blocks) - 1)
+        log.write(folder, owed)
         with subprocess.Popen([face, *words], cwd=folder, stdin=subprocess.DEVNULL, stdout=subprocess.DEVNULL, stderr=subprocess.DEVNULL) as run:
             _, status, used = os.wait4(run.pid, 0)
             run.returncode = os.waitstatus_to_exitcode(status)
@@ -119,12 +135,12 @@ def main():
     for writes in WRITES:
         for pool in POOLS:
             row(programs, f"1 with {writes} Updates", unfinished(1, writes), pool)
-    full, sound = Log(), ended(REFUSED)
-    while len(full.blocks) < REFUSED or len(full.blocks[-1]) < 501:
-        full.add(b"\x01")
+    count, blocks = REFUSED
+    logs = [full(blocks), ended(blocks), at_once(blocks)]
     for words in ["check"], ["run", "64"]:
         for face in programs:
-            print(f"| Begins alone, {words[0]} | {POOLS[-1]} | {REFUSED} | {face} | {costs(face, sound, words)} | {costs(face, full, words)} |", flush=True)
+            row_of = [costs(face, words, log, blocks - 1) for log in logs] + [costs(face, words, *unfinished(count, 1))]
+            print(f"| Begins alone, {words[0]} | {POOLS[-1]} | {blocks} | {face} | {' | '.join(row_of)} |", flush=True)
 
 
 main()

@@ -8,7 +8,8 @@ if ! has python3; then
 fi
 
 # log HOW BLOCKS makes three files whose log has so many full blocks: all Begins, or transactions of a Begin and an End,
-# or Begins with an End behind for each, the first one first; or Begins in so many blocks and an Update behind for each.
+# or, of a few blocks less, all Begins and then an End for each, the first one first; or Begins in so many blocks and an
+# Update behind for each.
 log() {
     python3 - "$@" <<'EOF'
 import struct
@@ -31,8 +32,8 @@ units = [b'\x01' * 501] * blocks
 if how == 'sound':
     units = [b''.join(b'\x01' + ends([512 * number + 2 + 10 * place]) for place in range(50)) for number in range(blocks)]
 if how == 'ended':
-    few = begins[: 501 * (blocks // 56)]
-    units = units[: blocks // 56] + [ends(few[at : at + 55]) for at in range(0, len(few), 55)]
+    few = begins[: 501 * (55 * blocks // 556)]
+    units = units[: len(few) // 501] + [ends(few[at : at + 55]) for at in range(0, len(few), 55)]
 if how == 'updates':
     updates = [b'\x02' + struct.pack('>QQIBBB', txn, txn, place // 32, place % 32, 0, 0) for place, txn in enumerate(begins)]
     units += [b''.join(updates[at : at + 20]) for at in range(0, len(updates), 20)]
@@ -65,12 +66,20 @@ costs check
 [ "$(cat replies)" = 'sound records 0 commits 0' ]
 verdict 'a check of a sound log' $?
 most=$((20 * cost + 500))
-log begins 400
-answers check 'unsound S9' 'a check of 200,400 unfinished transactions'
-answers 'run 4' 'fault foreign' 'a run over them'
-log ended 5600
-answers check 'sound records 0 commits 0' 'a check of 50,100 transactions that end one after the other'
 log updates 100
 answers check 'sound records 0 commits 0' 'a check of 50,100 transactions with an Update each'
 answers 'run 4' 'open 0' 'a run that undoes them'
+
+# A log of Begins alone costs at most three times what a sound one of as many blocks does: a run what one costs that
+# undoes an Update of each of its transactions, a check what one costs whose transactions were open all at once.
+most=$((3 * cost))
+log begins 2605
+answers 'run 4' 'fault foreign' 'a run over 1,305,105 unfinished transactions'
+log ended 5000
+costs check
+[ "$(cat replies)" = 'sound records 0 commits 0' ]
+verdict 'a check of 247,494 transactions that end one after the other' $?
+most=$((3 * cost))
+log begins 5000
+answers check 'unsound S9' 'a check of 2,505,000 unfinished transactions'
 finish

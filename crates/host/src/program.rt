@@ -7,7 +7,7 @@ ghost use Rattle.front_end.specs.Texts.{status_of};
 use command_line::{Request, Unread, read_words, sizes};
 use file_site::{FileSite, LockFile, tell_line};
 use front_end::Halt;
-use image_check::{Verdict, check_image};
+use image_check::{Verdict, check_image, find_place};
 use image_form::Place;
 use notices::{say, see};
 use site::Stop;
@@ -63,12 +63,17 @@ fn may_be_unsound(status: u8, words: &[String]) -> bool {
     status == 11 || status == 9 && sizes(words).is_none()
 }
 
-// The rule of sound devices that fails, and where: they are judged, of a check again.
+// The rule of sound devices that fails, and where: a check has told which, and only its place is found; behind a run
+// the devices are judged.
 fn find_failing<R>(alloc: Global, site: &mut FileSite<R>) -> Option<(u8, Place)>
 where
     R: Files + Input + Print + Eprint + Clock + Drop,
     R::File: FileExt + LockFile,
 {
+    if let Some(rule) = site.watch().rule() {
+        let place = find_place(alloc, site, rule).ok()??;
+        return Some((rule, place));
+    }
     match check_image(alloc, site) {
         Ok(Verdict::Unsound { rule, place }) => Some((rule, place)),
         _ => None,

@@ -5,7 +5,7 @@ ghost use Rattle.mem_site.specs.MemState.{state_of};
 
 use checkpoint::{Master, Pairs};
 use image_check::{
-    Verdict, check_image, rule_apart, rule_commits, rule_named, rule_page_room, rule_room,
+    Verdict, check_image, find_place, rule_apart, rule_commits, rule_named, rule_page_room, rule_room,
     rule_shown, rule_transactions, rule_undoable,
 };
 use image_form::{
@@ -521,6 +521,17 @@ fn place_on(alloc: Global, site: &mut MemSite) -> Result<Option<Place>, Stop> {
     }
 }
 
+// Whether this is the verdict, and the place is found again by its rule.
+fn is_judged(alloc: Global, site: &mut MemSite, verdict: Verdict) -> Result<bool, Stop> {
+    if check_image(alloc, site)? != verdict {
+        return Ok(false);
+    }
+    match verdict {
+        Verdict::Sound { .. } => Ok(true),
+        Verdict::Unsound { rule, place } => Ok(find_place(alloc, site, rule)? == Some(place)),
+    }
+}
+
 // What is asked of devices, and what is found.
 #[derive(Clone, Copy)]
 enum Finds {
@@ -558,7 +569,7 @@ fn is_found(alloc: Global, site: &mut MemSite, found: Finds) -> Result<bool, Sto
         Finds::OnPages(rule, holds) => Ok(holds_of_pages(alloc, site, rule)? == Some(holds)),
         Finds::Shown(redo, shown) => Ok(values_after(alloc, site, redo)?.is_some() == shown),
         Finds::Values(redo, count) => Ok(values_after(alloc, site, redo)? == Some(count)),
-        Finds::Judged(verdict) => Ok(check_image(alloc, site)? == verdict),
+        Finds::Judged(verdict) => is_judged(alloc, site, verdict),
         Finds::At(place) => Ok(place_on(alloc, site)? == place),
     }
 }

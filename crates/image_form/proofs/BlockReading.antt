@@ -1,6 +1,9 @@
 -- Walking over the records of a block.
 use Rattle.std.proofs.lemmas.Grind.{common_steps}
-use Rattle.image_form.proofs.Names.{◌≡◌, ℕ, ◌+◌, ◌≤◌, ◌<◌, List, [], ◌∷◌, ◌++◌, length, drop, refl, sym, ap, ◌∙◌, subst, append_assoc, arith, length-append, drop-drop, drop_at, flat_map, IsLeft, behind, some_octet, one_spelled, spelled_next, spelling, used_by, IsBlock, IsSpelledAt, LogRecord}
+use Rattle.std.proofs.lemmas.List.{at_drop_more}
+use Rattle.log_records.specs.declared.log_record.LogRecord.TheVariants.{Begin}
+use Rattle.log_records.specs.Spelling.{spelling}
+use Rattle.image_form.proofs.Names.{slice_index_or, ◌≡◌, ℕ, ◌+◌, ◌≤◌, ◌<◌, List, [], ◌∷◌, ◌++◌, length, drop, refl, sym, ap, ◌∙◌, subst, append_assoc, arith, length-append, drop-drop, drop_at, flat_map, IsLeft, behind, some_octet, one_spelled, spelled_next, used_by, IsBlock, IsSpelledAt, LogRecord}
 
 -- at first all are left
 pub all_left : (content : List ℕ) (used : ℕ) (records : List LogRecord) → IsBlock content records → used ≡ used_by records → IsLeft content used 2 records
@@ -59,3 +62,9 @@ pub some_spelled : (content : List ℕ) (used at : ℕ) (left : List LogRecord) 
 some_spelled content used at left l before none =
     let one = one_left content used at left l before in
     none one.0 _ (first_spelled content used at one.0 one.1 (subst (IsLeft content used at) one.2 l))
+
+-- the octet of a Begin
+pub begin_spelled : (content : List ℕ) (used at : ℕ) → at < used → used ≤ length content → slice_index_or content at 0 ≡ 1 → IsSpelledAt content at used Begin (at + 1)
+unfolding spelling
+begin_spelled content used at before inside is =
+    spelled_next content used at Begin (drop (at + 1) content) (at_drop_more (λ (x : List ℕ). x) content at 0 (omega (arith, before, inside)) ∙ ap (λ (n : ℕ). n ∷ drop (at + 1) content) is) (omega (arith, before)) tt tt

@@ -7,6 +7,7 @@ ghost use Rattle.site.specs.Work.{OnlyReads};
 ghost use Rattle.image_form.specs.Counted.{ReadsAtMost};
 ghost use Rattle.image_form.specs.Octets.{IsOnPage, IsBlockOn, AreBlocks};
 
+use crate::begins::begins_at;
 use crate::place::Place;
 use byte_fields::get_u16;
 use log_records::{BLOCK_LEN, LogRecord, read_record};
@@ -33,6 +34,10 @@ fn are_on_pages(content: &[u8], pages: u32) -> bool
     let used = get_u16(content, 0) as usize;
     let mut at = 2;
     while at < used {
+        if begins_at(content, at, used) {
+            at += 1;
+            continue;
+        }
         let Ok((rec, end)) = read_record(content, at, used) else {
             unreachable!()
         };

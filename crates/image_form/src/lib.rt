@@ -1,6 +1,7 @@
 //! What stands on devices, read and judged by its form.
 #![tactic(auto)]
 
+mod begins;
 mod blocks;
 mod clean;
 mod following;

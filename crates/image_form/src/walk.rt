@@ -8,6 +8,7 @@ ghost use Rattle.site.specs.Work.{OnlyReads};
 ghost use Rattle.image_form.specs.Counted.{ReadsAtMost};
 ghost use Rattle.image_form.specs.Walking.{MayWalk, StandsBefore, Gives, to_go, unread};
 
+use crate::begins::begins_at;
 use log_records::{BLOCK_LEN, LogRecord, read_record};
 use log_store::LogStore;
 use site::{Site, Stop};
@@ -106,10 +107,14 @@ impl Walk {
         if !more {
             return Ok(None);
         }
+        let lsn = self.from + self.at as u64;
+        if begins_at(&self.content, self.at, self.used) {
+            self.at += 1;
+            return Ok(Some((lsn, LogRecord::Begin)));
+        }
         let Ok((rec, end)) = read_record(&self.content, self.at, self.used) else {
             return Ok(None);
         };
-        let lsn = self.from + self.at as u64;
         self.at = end;
         Ok(Some((lsn, rec)))
     }

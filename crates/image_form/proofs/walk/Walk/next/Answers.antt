@@ -1,4 +1,5 @@
 use Rattle.image_form.proofs.Names.{refl, arith, some_octet}
+use Rattle.log_records.specs.declared.log_record.LogRecord.TheVariants.{Begin}
 use Rattle.image_form.proofs.BlockReading.{some_spelled}
 use Rattle.image_form.proofs.Walks.{given}
 use Rattle.image_form.proofs.walk.Walk.next.Goals as goal
@@ -21,3 +22,8 @@ pub returns-clause-shorter : goal.returns-clause-shorter
 returns-clause-shorter g c =
     let found = c.in-Ok-read_record.ensures.found in
     omega (arith, c.in-Ok.ensures.shorter, some_octet c.in-Ok-read_record.rec, found.length_is, found.inside, c.in-Ok.ensures.some c.if-not-more.false)
+
+pub returns-then-begins_at-clause-next : goal.returns-then-begins_at-clause-next
+returns-then-begins_at-clause-next g c left finds stands =
+    let s = c.in-Ok.ensures.more left finds stands c.if-not-more.false in
+    given c.args.log.now c.fill.new.self _ (g.S.Site.state c.args.site.now).image left Begin _ _ s (c.in-Ok.ensures.some c.if-not-more.false) (c.begins_at.ensures c.if-begins_at.true) refl refl
