@@ -1,5 +1,5 @@
 -- The last line is told.
-use Rattle.std.proofs.Common.{◌≡◌, ◌≢◌, ◌⊎◌, inl, inr, ⊎_elim, ℕ, zero, suc, ◌+◌, ◌-◌, ◌≤◌, List, [], ◌++◌, length, take, refl, sym, ◌∙◌, ap, subst, arith, append-nil, IsTrue, Result, Ok, Err}
+use Rattle.std.proofs.Common.{◌≡◌, ◌≢◌, ◌⊎◌, inl, inr, ⊎_elim, ℕ, zero, suc, List, [], ◌++◌, length, take, refl, sym, ◌∙◌, ap, subst, arith, append-nil, IsTrue, Result, Ok, Err}
 use Rattle.std.specs.Prelude.{⊤}
 use Rattle.site.specs.State.{State as Site, Image, Snapshot, no_loose, now_of}
 use Rattle.site.specs.Calls.{Preserves, Rose}

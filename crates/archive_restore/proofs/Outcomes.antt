@@ -1,15 +1,15 @@
 -- What comes of a restore, since the devices were tested.
-use Rattle.std.proofs.Common.{◌≡◌, inl, inr, ⊎_elim, ℕ, zero, suc, ◌+◌, ◌-◌, ◌^◌, ◌<◌, ◌≤◌, List, [], ◌++◌, length, take, drop, true, refl, sym, ◌∙◌, ap, subst, arith, IsTrue, Ok, Err}
+use Rattle.std.proofs.Common.{◌≡◌, inl, inr, ⊎_elim, ℕ, zero, suc, ◌+◌, ◌-◌, ◌^◌, ◌<◌, List, [], ◌++◌, length, take, drop, true, refl, sym, ◌∙◌, ap, subst, arith, IsTrue, Ok, Err}
 use Rattle.std.specs.List.{AllByRecursion}
 use Rattle.site.specs.State.{State as Site, Image, Input, Moment, now_of}
 use Rattle.site.specs.Calls.{IsUnchanged, Preserves}
 use Rattle.site.specs.Moments.{EachMoment, Leaves, LeavesOnly}
 use Rattle.site.specs.Geometry.{HasLengths, HasLimits}
 use Rattle.site.specs.declared.outside.Stop.TheVariants.{Device, Foreign, Memory, Worn}
-use Rattle.site.proofs.Laws.{goes_nowhere, image_is, rose_since, stays_honest, unchanged}
+use Rattle.site.proofs.Laws.{image_is, rose_since, stays_honest}
 use Rattle.site.specs.declared.geometry.Geometry.{Geometry}
 use Rattle.shell_text.specs.Runs.{lines_of}
-use Rattle.stream_lines.specs.Lines.{AsksFor, IsSource, pending, to_hear}
+use Rattle.stream_lines.specs.Lines.{AsksFor, IsSource, to_hear}
 use Rattle.stream_lines.proofs.Asked.{asks_none}
 use Rattle.log_archive.specs.Accepted.{Accepted, Stream, blank_stream}
 use Rattle.front_end.specs.New.{IsFirstOfAll, IsNotBlank, ReadsOnce}

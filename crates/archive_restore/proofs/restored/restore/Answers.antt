@@ -13,7 +13,7 @@ returns-in-Ok-tell_restored-clause-restore g c = record {
       let mid = g.S.Site.state c.restore_commits.new.site in
       let goes = c.restore_commits.ensures.preserves in
       let honest = stays_honest old mid goes t.honest in
-      headline_told c.args.count c.args.pool geometry old mid (g.S.Site.state c.tell_restored.new.site) _ (c.in-Ok.ensures.restores geometry t) c.tell_restored.result c.tell_restored.ensures.tells honest goes (c.tell_restored.ensures.tells.told honest) (c.in-Ok-tell_restored.ensures.only honest);
+      headline_told c.args.count c.args.pool geometry old mid (g.S.Site.state c.tell_restored.new.site) _ (c.in-Ok.ensures.restores geometry t) c.tell_restored.result c.tell_restored.ensures.tells honest goes (c.in-Ok-tell_restored.ensures.tells.told honest) (c.in-Ok-tell_restored.ensures.only honest);
   line = λ honest geometry limits lengths.
       let old = g.S.Site.state c.args.site.now in
       let mid = g.S.Site.state c.restore_commits.new.site in
