@@ -13,8 +13,8 @@ pub fn lines_are_probes()
     calls_are_durable();
 }
 
-/// Law: where the buckets are well formed that the session sees, find answers what stands under the name; behind put and
-/// remove it sees well-formed buckets that differ under that name alone.
+/// Law: where the session sees well-formed buckets, find answers what stands under the name; behind put and remove it
+/// sees well-formed buckets that differ under that name alone.
 pub fn lines_keep_the_map()
     ensures { LinesKeepTheMap }
 {
