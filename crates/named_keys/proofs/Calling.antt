@@ -1,12 +1,11 @@
 -- The calls of a line, put together.
-use Rattle.std.proofs.Common.{◌≡◌, ℕ, ◌+◌, ◌-◌, ◌/◌, ◌<◌, ◌≤◌, length, Bool, true, false, List, [], ◌∷◌, ◌++◌, Option, Some, None, refl, sym, ap, ◌∙◌, subst, arith}
+use Rattle.std.proofs.Common.{◌≡◌, ℕ, ◌-◌, ◌/◌, ◌≤◌, length, Bool, true, false, List, [], ◌∷◌, ◌++◌, Option, Some, None, refl, sym, ap, ◌∙◌, subst, arith}
 use Rattle.std.proofs.lemmas.Grind.{common_steps}
 use Rattle.std.specs.Prelude.{Result, Ok, Err, if◌then◌else◌, option_map}
 use Rattle.record_model.specs.declared.names.Ask.{Ask}
-use Rattle.record_model.specs.declared.names.Ask.TheVariants.{Read, Write, End}
+use Rattle.record_model.specs.declared.names.Ask.TheVariants.{Read, Write}
 use Rattle.record_model.specs.declared.names.Job.{Job}
 use Rattle.record_model.specs.declared.names.Job.TheVariants.{Put}
-use Rattle.record_model.specs.declared.names.NameAnswer.{NameAnswer}
 use Rattle.record_model.specs.declared.words.Command.{Command}
 use Rattle.record_model.specs.declared.words.Command.TheVariants as command
 use Rattle.record_model.specs.declared.words.Item.{Item}
@@ -18,10 +17,10 @@ use Rattle.database.specs.declared.unanswered.Unanswered.{Unanswered}
 use Rattle.database.specs.declared.unanswered.Unanswered.TheVariants.{Closed}
 use Rattle.database.specs.Held.{Held, records_of}
 use Rattle.database.specs.Serving.{Serves}
-use Rattle.database.specs.Course.{Call, Follow}
+use Rattle.database.specs.Course.{Call}
 use Rattle.database.proofs.Following.{one_call, calls_then}
 use Rattle.named_keys.specs.declared.reply.NameReply.{NameReply}
-use Rattle.named_keys.specs.declared.reply.NameReply.TheVariants.{Answer, Refused}
+use Rattle.named_keys.specs.declared.reply.NameReply.TheVariants.{Refused}
 use Rattle.named_keys.specs.Lines.{IsNameLine, GoesOn, IsBehind, MakesLine, RefusesLong, ServesName, ServesPut, buckets_of, command_for, content_in, is_done, reads_in, refused_long, told_by}
 use Rattle.named_keys.specs.Going.{IsGoing, LineOf, LineSoFar, Tells}
 use Rattle.named_keys.proofs.Going.{few_calls}

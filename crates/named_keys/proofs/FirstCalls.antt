@@ -17,7 +17,7 @@ use Rattle.database.specs.declared.unanswered.Unanswered.{Unanswered}
 use Rattle.database.specs.Course.{Call}
 use Rattle.named_keys.specs.declared.reply.NameReply.{NameReply}
 use Rattle.named_keys.specs.declared.reply.NameReply.TheVariants.{Answer, Refused}
-use Rattle.named_keys.specs.Lines.{IsNameLine, IsBehind, GoesOn, command_for, content_in, is_done, is_read, told_by}
+use Rattle.named_keys.specs.Lines.{IsNameLine, IsBehind, GoesOn, command_for, content_in, is_done, is_read}
 
 pub found_in : (told : Reply) (content : Content) → content_in told ≡ Some content → told ≡ found content
 found_in told content is = grind (arith, common_steps)

@@ -1,9 +1,7 @@
 -- What comes of a line that nothing refused.
-use Rattle.std.proofs.Common.{◌≡◌, ◌≢◌, ℕ, zero, suc, ◌+◌, ◌-◌, ◌<◌, ◌≤◌, ◌/◌, Bool, true, false, List, [], ◌∷◌, ◌++◌, length, map, Option, Some, None, inl, inr, refl, sym, ap, ◌∙◌, subst, arith}
+use Rattle.std.proofs.Common.{◌≡◌, ℕ, zero, suc, ◌+◌, ◌≤◌, List, [], ◌∷◌, map, Some, None, refl, sym, ap, ◌∙◌, subst, arith}
 use Rattle.std.proofs.lemmas.Grind.{common_steps}
-use Rattle.std.specs.Prelude.{Result, Ok, Err, ◌⊎◌, slice_set}
-use Rattle.record_model.specs.declared.names.Job.{Job}
-use Rattle.record_model.specs.declared.names.Job.TheVariants.{Find, Put, Remove}
+use Rattle.std.specs.Prelude.{Result, Ok}
 use Rattle.record_model.specs.declared.names.Ask.{Ask}
 use Rattle.record_model.specs.declared.names.Ask.TheVariants.{Read, Write, End}
 use Rattle.record_model.specs.declared.names.NameAnswer.{NameAnswer}
@@ -13,17 +11,16 @@ use Rattle.record_model.specs.declared.words.Command.{Command}
 use Rattle.record_model.specs.declared.words.Command.TheVariants as command
 use Rattle.record_model.specs.declared.words.Reply.{Reply}
 use Rattle.record_model.specs.declared.words.Reply.TheVariants as reply
-use Rattle.record_model.specs.State.{Content, State, content_at}
-use Rattle.record_model.specs.Run.{next_listing, replies, turns}
+use Rattle.record_model.specs.State.{Content, State}
+use Rattle.record_model.specs.Run.{next_listing, replies}
 use Rattle.record_model.specs.Step.{found, step}
 use Rattle.record_model.specs.Probes.{Probe, after_told, after_written, told_of, told_times, with_write}
 use Rattle.name_table.specs.Probing.{IsRead as AsksRead}
 use Rattle.database.specs.declared.unanswered.Unanswered.{Unanswered}
-use Rattle.database.specs.Held.{Held}
 use Rattle.database.specs.Course.{AreAnswers, Call, listings_of, begun, run_of}
 use Rattle.named_keys.specs.declared.reply.NameReply.{NameReply}
 use Rattle.named_keys.specs.declared.reply.NameReply.TheVariants.{Answer}
-use Rattle.named_keys.specs.Lines.{IsNameLine, is_read, reads_in}
+use Rattle.named_keys.specs.Lines.{IsNameLine, reads_in}
 use Rattle.named_keys.specs.Laws.{IsAnswerTo, seen_table, state_behind}
 use Rattle.named_keys.proofs.FirstCalls.{FirstCall, reads, writes, stops, first_call}
 use Rattle.named_keys.proofs.Seeing.{IsRead, IsWritten, read_is, write_is}

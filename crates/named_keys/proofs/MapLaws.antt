@@ -1,11 +1,11 @@
 -- What people know of lines about names.
-use Rattle.std.proofs.Common.{◌≡◌, ◌≢◌, ℕ, zero, suc, ◌+◌, ◌-◌, ◌*◌, ◌/◌, ◌≤◌, List, [], ◌∷◌, ◌++◌, length, Option, Some, None, inl, inr, refl, sym, ap, ◌∙◌, subst, arith}
+use Rattle.std.proofs.Common.{◌≡◌, ◌≢◌, ℕ, ◌+◌, ◌/◌, ◌≤◌, List, [], ◌∷◌, ◌++◌, length, Option, Some, None, inl, inr, refl, sym, ap, ◌∙◌, subst, arith}
 use Rattle.std.specs.Prelude.{Result, Ok, Err, OnOk, ◌⊎◌}
 use Rattle.site.specs.declared.geometry.Geometry.{Geometry}
 use Rattle.record_model.specs.declared.names.Job.{Job}
 use Rattle.record_model.specs.declared.names.Job.TheVariants.{Find, Put, Remove}
 use Rattle.record_model.specs.declared.names.Ask.{Ask}
-use Rattle.record_model.specs.declared.names.Ask.TheVariants.{Read, Write, End}
+use Rattle.record_model.specs.declared.names.Ask.TheVariants.{End}
 use Rattle.record_model.specs.declared.names.NameAnswer.{NameAnswer}
 use Rattle.record_model.specs.declared.names.NameAnswer.TheVariants as answer
 use Rattle.record_model.specs.State.{Content, State, session_at, writes_of}
@@ -14,16 +14,14 @@ use Rattle.record_model.specs.declared.words.Reply.{Reply}
 use Rattle.record_model.specs.Names.{bucket_count, names, IsWellFormed}
 use Rattle.record_model.specs.Probes.{Probe, begun, told_times, with_write}
 use Rattle.record_model.proofs.StepLaws.{length_table_with}
-use Rattle.name_table.specs.Laws.{IsFull, IsMap, NamesAreAMap, Writes, found, reached}
-use Rattle.name_table.specs.Probing.{IsName}
+use Rattle.name_table.specs.Laws.{IsMap, NamesAreAMap, Writes, found, reached}
 use Rattle.database.specs.declared.unanswered.Unanswered.{Unanswered}
 use Rattle.database.specs.Held.{Held, StandsFor, records_of}
-use Rattle.database.specs.Course.{Call, CallsAreDurable, Follow, IsDurable, run_of}
+use Rattle.database.specs.Course.{Call, CallsAreDurable, Follow, run_of}
 use Rattle.database.proofs.Sizes.{table_size}
-use Rattle.named_keys.specs.declared.reply.NameReply.{NameReply}
-use Rattle.named_keys.specs.declared.reply.NameReply.TheVariants.{Answer, Refused}
+use Rattle.named_keys.specs.declared.reply.NameReply.TheVariants.{Answer}
 use Rattle.named_keys.specs.Lines.{IsNameLine, buckets_of}
-use Rattle.named_keys.specs.Laws.{Changes, ComesTo, IsAnswerTo, IsAnswered, KeepsMap, LinesAreProbes, LinesKeepTheMap, seen_table, state_behind}
+use Rattle.named_keys.specs.Laws.{Changes, IsAnswerTo, KeepsMap, LinesAreProbes, LinesKeepTheMap, seen_table, state_behind}
 use Rattle.named_keys.proofs.FirstCalls.{FirstCall, reads, writes, stops, first_call}
 use Rattle.named_keys.proofs.Going.{few_calls}
 use Rattle.named_keys.proofs.LineLaws.{comes_of}

@@ -1,7 +1,7 @@
 -- What a session sees behind a call of a line.
-use Rattle.std.proofs.Common.{◌≡◌, ℕ, zero, suc, ◌+◌, ◌<◌, ◌≤◌, Bool, true, false, List, [], ◌∷◌, ◌++◌, length, Option, Some, None, refl, sym, ap, ◌∙◌, subst, arith}
+use Rattle.std.proofs.Common.{◌≡◌, ℕ, zero, suc, ◌<◌, Bool, true, false, List, [], ◌∷◌, ◌++◌, length, Option, Some, None, refl, sym, ap, ◌∙◌, subst, arith}
 use Rattle.std.proofs.lemmas.Grind.{common_steps}
-use Rattle.std.specs.Prelude.{if◌then◌else◌, ◌&&◌, not, is_none, nat_le, option_map, slice_index_or, slice_set}
+use Rattle.std.specs.Prelude.{if◌then◌else◌, ◌&&◌, not, is_none, option_map, slice_index_or, slice_set}
 use Rattle.record_model.specs.declared.words.CacheLine.{CacheLine}
 use Rattle.record_model.specs.declared.words.Command.{Command}
 use Rattle.record_model.specs.declared.words.Command.TheVariants as command
@@ -10,7 +10,7 @@ use Rattle.record_model.specs.declared.words.Reply.TheVariants as reply
 use Rattle.record_model.specs.declared.words.Why.TheVariants.{BadSession}
 use Rattle.record_model.specs.State.{Content, Session, State, content_at, seen, session_at, table_with, writes_of}
 use Rattle.record_model.specs.State as state
-use Rattle.record_model.specs.Step.{Outcome, answer, carried_through, effect, fills_page, first_refusal, found, full, having_read, having_written, is_accepted, lacks_room, outcome, ready, refusal, step, wants_active, wants_record, with_session}
+use Rattle.record_model.specs.Step.{Outcome, answer, carried_through, effect, fills_page, first_refusal, found, full, having_read, having_written, lacks_room, outcome, ready, refusal, step, wants_active, wants_record, with_session}
 use Rattle.record_model.specs.Laws.{is_refused}
 use Rattle.record_model.proofs.RefusalLaws.{refusals_are_told}
 use Rattle.log_laws.proofs.Tables.{content_with}

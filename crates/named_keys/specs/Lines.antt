@@ -1,5 +1,5 @@
 -- A line about a name: the calls that its probe asks for, one after the other, and what it is answered.
-use Rattle.std.specs.Prelude.{◌≡◌, ℕ, ◌+◌, ◌/◌, ◌<◌, ◌≤◌, Bool, true, false, List, [], ◌∷◌, length, count_by}
+use Rattle.std.specs.Prelude.{◌≡◌, ℕ, ◌/◌, ◌<◌, ◌≤◌, Bool, true, false, List, [], ◌∷◌, length, count_by}
 use Rattle.std.specs.Prelude.{Option, Some, None, option_map, Result, Ok, Err, if◌then◌else◌}
 use Rattle.record_model.specs.declared.names.Job.{Job}
 use Rattle.record_model.specs.declared.names.Job.TheVariants.{Put}

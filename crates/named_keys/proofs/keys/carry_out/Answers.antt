@@ -1,5 +1,5 @@
 use Rattle.std.proofs.Common.{Option, subst}
-use Rattle.std.specs.Prelude.{Result, Ok}
+use Rattle.std.specs.Prelude.{Ok}
 use Rattle.named_keys.specs.declared.reply.NameReply.{NameReply}
 use Rattle.named_keys.specs.Going.{Step}
 use Rattle.named_keys.proofs.Calling.{one_more, whole_line}

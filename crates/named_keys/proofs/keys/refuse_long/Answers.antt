@@ -1,5 +1,5 @@
 use Rattle.std.proofs.Common.{refl, ap, sym}
-use Rattle.std.specs.Prelude.{Result, Ok}
+use Rattle.std.specs.Prelude.{Ok}
 use Rattle.record_model.specs.declared.words.Reply.{Reply}
 use Rattle.named_keys.specs.Lines.{refused_long}
 use Rattle.named_keys.proofs.Calling.{long_refused, no_items}
