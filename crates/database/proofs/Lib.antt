@@ -1,5 +1,6 @@
 mod Names
 mod Served
 pub mod Following
+pub mod Sizes
 mod Lines
 mod Durable

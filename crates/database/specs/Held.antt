@@ -1,5 +1,5 @@
 -- A database as its contracts speak of it, and what it stands for.
-use Rattle.std.specs.Prelude.{◌≡◌, Bool, false}
+use Rattle.std.specs.Prelude.{◌≡◌, ℕ, ◌*◌, Bool, false}
 use Rattle.site.specs.State.{State as Site, IsQuiet}
 use Rattle.site.specs.declared.geometry.Geometry.{Geometry}
 use Rattle.record_model.specs.State.{State}
@@ -12,6 +12,10 @@ pub record Held : Type 0 where
   pub engine : Engine
   pub site : Site
   pub closed : Bool
+
+-- how many records it has
+abbrev pub records_of : Held → ℕ
+records_of db = 32 * (sizes_of db.engine.store).pages
 
 -- over an honest and quiet site of these sizes: it is open, and stands for this state
 pub record StandsFor (g : Geometry) (s : State) (db : Held) : Type 0 where

@@ -1,12 +1,15 @@
 // The database: an engine, and the site that it works on.
-ghost use Rattle.std.specs.Prelude.{◌≡◌, ◌||◌, ◌≤◌, Ok, Err, IfOk, IfErr};
+ghost use Rattle.std.specs.Prelude.{◌≡◌, ◌||◌, ◌≤◌, ◌^◌, length, true, false, Ok, Err, IfOk, IfErr};
+ghost use Rattle.site.specs.declared.geometry.Geometry.{Geometry};
+ghost use Rattle.record_model.specs.State.{State};
+ghost use Rattle.database.specs.Held.{StandsFor, records_of};
 ghost use Rattle.database.specs.Opening.{HasOpened};
 ghost use Rattle.database.specs.Serving.{answered, has_stopped};
 
 use crate::unanswered::{Unanswered, Unopened};
 use engine::Engine;
 use record_model::Reply;
-use site::{Site, Stop};
+use site::{Dev, Site, Stop};
 use std::alloc::Global;
 use std::marker::Model;
 
@@ -69,6 +72,19 @@ impl<S: Site + Drop> Database<S> {
         ensures closed { result ≡ self.now.closed }
     {
         self.closed
+    }
+
+    /// How many records it has, 32 to 2,097,152.
+    pub fn records(&self) -> Result<u32, Unanswered>
+        ensures closed { self.now.closed ≡ true → result ≡ Err Unanswered.Closed }
+        ensures records { self.now.closed ≡ false → result ≡ Ok (records_of self.now) }
+        ensures model { (g : Geometry) (s : State) → StandsFor g s self.now → result ≡ Ok (length s.table) }
+        ensures limits { IfOk result (λ records. (32 ≤ records) × (records ≤ 2 ^ 21)) }
+    {
+        if self.closed {
+            return Err(Unanswered::Closed);
+        }
+        Ok((self.site.len(Dev::Disk) / 128) as u32)
     }
 
     /// The site.

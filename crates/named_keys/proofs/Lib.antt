@@ -1,0 +1,6 @@
+mod FirstCalls
+mod Going
+mod Calling
+mod Seeing
+mod LineLaws
+mod MapLaws

@@ -1,0 +1,5 @@
+//! Tests of `named_keys`.
+#![tactic(auto)]
+
+#[cfg(test)]
+mod tests;
