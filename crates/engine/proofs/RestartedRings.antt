@@ -8,12 +8,13 @@ use Rattle.ring_machine.proofs.Ends.{saves_one, masters_stay, clr_saves_none}
 use Rattle.write_ahead.specs.Forcing.{IsLogged, is_unsealed, end_now, end_forced}
 use Rattle.page_store.specs.Caching.{cache_of, rules}
 use Rattle.redo_laws.specs.Holding.{Invariant, Represents}
+use Rattle.redo_laws.specs.Running.{settled}
 use Rattle.redo_undo.proofs.PushedPages.{sealed_off}
 use Rattle.engine.proofs.Recovers.{no_tail_still}
 
 -- No page waits where the tail has no records.
 
-pub nothing_waits : (log : LogStore) (pages : PageStore) (site : State) (newest : Option Master) (records : List Entry) (table : List Content) (commits : ℕ) → log.geometry ≡ pages.flash.geometry → Represents log pages site newest records table commits → has_tail log ≡ false → (page : ℕ) → page < pages.flash.geometry.pages →
+pub nothing_waits : (log : LogStore) (pages : PageStore) (site : State) (newest : Option Master) (records : List Entry) (table : List Content) (commits : ℕ) → log.geometry ≡ pages.flash.geometry → Represents log pages site newest records (settled table commits) → has_tail log ≡ false → (page : ℕ) → page < pages.flash.geometry.pages →
     is_unsealed (end_now log) (current pages site.image page) ≡ false
 nothing_waits log pages site newest records table commits sizes h none page exists = by (frame_of pages.pool.frames page) refl
   where
@@ -30,7 +31,7 @@ nothing_waits log pages site newest records table commits sizes h none page exis
         sealed_off (end_now log) (version_on pages.flash.geometry site.image page) (λ some. (let below = logged.below some in omega (arith, below, hi)))
 
 -- so the machine that rests mirrors log and pages
-pub resting_mirrors : (log : LogStore) (pages : PageStore) (site : State) (newest : Option Master) (records : List Entry) (table : List Content) (commits : ℕ) → log.geometry ≡ pages.flash.geometry → Represents log pages site newest records table commits → has_tail log ≡ false → 2 ≤ log.used → (next masters : ℕ) →
+pub resting_mirrors : (log : LogStore) (pages : PageStore) (site : State) (newest : Option Master) (records : List Entry) (table : List Content) (commits : ℕ) → log.geometry ≡ pages.flash.geometry → Represents log pages site newest records (settled table commits) → has_tail log ≡ false → 2 ≤ log.used → (next masters : ℕ) →
     next ≡ log.ring.hi → masters ≤ 2 ^ 40 → Mirrors log pages site.image (resting next masters (cache_of pages))
 resting_mirrors log pages site newest records table commits sizes h none low next masters is few = record {
   cache = refl;
@@ -83,7 +84,7 @@ store_from {r = r} {works = works} {log = log} {pages = pages} {image = image} s
 -- Redo, from what was opened on.
 
 pub redo_performs : {T : Type 0} (result : Result T Stop) (opened : Opened) (log : LogStore) (pages : PageStore) (before now : State) (newest : Option Master) (records : List Entry) (table : List Content) (commits : ℕ) (works : List CacheOp) →
-    Invariant opened.log opened.pages before → opened.log.used ≡ 2 → opened.masters.hi ≤ 2 ^ 40 → AsksAtRest result works opened.pages pages before now → OnOk result (Represents log pages now newest records table commits) → OnOk result (blocks_to log ≡ blocks_to opened.log) →
+    Invariant opened.log opened.pages before → opened.log.used ≡ 2 → opened.masters.hi ≤ 2 ^ 40 → AsksAtRest result works opened.pages pages before now → OnOk result (Represents log pages now newest records (settled table commits)) → OnOk result (blocks_to log ≡ blocks_to opened.log) →
     OnOk result (opened.log.ring.hi ≤ log.ring.hi) → OnOk result (Invariant log pages now) → Performs result (rules opened.pages) (map cached works) (λ m. m ≡ found_machine opened) (Mirrors log pages now.image)
 redo_performs (Err stop) opened log pages before now newest records table commits works going empty few asks holds blocks rises still = performs_failed (asks.performs.from opened.log.ring.hi opened.masters.hi going.log_going.usable.bounded few)
 redo_performs (Ok x) opened log pages before now newest records table commits works going empty few asks holds blocks rises still =
