@@ -2,14 +2,14 @@
 use Rattle.std.proofs.Common.{◌≡◌, ◌≢◌, ◌⊎◌, inl, inr, ⊎_elim, ℕ, zero, suc, List, [], ◌++◌, take, refl, sym, ◌∙◌, ap, subst, arith, append-nil, IsTrue, Result, Ok, Err}
 use Rattle.std.specs.Prelude.{⊤}
 use Rattle.site.specs.State.{State as Site, Image, Snapshot, no_loose, now_of}
-use Rattle.site.specs.Calls.{Preserves}
+use Rattle.site.specs.Calls.{Preserves, Rose}
 use Rattle.site.specs.Moments.{Leaves, LeavesOnly}
 use Rattle.site.specs.Telling.{SameDevices}
 use Rattle.site.specs.declared.outside.Failed.{Failed}
 use Rattle.site.specs.declared.geometry.Geometry.{Geometry}
 use Rattle.site.proofs.Laws.{image_is, in_sequence, leaves_weaker, rose_then, stays_honest, tell_leaves}
 use Rattle.log_archive.specs.Accepted.{Stream}
-use Rattle.site.specs.declared.outside.Stop.TheVariants.{Foreign}
+use Rattle.site.specs.declared.outside.Stop.TheVariants.{Device, Foreign, Memory, Worn}
 use Rattle.front_end.specs.New.{IsNotBlank, unfit_line}
 use Rattle.front_end.specs.Refusals.{RefusesDevices}
 use Rattle.front_end.specs.Tells.{Tells}
@@ -17,13 +17,16 @@ use Rattle.front_end.specs.declared.halt.Halt.TheVariants as halt
 use Rattle.front_end.specs.declared.new_database.Unfit.{Unfit}
 use Rattle.front_end.specs.declared.new_database.Unfit.TheVariants as unfit
 use Rattle.front_end.proofs.Endings.{ends_with, refuses_devices}
-use Rattle.face.proofs.CauseLaws.{cause_then}
+use Rattle.engine.specs.Leaves.{HasNoSizes}
+use Rattle.front_end.specs.declared.halt.Halt.{Halt}
+use Rattle.face.specs.Causes.{HasCause, IsForeign}
+use Rattle.face.proofs.CauseLaws.{cause_then, no_causes, status_causes}
 use Rattle.archive_restore.proofs.Taken.{asks_still}
 use Rattle.archive_restore.specs.declared.fault.Fault.{Fault}
 use Rattle.archive_restore.specs.declared.fault.Fault.TheVariants as fault
-use Rattle.archive_restore.specs.Contract.{EndsSo, RestoreHeadline, RestoreOutcome}
+use Rattle.archive_restore.specs.Contract.{EndsSo, IsKnown, RestoreCauses, RestoreHeadline, RestoreOutcome, RestoreTells}
 use Rattle.archive_restore.specs.Refusing.{RefusesFilled, RefusesSizes, RefusesWritten}
-use Rattle.archive_restore.specs.Restores.{EndsBy, HasFewCommits, HasSealed, IsBetween, IsLeft, StandsAfter, StandsNear, TellsBehind}
+use Rattle.archive_restore.specs.Restores.{EndsBy, HasFaultCause, HasFewCommits, HasSealed, IsBetween, IsLeft, StandsAfter, StandsNear, TellsBehind}
 use Rattle.archive_restore.specs.Texts.{fault_line, fault_status, restored_line}
 
 unfit_then : (u : Unfit) (a b c : Site) → IsNotBlank u a b → Preserves b c → IsNotBlank u a c
@@ -79,18 +82,10 @@ module _ (count : ℕ) (g : Geometry) (old mid new : Site) {T : Type 0} (result 
         (tell_leaves (StandsAfter g o.s k) line mid new (λ snapshot left. subst (λ (x : Image). StandsAfter g o.s k x) (sym (image_is (now_of mid) snapshot quiet left)) stands) (tells.any_moment honest)));
   }
 
-  pub headline_by : (status : ℕ) → Preserves old mid → EndsSo status line count g o.lines o.behind o.s o.begun old new → (status ≢ 3 → mid.loose ≡ no_loose) → RestoreHeadline count g old new status
+  pub headline_by : (status : ℕ) → Preserves old mid → EndsSo status line count g o.lines o.behind o.s o.begun old new (HasSealed g o.s o.begun old new) → (status ≢ 3 → mid.loose ≡ no_loose) → RestoreHeadline count g old new status
   headline_by status goes so quiet = record {
-    lines = o.lines;
-    behind = o.behind;
-    s = o.s;
-    heard = o.heard;
-    begun = o.begun;
-    few = o.few;
-    most = o.most;
-    fit = o.fit;
     line = line;
-    so = so;
+    ended = record { lines = o.lines; behind = o.behind; s = o.s; heard = o.heard; begun = o.begun; few = o.few; most = o.most; fit = o.fit; so = so };
     ends = ends_with old.told line old mid new told goes honest o.told tells;
     moments = moments_told;
     quiet = λ ne. same.loose ∙ quiet ne;
@@ -101,7 +96,7 @@ module _ (count : ℕ) (g : Geometry) (old mid new : Site) {T : Type 0} (result 
 pub headline_done : (count status : ℕ) (g : Geometry) (old mid new : Site) {T : Type 0} (x : T) (o : RestoreOutcome count g old mid (Ok x)) {U : Type 0} (told : Result U Failed) (tells : Tells (restored_line count) mid new told) → IsTrue mid.honest → Preserves old mid → (status ≡ 0) ⊎ (status ≡ 6) → RestoreHeadline count g old new status
 headline_done count status g old mid new x o told tells honest goes is =
     headline_by count g old mid new (Ok x) o (restored_line count) told tells honest status goes
-    (inl (is, refl, o.done.0, sealed_told count g old mid new (Ok x) o (restored_line count) told tells honest count o.done.2 o.done.1)) (λ ne. o.done.2)
+    (inl (is, refl, o.done.0, sealed_told count g old mid new (Ok x) o (restored_line count) told tells honest o.begun o.done.2 (subst (λ n. StandsAfter g o.s n mid.image) (sym o.done.0) o.done.1))) (λ ne. o.done.2)
 
 -- no device failed where all that were begun are written
 between_settled : (f : Fault) → IsBetween f → fault_status f ≢ 3
@@ -125,6 +120,55 @@ headline_stopped count status g old mid new f o told tells honest goes is =
       ends_then f g o.lines o.behind o.s o.begun old mid new o.stops.0 tells.preserves (λ h. tells.devices honest),
       λ between. let b = o.stops.1 between in (b.0, sealed_told count g old mid new (Err f) o (fault_line f) told tells honest o.begun (o.stops.2 (between_settled f between)) b.1),
     )) (λ ne. o.stops.2 (λ e. ne (is ∙ e)))
+
+-- Over any honest site the line comes last.
+module _ {T : Type 0} (count : ℕ) (g : Geometry) (old mid new : Site) (goes : Preserves old mid) (honest : IsTrue mid.honest) where
+  tells_by : (result : Result T Fault) (k : IsKnown count g old mid result) (line : List ℕ) {U : Type 0} (told : Result U Failed) → Tells line mid new told → (status : ℕ) → EndsSo status line count g k.lines k.behind k.s k.begun old new (Unit {0}) → RestoreTells count g old new status
+  tells_by result k line told tells status so = record {
+    line = line;
+    ended = record { lines = k.lines; behind = k.behind; s = k.s; heard = k.heard; begun = k.begun; few = k.few; most = k.most; fit = k.fit; so = so };
+    before = mid.told;
+    ends = ends_with mid.told line old mid new told goes honest refl tells;
+  }
+
+  pub tells_done : (x : T) → IsKnown count g old mid (Ok x) → {U : Type 0} (told : Result U Failed) → Tells (restored_line count) mid new told → (status : ℕ) → (status ≡ 0) ⊎ (status ≡ 6) → RestoreTells count g old new status
+  tells_done x k told tells status is = tells_by (Ok x) k (restored_line count) told tells status (inl (is, refl, k.done, tt))
+
+  pub tells_stopped : (f : Fault) → IsKnown {T = T} count g old mid (Err f) → {U : Type 0} (told : Result U Failed) → Tells (fault_line f) mid new told → (status : ℕ) → status ≡ fault_status f → RestoreTells count g old new status
+  tells_stopped f k told tells status is = tells_by (Err f) k (fault_line f) told tells status
+      (inr (f, is, refl, ends_then f g k.lines k.behind k.s k.begun old mid new k.stops.0 tells.preserves (λ h. tells.devices honest), λ between. (k.stops.1 between, tt)))
+
+-- When each status comes, on every site.
+
+foreign_now : (site : Site) → (IsTrue site.honest → HasNoSizes site) → IsForeign site
+foreign_now site none = λ honest g table commits stands. none honest g stands.stands.sound.octets.limits stands.stands.sound.octets.lengths
+
+halt_causes : (h : Halt) (status : ℕ) (old mid new : Site) → status ≡ fault_status (fault.Halt h) → (status ≢ 9) → HasCause h old mid → Preserves mid new → (IsTrue old.honest → SameDevices mid new) → RestoreCauses old new status
+halt_causes h status old mid new is other cause goes same = record { others = inl (status_causes h status old new is (cause_then h old mid new cause goes same)); foreign = λ nine. absurd (other nine) }
+
+other_causes : (status : ℕ) (old new : Site) → (status ≡ 10) ⊎ ((status ≡ 13) ⊎ ((status ≡ 14) ⊎ (status ≡ 15))) → status ≢ 9 → RestoreCauses old new status
+other_causes status old new is other = record { others = inr is; foreign = λ nine. absurd (other nine) }
+
+pub causes_stopped : (f : Fault) (status : ℕ) (old mid new : Site) → status ≡ fault_status f → HasFaultCause f old mid → Preserves mid new → (IsTrue old.honest → SameDevices mid new) → RestoreCauses old new status
+causes_stopped (fault.Unfit unfit.Foreign) status old mid new is cause goes same = absurd cause
+causes_stopped (fault.Unfit (unfit.Failed dev)) status old mid new is cause goes same = halt_causes (halt.Stop (Device dev)) status old mid new is (λ nine. omega (arith, is, nine)) cause goes same
+causes_stopped (fault.Unfit (unfit.NotBlank dev place)) status old mid new is cause goes same = other_causes status old new (inl is) (λ nine. omega (arith, is, nine))
+causes_stopped (fault.Halt (halt.Stop (Device dev))) status old mid new is cause goes same = halt_causes (halt.Stop (Device dev)) status old mid new is (λ nine. omega (arith, is, nine)) cause goes same
+causes_stopped (fault.Halt (halt.Stop Memory)) status old mid new is cause goes same = halt_causes (halt.Stop Memory) status old mid new is (λ nine. omega (arith, is, nine)) tt goes same
+causes_stopped (fault.Halt (halt.Stop (Worn dev))) status old mid new is cause goes same = halt_causes (halt.Stop (Worn dev)) status old mid new is (λ nine. omega (arith, is, nine)) cause goes same
+causes_stopped (fault.Halt (halt.Stop Foreign)) status old mid new is cause goes same = record { others = inl (status_causes (halt.Stop Foreign) status old new is (foreign_now old cause)); foreign = λ nine. cause }
+causes_stopped (fault.Halt halt.Input) status old mid new is cause goes same = halt_causes halt.Input status old mid new is (λ nine. omega (arith, is, nine)) cause goes same
+causes_stopped (fault.Halt halt.Output) status old mid new is cause goes same = halt_causes halt.Output status old mid new is (λ nine. omega (arith, is, nine)) cause goes same
+causes_stopped (fault.Halt halt.Limit) status old mid new is cause goes same = halt_causes halt.Limit status old mid new is (λ nine. omega (arith, is, nine)) cause goes same
+causes_stopped (fault.Stream number) status old mid new is cause goes same = other_causes status old new (inr (inl is)) (λ nine. omega (arith, is, nine))
+causes_stopped (fault.Short commits) status old mid new is cause goes same = other_causes status old new (inr (inr (inl is))) (λ nine. omega (arith, is, nine))
+causes_stopped fault.Full status old mid new is cause goes same = other_causes status old new (inr (inr (inr is))) (λ nine. omega (arith, is, nine))
+
+pub causes_none : (old new : Site) → RestoreCauses old new 0
+causes_none old new = record { others = inl (no_causes old new); foreign = λ nine. absurd (omega (arith, nine)) }
+
+pub causes_untold : (old new : Site) → Rose old.output_faults new.output_faults → RestoreCauses old new 6
+causes_untold old new rose = record { others = inl (status_causes halt.Output 6 old new refl rose); foreign = λ nine. absurd (omega (arith, nine)) }
 
 -- Devices that are refused.
 

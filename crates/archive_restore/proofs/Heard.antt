@@ -7,7 +7,7 @@ use Rattle.hex.proofs.HexLemmas.{length-encode_with}
 use Rattle.site.specs.State.{State as Site, Image, Snapshot, now_of, no_loose}
 use Rattle.site.specs.Calls.{Preserves}
 use Rattle.site.specs.Moments.{Leaves}
-use Rattle.site.proofs.Laws.{calm, image_is, leaves_weaker, now_same}
+use Rattle.site.proofs.Laws.{calm, image_is, leaves_weaker, now_same, stays_honest}
 use Rattle.site.specs.declared.geometry.Geometry.{Geometry}
 use Rattle.record_model.specs.State.{Content, State}
 use Rattle.record_model.specs.Run.{Line}
@@ -31,8 +31,8 @@ use Rattle.face.specs.Image.{blank_table}
 use Rattle.face.proofs.Serving.{served_heard}
 use Rattle.archive_restore.specs.declared.restoring.Restoring.{Restoring}
 use Rattle.archive_restore.specs.declared.fault.Fault.{Fault}
-use Rattle.archive_restore.specs.Progress.{GoesOnRestoring, HasHeard, HasWritten, StopsRestoring}
-use Rattle.archive_restore.specs.Restores.{EndsBy, FitsAt, IsLeft, StandsAfter, lines_of_nets, net_at}
+use Rattle.archive_restore.specs.Progress.{EndsOnSite, GoesOnRestoring, HasFit, HasHeard, HasWritten, StopsRestoring}
+use Rattle.archive_restore.specs.Restores.{EndsBy, FitsAt, HasFaultCause, IsLeft, StandsAfter, lines_of_nets, net_at}
 use Rattle.archive_restore.specs.Writing.{HasCarried, blank_state, run_over}
 use Rattle.archive_restore.proofs.Carried.{carried_fits, carried_quiet, carried_stands}
 use Rattle.archive_restore.proofs.Growing.{Grows, line_grows, net_stays, table_stays, take_stays}
@@ -48,6 +48,26 @@ carried_heard pool g entry mid new engine lines s c goes same = record {
   goes = c.goes;
 }
 
+-- the commits that had room are the first ones of the longer stream too
+module _ (g : Geometry) (s now : Stream) (r : Restoring) (a : HasFit g s r) (grown : Grows s now) where
+  fit_same : (j : ℕ) → j < r.written → FitsAt g now j
+  fit_same j less =
+      let inside : j < length s.nets = let all = a.few in omega (arith, less, all) in
+      subst (Fits (g.blocks - 1) (archive_table (blank_table g) now.nets j)) (sym (net_stays s now grown j inside))
+      (subst (λ t. Fits (g.blocks - 1) t (net_at s j)) (sym (table_stays s now grown j (blank_table g) (omega (arith, inside)))) (a.fit j less))
+
+  pub table_same : archive_table (blank_table g) now.nets r.written ≡ archive_table (blank_table g) s.nets r.written
+  table_same = table_stays s now grown r.written (blank_table g) a.few
+
+  pub fit_heard : (replay : Replay) (source : Source) → StandsFor g.pages now (take r.written s.nets) replay → HasFit g now (record r { replay = replay; source = source })
+  fit_heard replay source stands = record {
+    replay = subst (λ l. StandsFor g.pages now l replay) (sym (take_stays s now grown r.written a.few)) stands;
+    few = let all = a.few in let more = ap length grown.is ∙ length-append s.nets grown.more in omega (arith, all, more);
+    cap = a.cap;
+    room = subst (λ t. AreLengths (while_writing t []) r.room) (sym table_same) a.room;
+    fit = fit_same;
+  }
+
 module _ (pool : ℕ) (g : Geometry) (s now : Stream) (entry mid new : Site) (r : Restoring) (h : HasWritten pool g s entry mid r) (grown : Grows s now) (goes : Preserves mid new) (same : HearsOnly mid new) where
   abbrev k : ℕ
   k = r.written
@@ -60,28 +80,15 @@ module _ (pool : ℕ) (g : Geometry) (s now : Stream) (entry mid new : Site) (r 
     told = l.told;
   }
 
-  fit_same : (j : ℕ) → j < k → FitsAt g now j
-  fit_same j less =
-      let inside : j < length s.nets = let all = h.few in omega (arith, less, all) in
-      subst (Fits (g.blocks - 1) (archive_table (blank_table g) now.nets j)) (sym (net_stays s now grown j inside))
-      (subst (λ t. Fits (g.blocks - 1) t (net_at s j)) (sym (table_stays s now grown j (blank_table g) (omega (arith, inside)))) (h.fit j less))
-
-  table_same : archive_table (blank_table g) now.nets k ≡ archive_table (blank_table g) s.nets k
-  table_same = table_stays s now grown k (blank_table g) h.few
-
-  -- the commits that are written are the first ones of the longer stream too
+  -- they are written
   pub written_heard : (replay : Replay) (source : Source) → StandsFor g.pages now (take k s.nets) replay → HasWritten pool g now entry new (record r { replay = replay; source = source })
   written_heard replay source stands = record {
-    replay = subst (λ l. StandsFor g.pages now l replay) (sym (take_stays s now grown k h.few)) stands;
-    few = let all = h.few in let more = ap length grown.is ∙ length-append s.nets grown.more in omega (arith, all, more);
+    archived = fit_heard g s now r h.archived grown replay source stands;
     made = h.made;
     kept = h.kept;
     carried = subst (λ l. HasCarried pool g entry new r.engine (lines_of_nets (blank_state g) l) (idle (archive_table (blank_table g) now.nets k) k h.made h.kept (g.blocks - 1))) (sym (take_stays s now grown k h.few))
-        (subst (λ t. HasCarried pool g entry new r.engine (lines_of_nets (blank_state g) (take k s.nets)) (idle t k h.made h.kept (g.blocks - 1))) (sym table_same)
+        (subst (λ t. HasCarried pool g entry new r.engine (lines_of_nets (blank_state g) (take k s.nets)) (idle t k h.made h.kept (g.blocks - 1))) (sym (table_same g s now r h.archived grown))
         (carried_heard pool g entry mid new r.engine _ _ h.carried goes same));
-    cap = h.cap;
-    room = subst (λ t. AreLengths (while_writing t []) r.room) (sym table_same) h.room;
-    fit = fit_same;
     told = same.told ∙ h.told;
     moments = leaves_weaker entry new (IsLeft g s k [] entry.told) (IsLeft g now k [] entry.told) left_same
         (calm entry mid new (Leaves (IsLeft g s k [] entry.told)) h.moments same.past (now_same mid new same.told same.image same.loose));
@@ -150,35 +157,54 @@ module _ (pool : ℕ) (g : Geometry) (s : Stream) (entry mid new : Site) (r : Re
 
   pub stops_here : (lines behind : List (List ℕ)) (count : ℕ) (f : Fault) → EndsBy f g lines behind s r.written entry new → r.written < count → StopsRestoring g lines behind s count entry new f
   stops_here lines behind count f ends less = record {
-    begun = r.written;
-    few = h.few;
-    most = omega (arith, less);
-    ends = ends;
-    fit = h.fit;
+    early = record { begun = r.written; few = h.few; most = omega (arith, less); ends = ends; fit = h.fit; less = λ is. less };
     told = same.told ∙ h.told;
     moments = calm entry mid new (Leaves (IsLeft g s r.written [] entry.told)) h.moments same.past (now_same mid new same.told same.image same.loose);
     near = λ snapshot left. (r.written, omega arith, omega arith, subst (λ (x : Image). StandsAfter g s r.written x) (sym (image_is (now_of new) snapshot quiet_here left)) stands_here);
-    between = λ is. (less, stands_here);
+    between = λ is. stands_here;
     quiet = λ ne. quiet_here;
   }
 
 -- On every site it goes on behind a line.
-pub goes_on_heard : (entry mid new : Site) (r : Restoring) (replay : Replay) (source : Source) (line : List ℕ) (goes : GoesOnRestoring entry mid r) → Preserves mid new → (IsTrue mid.honest → HearsOnly mid new) → SameFaults mid new → IsSource source
-    → ((now : Stream) × AfterLine goes.pages line goes.s now × StandsFor goes.pages now (take r.written goes.s.nets) replay) → GoesOnRestoring entry new (record r { replay = replay; source = source })
-goes_on_heard entry mid new r replay source line goes keeps same faults usable (now, after, stands) =
-    let grown = line_grows goes.pages line goes.s now after in
-    record {
-      database = goes_heard entry mid new r.engine goes.database keeps (λ honest. as_front mid new (same honest)) faults;
-      source = usable;
-      pages = goes.pages;
-      lines = goes.lines ++ line ∷ [];
-      s = now;
-      accepted = accepted_push goes.pages goes.lines line (blank_stream goes.pages) goes.s now goes.accepted after;
-      few = let all = goes.few in let more = ap length grown.is ∙ length-append goes.s.nets grown.more in omega (arith, all, more);
-      replay = subst (λ l. StandsFor goes.pages now l replay) (sym (take_stays goes.s now grown r.written goes.few)) stands;
-      room = goes.room;
-      cap = goes.cap;
-    }
+pub goes_on_heard : (number : ℕ) (entry mid new : Site) (r : Restoring) (replay : Replay) (source : Source) (line : List ℕ) (goes : GoesOnRestoring number entry mid r) → Preserves mid new → (IsTrue mid.honest → HearsOnly mid new) → SameFaults mid new → IsSource source
+    → ((now : Stream) × AfterLine goes.g.pages line goes.s now × StandsFor goes.g.pages now (take r.written goes.s.nets) replay)
+    → (IsTrue mid.honest → HasEnded r.source mid → HearsLine line r.source.ended source.ended (to_hear r.source mid) (to_hear source new) × HasEnded source new × (total source new ≡ total r.source mid) × (new.input.heard + length new.input.left ≡ mid.input.heard + length mid.input.left))
+    → GoesOnRestoring (number + 1) entry new (record r { replay = replay; source = source })
+goes_on_heard number entry mid new r replay source line goes keeps same faults usable (now, after, stands) hears = record {
+  database = goes_heard entry mid new r.engine goes.database keeps (λ honest. as_front mid new (same honest)) faults;
+  source = usable;
+  g = goes.g;
+  limits = goes.limits;
+  lengths = goes.lengths;
+  lines = goes.lines ++ line ∷ [];
+  long = length-append goes.lines (line ∷ []) ∙ ap (λ n. n + 1) goes.long;
+  s = now;
+  accepted = accepted_push goes.g.pages goes.lines line (blank_stream goes.g.pages) goes.s now goes.accepted after;
+  archived = fit_heard goes.g goes.s now r goes.archived (line_grows goes.g.pages line goes.s now after) replay source stands;
+  room = goes.room;
+  cap = goes.cap;
+  heard = λ honest.
+      let h = goes.heard honest in
+      let one = hears (stays_honest entry mid goes.database.preserves honest) h.ended in
+      heard_more goes.g goes.lines line goes.s now entry mid new r (record r { replay = replay; source = source }) h usable one.1 one.0 one.2 one.3 after;
+  stands = goes.stands;
+}
+
+-- It ends behind all commits that were heard of.
+pub ends_heard : (number count : ℕ) (entry mid new : Site) (r : Restoring) (f : Fault) (goes : GoesOnRestoring number entry mid r) → r.written < count → (IsTrue entry.honest → EndsBy f goes.g goes.lines (lines_of true (to_hear r.source mid)) goes.s r.written entry new) → HasFaultCause f entry new → EndsOnSite count entry new f
+ends_heard number count entry mid new r f goes less ends cause = record {
+  g = goes.g;
+  limits = goes.limits;
+  lengths = goes.lengths;
+  lines = goes.lines;
+  behind = lines_of true (to_hear r.source mid);
+  s = goes.s;
+  early = λ honest. (
+    record { all = (goes.heard honest).all; accepted = goes.accepted },
+    record { begun = r.written; few = goes.archived.few; most = omega (arith, less); ends = ends honest; fit = goes.archived.fit; less = λ is. less },
+  );
+  cause = cause;
+}
 
 -- what is heard of an honest site, and what comes of it
 pub hears_on : (pool : ℕ) (g : Geometry) (s : Stream) (entry mid new : Site) (r : Restoring) (replay : Replay) (source : Source) (lines : List (List ℕ)) (line : List ℕ) → HasWritten pool g s entry mid r → HasHeard g lines s entry mid r → Preserves mid new → HearsOnly mid new

@@ -9,3 +9,4 @@ mod Taken
 mod Outcomes
 mod Endings
 mod Faults
+mod Stills

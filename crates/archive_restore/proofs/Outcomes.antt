@@ -1,9 +1,11 @@
 -- What comes of a restore, since the devices were tested.
-use Rattle.std.proofs.Common.{◌≡◌, ℕ, ◌+◌, ◌^◌, ◌<◌, ◌≤◌, List, [], ◌++◌, length, drop, true, refl, sym, ◌∙◌, ap, subst, arith, Ok, Err}
+use Rattle.std.proofs.Common.{◌≡◌, ℕ, ◌+◌, ◌^◌, ◌<◌, ◌≤◌, List, [], ◌++◌, length, drop, true, refl, sym, ◌∙◌, ap, subst, arith, IsTrue, Ok, Err}
 use Rattle.std.specs.List.{AllByRecursion}
 use Rattle.site.specs.State.{State as Site, Image, Input, Moment, now_of}
 use Rattle.site.specs.Calls.{IsUnchanged, Preserves}
 use Rattle.site.specs.Moments.{EachMoment, Leaves, LeavesOnly}
+use Rattle.site.specs.Geometry.{HasLengths, HasLimits}
+use Rattle.site.specs.declared.outside.Stop.TheVariants.{Device, Foreign, Memory, Worn}
 use Rattle.site.proofs.Laws.{goes_nowhere, image_is, rose_since, stays_honest, unchanged}
 use Rattle.site.specs.declared.geometry.Geometry.{Geometry}
 use Rattle.shell_text.specs.Runs.{lines_of}
@@ -17,11 +19,11 @@ use Rattle.front_end.specs.declared.new_database.Unfit.TheVariants as unfit
 use Rattle.archive_restore.specs.declared.fault.Fault.{Fault}
 use Rattle.archive_restore.specs.declared.fault.Fault.TheVariants as fault
 use Rattle.archive_restore.specs.declared.restoring.Restoring.{Restoring}
-use Rattle.archive_restore.specs.Contract.{RestoreOutcome}
-use Rattle.archive_restore.specs.Progress.{HasHeard, HasWritten, IsUnderWay, StopsRestoring}
-use Rattle.archive_restore.specs.Restores.{EndsBy, HasFewCommits, IsLeft, StandsAfter}
+use Rattle.archive_restore.specs.Contract.{IsKnown, RestoreOutcome}
+use Rattle.archive_restore.specs.Progress.{EndsEarly, EndsOnSite, GoesOnRestoring, HasHeard, HasWritten, IsUnderWay, StopsRestoring}
+use Rattle.archive_restore.specs.Restores.{EndsBy, HasFaultCause, HasFewCommits, HaveFit, IsHeard, IsLeft, StandsAfter}
 use Rattle.archive_restore.proofs.Carried.{carried_quiet, carried_stands}
-use Rattle.archive_restore.proofs.Starts.{cause_since}
+use Rattle.archive_restore.proofs.Starts.{cause_since, one_geometry}
 use Rattle.archive_restore.proofs.Taken.{asks_since, asks_still}
 
 moments_since : (a b c : Site) (Q : Moment → Type 0) → b.past ≡ a.past → EachMoment b c Q → EachMoment a c Q
@@ -31,12 +33,12 @@ moments_since a b c Q same e = record {
   now = e.now;
 }
 
-unfit_since : (u : Unfit) (a b c : Site) → IsUnchanged a b → Preserves a b → IsNotBlank u b c → IsNotBlank u a c
+unfit_since : (u : Unfit) (a b c : Site) → (IsTrue a.honest → IsUnchanged a b) → Preserves a b → IsNotBlank u b c → IsNotBlank u a c
 unfit_since unfit.Foreign a b c same goes is = absurd is
 unfit_since (unfit.Failed dev) a b c same goes is = rose_since _ _ _ (goes.faults dev) is
-unfit_since (unfit.NotBlank dev place) a b c same goes is = λ h. subst (λ (x : Image). IsFirstOfAll dev place x) same.image (is (stays_honest a b goes h))
+unfit_since (unfit.NotBlank dev place) a b c same goes is = λ h. subst (λ (x : Image). IsFirstOfAll dev place x) (same h).image (is (stays_honest a b goes h))
 
-ends_since : (f : Fault) (g : Geometry) (lines behind : List (List ℕ)) (s : Stream) (begun : ℕ) (a b c : Site) → IsUnchanged a b → Preserves a b → EndsBy f g lines behind s begun b c → EndsBy f g lines behind s begun a c
+ends_since : (f : Fault) (g : Geometry) (lines behind : List (List ℕ)) (s : Stream) (begun : ℕ) (a b c : Site) → (IsTrue a.honest → IsUnchanged a b) → Preserves a b → EndsBy f g lines behind s begun b c → EndsBy f g lines behind s begun a c
 ends_since (fault.Unfit u) g lines behind s begun a b c same goes is = unfit_since u a b c same goes is
 ends_since (fault.Halt (halt.Stop stop)) g lines behind s begun a b c same goes is = cause_since (halt.Stop stop) a b c same goes is
 ends_since (fault.Halt halt.Input) g lines behind s begun a b c same goes is = (cause_since halt.Input a b c same goes is.0, is.1)
@@ -65,7 +67,7 @@ outcome_stopped count g old tested new lines behind s f same goes accepted all a
   told = stops.told ∙ same.told;
   asks = asks_since (HasFewCommits g.pages count) old tested new same asks;
   near = stops.near;
-  stops = (ends_since f g lines behind s stops.begun old tested new same goes stops.ends, stops.between, stops.quiet);
+  stops = (ends_since f g lines behind s stops.begun old tested new (λ h. same) goes stops.ends, λ is. (stops.less is, stops.between is), stops.quiet);
   done = tt;
 }
 
@@ -95,26 +97,76 @@ outcome_done count pool g old mid new r r' number u h all input x =
       done = (all, subst (λ n. StandsAfter g u.s n new.image) all (carried_stands pool g u.tested new r'.engine _ _ h.carried), carried_quiet pool g u.tested new r'.engine _ _ h.carried);
     }
 
--- nothing of the input is taken while nets are written
-pub heard_still : (g : Geometry) (lines : List (List ℕ)) (s : Stream) (entry mid new : Site) (r r' : Restoring) → HasHeard g lines s entry mid r → r'.source ≡ r.source → new.input ≡ mid.input → HasHeard g lines s entry new r'
-heard_still g lines s entry mid new r r' h source input = record {
-  all = h.all ∙ (λ i. lines ++ lines_of true (pending (sym source i) ++ (sym input i).left));
-  accepted = h.accepted;
-  ended = λ over. ap (λ (x : Input). x.left) input ∙ h.ended (ap (λ x. x.ended) (sym source) ∙ over);
-  count = (λ i. (source i).taken + length (input i).left) ∙ h.count;
-  cut = record {
-    short = h.cut.short;
-    consumed = h.cut.consumed;
-    parts = h.cut.parts ∙ (λ i. h.cut.consumed ++ (pending (sym source i) ++ (sym input i).left));
-    whole = λ more e over. h.cut.whole more e (λ was. over (ap (λ x. x.ended) source ∙ was));
-    heard = ap (λ (x : Input). x.heard + length x.left) input ∙ h.cut.heard;
-  };
-  each = subst (λ x. length lines + length (pending x) ≤ x.taken) (sym source) h.each;
-}
-
 -- no more lines are heard than octets were taken
 pub too_many : (g : Geometry) (lines : List (List ℕ)) (s : Stream) (entry now : Site) (r : Restoring) → HasHeard g lines s entry now r → IsSource r.source → length lines < 2 ^ 40 + 1
 too_many g lines s entry now r h source =
     let each = h.each in
     let few = source.few in
     omega (arith, each, few)
+
+-- What is known of it over any honest site.
+
+pub cause_known : (f : Fault) (a b c : Site) → (IsTrue a.honest → IsUnchanged a b) → Preserves a b → HasFaultCause f b c → HasFaultCause f a c
+cause_known (fault.Unfit u) a b c same goes is = unfit_since u a b c same goes is
+cause_known (fault.Halt (halt.Stop (Device dev))) a b c same goes is = cause_since (halt.Stop (Device dev)) a b c same goes is
+cause_known (fault.Halt (halt.Stop Memory)) a b c same goes is = tt
+cause_known (fault.Halt (halt.Stop (Worn dev))) a b c same goes is = cause_since (halt.Stop (Worn dev)) a b c same goes is
+cause_known (fault.Halt (halt.Stop Foreign)) a b c same goes is = λ h g limits lengths. is (stays_honest a b goes h) g limits (subst (λ (x : Image). HasLengths g x) (sym (same h).image) lengths)
+cause_known (fault.Halt halt.Input) a b c same goes is = cause_since halt.Input a b c same goes is
+cause_known (fault.Halt halt.Output) a b c same goes is = cause_since halt.Output a b c same goes is
+cause_known (fault.Halt halt.Limit) a b c same goes is = cause_since halt.Limit a b c same goes is
+cause_known (fault.Stream number) a b c same goes is = tt
+cause_known (fault.Short commits) a b c same goes is = tt
+cause_known fault.Full a b c same goes is = tt
+
+module _ {T : Type 0} (count : ℕ) (g : Geometry) (old tested new : Site) (honest : IsTrue old.honest) (same : IsTrue old.honest → IsUnchanged old tested) (goes : Preserves old tested) (limits : HasLimits g) (lengths : HasLengths g old.image) where
+  -- it ends before its last commit
+  pub known_stopped : (f : Fault) → EndsOnSite count tested new f → IsKnown {T = T} count g old new (Err f)
+  known_stopped f e =
+      let is : e.g ≡ g = one_geometry e.g g old.image e.limits (subst (λ (x : Image). HasLengths e.g x) (same honest).image e.lengths) limits lengths in
+      let early = subst (λ (x : Geometry). IsHeard x.pages e.lines e.behind e.s tested × EndsEarly x e.lines e.behind e.s count tested new f) is (e.early (stays_honest old tested goes honest)) in
+      record {
+        lines = e.lines;
+        behind = e.behind;
+        s = e.s;
+        heard = record { all = lines_since old tested (e.lines ++ e.behind) (same honest) early.0.all; accepted = early.0.accepted };
+        begun = early.1.begun;
+        few = early.1.few;
+        most = early.1.most;
+        fit = early.1.fit;
+        stops = (ends_since f g e.lines e.behind e.s early.1.begun old tested new same goes early.1.ends, early.1.less);
+        done = tt;
+      }
+
+  -- all commits are written
+  pub known_done : (number : ℕ) (r : Restoring) → GoesOnRestoring number tested new r → r.written ≡ count → (x : T) → IsKnown {T = T} count g old new (Ok x)
+  known_done number r e all x =
+      let is : e.g ≡ g = one_geometry e.g g old.image e.limits (subst (λ (x : Image). HasLengths e.g x) (same honest).image e.lengths) limits lengths in
+      let accepted = subst (λ (x : Geometry). Accepted x.pages e.lines (blank_stream x.pages) e.s) is e.accepted in
+      record {
+        lines = e.lines;
+        behind = lines_of true (to_hear r.source new);
+        s = e.s;
+        heard = record { all = lines_since old tested (e.lines ++ lines_of true (to_hear r.source new)) (same honest) (e.heard (stays_honest old tested goes honest)).all; accepted = accepted };
+        begun = r.written;
+        few = e.archived.few;
+        most = omega (arith, all);
+        fit = subst (λ (x : Geometry). HaveFit x e.s r.written) is e.archived.fit;
+        stops = tt;
+        done = all;
+      }
+
+-- it ends before a line was heard
+pub known_never : {T : Type 0} (count : ℕ) (g : Geometry) (old new : Site) (f : Fault) → EndsEarly g [] (lines_of true old.input.left) (blank_stream g.pages) count old new f → IsKnown {T = T} count g old new (Err f)
+known_never count g old new f e = record {
+  lines = [];
+  behind = lines_of true old.input.left;
+  s = blank_stream g.pages;
+  heard = record { all = refl; accepted = refl };
+  begun = e.begun;
+  few = e.few;
+  most = e.most;
+  fit = e.fit;
+  stops = (e.ends, e.less);
+  done = tt;
+}

@@ -1,5 +1,5 @@
 -- A restore begins: the devices are blank.
-use Rattle.std.proofs.Common.{◌≡◌, ◌≢◌, inl, ℕ, zero, suc, ◌+◌, ◌*◌, ◌-◌, ◌<◌, max, List, [], ◌∷◌, ◌++◌, length, take, drop, None, true, false, true≢false, refl, sym, ◌∙◌, ap, subst, arith}
+use Rattle.std.proofs.Common.{◌≡◌, ◌≢◌, inl, ℕ, zero, suc, ◌+◌, ◌*◌, ◌-◌, ◌<◌, max, List, [], ◌∷◌, ◌++◌, length, take, drop, None, true, false, true≢false, refl, sym, ◌∙◌, ap, subst, arith, IsTrue}
 use Rattle.std.specs.Prelude.{replicate, slice_index_or}
 use Rattle.std.proofs.lemmas.List.{length-replicate}
 use Rattle.site.specs.State.{State as Site, Image, Input, Snapshot, MayLeave, now_of, no_loose}
@@ -28,7 +28,7 @@ use Rattle.front_end.specs.New.{IsBlank}
 use Rattle.face.specs.Image.{BlankLaw, blank_table}
 use Rattle.archive_restore.specs.declared.fault.Fault.{Fault}
 use Rattle.archive_restore.specs.declared.restoring.Restoring.{Restoring}
-use Rattle.archive_restore.specs.Progress.{HasHeard, HasWritten, StopsRestoring}
+use Rattle.archive_restore.specs.Progress.{EndsEarly, HasFit, HasHeard, HasWritten, StopsRestoring}
 use Rattle.archive_restore.specs.Restores.{EndsBy, IsBetween, IsLeft, IsTarget, StandsAfter}
 use Rattle.archive_restore.specs.Texts.{fault_status}
 use Rattle.archive_restore.specs.Writing.{blank_state}
@@ -40,16 +40,37 @@ zeros (x ∷ xs) h = λ i. h 0 (omega arith) i ∷ zeros xs (λ k less. h (suc k
 zeros_to : (n : ℕ) (xs : List ℕ) → length xs ≡ n → ((i : ℕ) → i < length xs → slice_index_or xs i 0 ≡ 0) → xs ≡ replicate n 0
 zeros_to n xs long h = zeros xs h ∙ ap (λ k. replicate k 0) long
 
-pub target_image : (g : Geometry) (site : Site) → IsTarget g site → site.image ≡ blank_image g
-target_image g site t = λ i. record {
-  log = zeros_to _ site.image.log t.lengths.log (λ k less. t.blank.log k (omega arith) less) i;
-  flash = zeros_to _ site.image.flash t.lengths.flash (λ k less. t.blank.flash k (omega arith) less) i;
-  disk = zeros_to _ site.image.disk t.lengths.disk (λ k less. t.blank.disk k (omega arith) less) i;
+image_blank : (g : Geometry) (image : Image) → HasLengths g image → IsBlank image → image ≡ blank_image g
+image_blank g image lengths blank = λ i. record {
+  log = zeros_to _ image.log lengths.log (λ k less. blank.log k (omega arith) less) i;
+  flash = zeros_to _ image.flash lengths.flash (λ k less. blank.flash k (omega arith) less) i;
+  disk = zeros_to _ image.disk lengths.disk (λ k less. blank.disk k (omega arith) less) i;
 }
+
+pub target_image : (g : Geometry) (site : Site) → IsTarget g site → site.image ≡ blank_image g
+target_image g site t = image_blank g site.image t.lengths t.blank
+
+pub blank_stand : BlankLaw → (g : Geometry) (image : Image) → HasLimits g → HasLengths g image → IsBlank image → Stands g image (blank_table g) 0
+blank_stand law g image limits lengths blank = subst (λ (x : Image). Stands g x (blank_table g) 0) (sym (image_blank g image lengths blank)) (law g limits).0
+
+-- a call keeps the lengths
+pub lengths_then : (g : Geometry) (a b : Site) → HasLengths g a.image → Preserves a b → HasLengths g b.image
+lengths_then g a b l goes = record { log = goes.sizes Log ∙ l.log; flash = goes.sizes Flash ∙ l.flash; disk = goes.sizes Disk ∙ l.disk }
 
 -- the devices stand for the table without values
 pub target_stands : BlankLaw → (g : Geometry) (site : Site) (s : Stream) → IsTarget g site → StandsAfter g s 0 site.image
 target_stands law g site s t = subst (λ (x : Image). Stands g x (blank_table g) 0) (sym (target_image g site t)) (law g t.limits).0
+
+-- it ends before the first commit
+pub ends_first : (g : Geometry) (s : Stream) (old new : Site) (behind : List (List ℕ)) (count : ℕ) (f : Fault) → EndsBy f g [] behind s 0 old new → (IsBetween f → 0 < count) → EndsEarly g [] behind s count old new f
+ends_first g s old new behind count f ends some = record {
+  begun = 0;
+  few = omega arith;
+  most = omega arith;
+  ends = ends;
+  fit = λ j less. absurd (omega (arith, less));
+  less = some;
+}
 
 module _ (law : BlankLaw) (g : Geometry) (old new : Site) (s : Stream) (t : IsTarget g old) (same : IsUnchanged old new) where
   quiet_still : new.loose ≡ no_loose
@@ -68,16 +89,13 @@ module _ (law : BlankLaw) (g : Geometry) (old new : Site) (s : Stream) (t : IsTa
 
   -- it ends where nothing was changed
   pub stops_untouched : (behind : List (List ℕ)) (count : ℕ) (f : Fault) → EndsBy f g [] behind s 0 old new → (IsBetween f → 0 < count) → StopsRestoring g [] behind s count old new f
+  unfolding ends_first
   stops_untouched behind count f ends some = record {
-    begun = 0;
-    few = omega arith;
-    most = omega arith;
-    ends = ends;
-    fit = λ j less. absurd (omega (arith, less));
+    early = ends_first g s old new behind count f ends some;
     told = same.told;
     moments = unchanged_calm old old new (Leaves (IsLeft g s 0 [] old.told)) (no_call old (Leaves (IsLeft g s 0 [] old.told)) left_now) same;
     near = λ snapshot left. (0, omega arith, omega arith, subst (λ (x : Image). StandsAfter g s 0 x) (sym (image_is (now_of new) snapshot quiet_still left)) stands_still);
-    between = λ is. (some is, stands_still);
+    between = λ is. stands_still;
     quiet = λ ne. quiet_still;
   }
 
@@ -127,12 +145,9 @@ module _ (law : BlankLaw) (g : Geometry) (old mid new : Site) (s : Stream) (t : 
   restart_told = (holds_now mid new (LeavesTable g (blank_table g) 0 mid.told) moments).told ∙ same.told
 
   pub stops_at_restart : (behind : List (List ℕ)) (count : ℕ) (f : Fault) → EndsBy f g [] behind s 0 old new → (IsBetween f → ⊥) → (fault_status f ≢ 3 → new.loose ≡ no_loose) → StopsRestoring g [] behind s count old new f
+  unfolding ends_first
   stops_at_restart behind count f ends never quiet = record {
-    begun = 0;
-    few = omega arith;
-    most = omega arith;
-    ends = ends;
-    fit = λ j less. absurd (omega (arith, less));
+    early = ends_first g s old new behind count f ends (λ is. absurd (never is));
     told = restart_told;
     moments = restart_moments;
     near = λ snapshot left. (0, omega arith, omega arith, (moments.now snapshot left).stands);
@@ -164,33 +179,38 @@ one_geometry a b image la ha lb hb =
     λ i. record { pages = pages i; groups = groups i; blocks = blocks i }
 
 -- a cause since devices were only read
-pub cause_since : (h : Halt) (a b c : Site) → IsUnchanged a b → Preserves a b → HasCause h b c → HasCause h a c
+pub cause_since : (h : Halt) (a b c : Site) → (IsTrue a.honest → IsUnchanged a b) → Preserves a b → HasCause h b c → HasCause h a c
 cause_since (halt.Stop (Device dev)) a b c same goes cause = rose_since _ _ _ (goes.faults dev) cause
 cause_since (halt.Stop Memory) a b c same goes cause = tt
 cause_since (halt.Stop (Worn Log)) a b c same goes cause = λ h g limits lengths.
-    let worn = cause (stays_honest a b goes h) g limits (subst (λ (x : Image). HasLengths g x) (sym same.image) lengths) in
-    (worn.0, λ table commits stands. worn.1 table commits (subst (λ (x : Image). Stands g x table commits) (sym same.image) stands))
+    let worn = cause (stays_honest a b goes h) g limits (subst (λ (x : Image). HasLengths g x) (sym (same h).image) lengths) in
+    (worn.0, λ table commits stands. worn.1 table commits (subst (λ (x : Image). Stands g x table commits) (sym (same h).image) stands))
 cause_since (halt.Stop (Worn Flash)) a b c same goes cause = λ h g limits lengths.
-    let worn = cause (stays_honest a b goes h) g limits (subst (λ (x : Image). HasLengths g x) (sym same.image) lengths) in
-    (worn.0, λ table commits stands. worn.1 table commits (subst (λ (x : Image). Stands g x table commits) (sym same.image) stands))
+    let worn = cause (stays_honest a b goes h) g limits (subst (λ (x : Image). HasLengths g x) (sym (same h).image) lengths) in
+    (worn.0, λ table commits stands. worn.1 table commits (subst (λ (x : Image). Stands g x table commits) (sym (same h).image) stands))
 cause_since (halt.Stop (Worn Disk)) a b c same goes cause = absurd cause
-cause_since (halt.Stop Foreign) a b c same goes cause = λ h g table commits stands. cause (stays_honest a b goes h) g table commits (subst (λ (x : Image). Stands g x table commits) (sym same.image) stands)
+cause_since (halt.Stop Foreign) a b c same goes cause = λ h g table commits stands. cause (stays_honest a b goes h) g table commits (subst (λ (x : Image). Stands g x table commits) (sym (same h).image) stands)
 cause_since halt.Input a b c same goes cause = rose_since _ _ _ goes.input_faults cause
 cause_since halt.Output a b c same goes cause = rose_since _ _ _ goes.output_faults cause
-cause_since halt.Limit a b c same goes cause = λ h. let over = cause (stays_honest a b goes h) in let left : length b.input.left ≡ length a.input.left = ap (λ (x : Input). length x.left) same.left in omega (arith, over, left)
+cause_since halt.Limit a b c same goes cause = λ h. let over = cause (stays_honest a b goes h) in let left : length b.input.left ≡ length a.input.left = ap (λ (x : Input). length x.left) (same h).left in omega (arith, over, left)
 
 -- no commit is written yet
-pub written_none : (pool : ℕ) (g : Geometry) (entry now : Site) (r : Restoring) → r.written ≡ 0 → StandsFor g.pages (blank_stream g.pages) [] r.replay → HasBegun pool g entry now r.engine → r.cap ≡ g.blocks - 1 → r.room ≡ replicate (32 * g.pages) 0
-    → HasWritten pool g (blank_stream g.pages) entry now r
-written_none pool g entry now r none replay begun cap room = subst (λ n. HasWritten pool g (blank_stream g.pages) entry now (record r { written = n })) (sym none) (record {
+pub fit_none : (g : Geometry) (r : Restoring) → r.written ≡ 0 → StandsFor g.pages (blank_stream g.pages) [] r.replay → r.cap ≡ g.blocks - 1 → r.room ≡ replicate (32 * g.pages) 0 → HasFit g (blank_stream g.pages) r
+fit_none g r none replay cap room = subst (λ n. HasFit g (blank_stream g.pages) (record r { written = n })) (sym none) (record {
   replay = replay;
   few = omega arith;
-  made = 0;
-  kept = 0;
-  carried = begun.carried;
   cap = cap;
   room = blank_lengths g r.room room;
   fit = λ j less. absurd (omega (arith, less));
+})
+
+pub written_none : (pool : ℕ) (g : Geometry) (entry now : Site) (r : Restoring) → r.written ≡ 0 → StandsFor g.pages (blank_stream g.pages) [] r.replay → HasBegun pool g entry now r.engine → r.cap ≡ g.blocks - 1 → r.room ≡ replicate (32 * g.pages) 0
+    → HasWritten pool g (blank_stream g.pages) entry now r
+written_none pool g entry now r none replay begun cap room = subst (λ n. HasWritten pool g (blank_stream g.pages) entry now (record r { written = n })) (sym none) (record {
+  archived = subst (λ n. HasFit g (blank_stream g.pages) (record r { written = n })) none (fit_none g r none replay cap room);
+  made = 0;
+  kept = 0;
+  carried = begun.carried;
   told = (holds_now entry now (LeavesTable g (blank_table g) 0 entry.told) begun.moments).told;
   moments = leaves_weaker entry now (LeavesTable g (blank_table g) 0 entry.told) (IsLeft g (blank_stream g.pages) 0 [] entry.told) (λ snapshot l. record { k = 0; few = omega arith; stands = l.stands; told = inl l.told }) begun.moments;
 })

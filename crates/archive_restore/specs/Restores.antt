@@ -4,6 +4,7 @@ use Rattle.std.specs.Prelude.{take, true, IsTrue}
 use Rattle.site.specs.State.{State as Site, Image, Snapshot, no_loose}
 use Rattle.site.specs.Moments.{LeavesOnly}
 use Rattle.site.specs.declared.geometry.Geometry.{Geometry}
+use Rattle.site.specs.declared.outside.Stop.TheVariants.{Foreign}
 use Rattle.site.specs.Geometry.{HasLimits, HasLengths}
 use Rattle.record_model.specs.State.{State, Write}
 use Rattle.record_model.specs.Run.{Line}
@@ -11,6 +12,7 @@ use Rattle.shell_text.specs.Runs.{lines_of}
 use Rattle.log_archive.specs.Accepted.{Accepted, AfterLine, Stream, archive_table, blank_stream}
 use Rattle.net_lines.specs.Nets.{Fits, net_lines}
 use Rattle.engine.specs.Image.{Stands}
+use Rattle.engine.specs.Leaves.{HasNoSizes}
 use Rattle.front_end.specs.New.{IsBlank, IsNotBlank}
 use Rattle.front_end.specs.declared.halt.Halt.TheVariants as halt
 use Rattle.face.specs.Causes.{HasCause}
@@ -89,6 +91,16 @@ EndsBy (fault.Halt halt.Input) g lines behind s begun old new = HasCause halt.In
 EndsBy (fault.Halt halt.Limit) g lines behind s begun old new = HasCause halt.Limit old new × (begun ≡ length s.nets)
 EndsBy (fault.Halt h) g lines behind s begun old new = HasCause h old new
 EndsBy (fault.Unfit unfit) g lines behind s begun old new = IsNotBlank unfit old new
+
+-- the same of every site: no call fails but where its count of faults rises, and over an honest one that was blank no
+-- device is foreign
+abbrev pub HasFaultCause : Fault → Site → Site → Type 0
+HasFaultCause (fault.Stream number) old new = Unit {0}
+HasFaultCause (fault.Short commits) old new = Unit {0}
+HasFaultCause fault.Full old new = Unit {0}
+HasFaultCause (fault.Halt (halt.Stop Foreign)) old new = IsTrue old.honest → HasNoSizes old
+HasFaultCause (fault.Halt h) old new = HasCause h old new
+HasFaultCause (fault.Unfit unfit) old new = IsNotBlank unfit old new
 
 -- whether the commits that were begun are all written then
 abbrev pub IsBetween : Fault → Type 0

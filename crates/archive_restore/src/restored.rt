@@ -1,13 +1,14 @@
 // The work of `restore`.
-ghost use Rattle.std.specs.Prelude.{◌≡◌, ◌≤◌, IsTrue};
+ghost use Rattle.std.specs.Prelude.{◌≡◌, ◌≤◌, IsTrue, IfErr};
 ghost use Rattle.engine.specs.Leaves.{HasNoSizes};
 ghost use Rattle.front_end.specs.Faults.{FirstDecides, SameFaults};
 ghost use Rattle.front_end.specs.Refusals.{RefusesDevices};
 ghost use Rattle.archive_restore.specs.Faults.{RestoreFaults};
 ghost use Rattle.archive_restore.specs.Refusing.{IsWritten, RefusesFilled, RefusesSizes, RefusesWritten};
 ghost use Rattle.site.specs.Calls.{Preserves};
-ghost use Rattle.archive_restore.specs.Contract.{RestoreContract, RestoreOutcome};
-ghost use Rattle.archive_restore.specs.Restores.{IsTarget};
+ghost use Rattle.archive_restore.specs.Contract.{IsKnown, RestoreContract, RestoreOutcome};
+ghost use Rattle.archive_restore.specs.Restores.{HasFaultCause, IsTarget};
+ghost use Rattle.site.specs.Geometry.{HasLengths, HasLimits};
 ghost use Rattle.site.specs.declared.geometry.Geometry.{Geometry};
 
 use crate::fault::{Fault, tell_fault, tell_restored};
@@ -24,6 +25,10 @@ fn restore_commits<S: Site>(alloc: Global, count: u64, pool: u32, site: &mut S) 
     requires pool { (1 ≤ pool) × (pool ≤ 4096) }
     ensures restores { (g : Geometry) → IsTarget g (S.state site.old)
         → RestoreOutcome count g (S.state site.old) (S.state site.new) result }
+    ensures known { IsTrue (S.state site.old).honest → (g : Geometry) → HasLimits g
+        → HasLengths g (S.state site.old).image
+        → IsKnown count g (S.state site.old) (S.state site.new) result }
+    ensures cause { IfErr result (λ f. HasFaultCause f (S.state site.old) (S.state site.new)) }
     ensures faults { RestoreFaults result (S.state site.old) (S.state site.new) }
     ensures refuses { HasNoSizes (S.state site.old) → RefusesSizes result (S.state site.old) (S.state site.new) }
     ensures unfit { IsTrue (S.state site.old).honest → IsWritten (S.state site.old)

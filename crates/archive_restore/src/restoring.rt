@@ -17,8 +17,9 @@ ghost use Rattle.archive_restore.specs.declared.fault.Fault.{Fault};
 ghost use Rattle.engine.specs.Leaves.{HasNoSizes};
 ghost use Rattle.archive_restore.specs.Faults.{RestoreFaults};
 ghost use Rattle.archive_restore.specs.Refusing.{IsWritten, RefusesSizes, RefusesWritten};
-ghost use Rattle.archive_restore.specs.Restores.{HasFewCommits, IsTarget};
-ghost use Rattle.archive_restore.specs.Progress.{GoesOnRestoring, HasHeard, HasWritten, IsPopped, StopsRestoring};
+ghost use Rattle.archive_restore.specs.Restores.{HasFaultCause, HasFewCommits, IsTarget};
+ghost use Rattle.archive_restore.specs.Progress.{EndsEarly, EndsOnSite, GoesOnRestoring, HasHeard, HasWritten};
+ghost use Rattle.archive_restore.specs.Progress.{IsPopped, StopsRestoring};
 
 use crate::beginning::begin;
 use crate::fault::Fault;
@@ -74,6 +75,10 @@ fn blank_sizes<S: Site>(site: &mut S) -> Result<Geometry, Fault>
         → RefusesWritten result (S.state site.old) (S.state site.new) }
     ensures never { (g : Geometry) (behind : List (List ℕ)) (s : Stream) (count : ℕ) → IsTarget g (S.state site.old)
         → IfErr result (StopsRestoring g [] behind s count (S.state site.old) (S.state site.new)) }
+    ensures early { (g : Geometry) (behind : List (List ℕ)) (s : Stream) (count : ℕ) → HasLimits g
+        → HasLengths g (S.state site.old).image
+        → IfErr result (EndsEarly g [] behind s count (S.state site.old) (S.state site.new)) }
+    ensures cause { IfErr result (λ f. HasFaultCause f (S.state site.old) (S.state site.new)) }
 {
     blank_stands();
     let Some(geometry) = sizes_of(site) else {
@@ -90,7 +95,8 @@ impl Restoring {
     pub fn start<S: Site>(alloc: Global, pool: u32, site: &mut S) -> Result<Restoring, Fault>
         requires pool { (1 ≤ pool) × (pool ≤ 4096) }
         ensures going { IfOk result (λ r. (tested : Site) × Preserves (S.state site.old) tested
-            × SameFaults (S.state site.old) tested × GoesOnRestoring tested (S.state site.new) r) }
+            × SameFaults (S.state site.old) tested × GoesOnRestoring 0 tested (S.state site.new) r
+            × (IsTrue (S.state site.old).honest → IsUnchanged (S.state site.old) tested)) }
         ensures none { IfOk result (λ r. r.written ≡ 0) }
         ensures faults { RestoreFaults result (S.state site.old) (S.state site.new) }
         ensures left { IsTrue (S.state site.old).honest → (S.state site.new).input ≡ (S.state site.old).input }
@@ -100,12 +106,16 @@ impl Restoring {
         ensures preserves { Preserves (S.state site.old) (S.state site.new) }
         ensures begins { (g : Geometry) → IsTarget g (S.state site.old) → IfOk result (λ r. (tested : Site)
             × IsUnchanged (S.state site.old) tested × Preserves (S.state site.old) tested
-            × GoesOnRestoring tested (S.state site.new) r
+            × GoesOnRestoring 0 tested (S.state site.new) r
             × HasWritten pool g (blank_stream g.pages) tested (S.state site.new) r
             × HasHeard g [] (blank_stream g.pages) tested (S.state site.new) r) }
         ensures never { (g : Geometry) (behind : List (List ℕ)) (count : ℕ) → IsTarget g (S.state site.old)
             → IfErr result (StopsRestoring g [] behind (blank_stream g.pages) count (S.state site.old)
             (S.state site.new)) }
+        ensures early { (g : Geometry) (behind : List (List ℕ)) (s : Stream) (count : ℕ) → HasLimits g
+            → HasLengths g (S.state site.old).image → IsTrue (S.state site.old).honest
+            → IfErr result (EndsEarly g [] behind s count (S.state site.old) (S.state site.new)) }
+        ensures cause { IfErr result (λ f. HasFaultCause f (S.state site.old) (S.state site.new)) }
     {
         blank_stands();
         let geometry = match blank_sizes(site) {
@@ -133,18 +143,21 @@ impl Restoring {
 
     // Writes the net of the next commit.
     fn write<S: Site>(&mut self, site: &mut S, net: &Net) -> Result<(), Fault>
-        requires going { (entry : Site) × (before : Restoring) × GoesOnRestoring entry (S.state site.old) before
-            × IsPopped net.now before self.old }
-        ensures going { (entry : Site) (before : Restoring) → GoesOnRestoring entry (S.state site.old) before
-            → IsPopped net.now before self.old
-            → OnOk result (GoesOnRestoring entry (S.state site.new)
+        requires going { (number : ℕ) × (entry : Site) × (before : Restoring)
+            × GoesOnRestoring number entry (S.state site.old) before × IsPopped net.now before self.old }
+        ensures going { (number : ℕ) (entry : Site) (before : Restoring)
+            → GoesOnRestoring number entry (S.state site.old) before → IsPopped net.now before self.old
+            → OnOk result (GoesOnRestoring number entry (S.state site.new)
             (record self.new { written = self.new.written + 1 })) }
+        ensures early { (number : ℕ) (entry : Site) (before : Restoring) (count : ℕ)
+            → GoesOnRestoring number entry (S.state site.old) before → IsPopped net.now before self.old
+            → self.old.written < count → IfErr result (EndsOnSite count entry (S.state site.new)) }
         ensures writes { (pool : ℕ) (g : Geometry) (s : Stream) (entry : Site) (before : Restoring)
             → HasWritten pool g s entry (S.state site.old) before → IsPopped net.now before self.old
             → OnOk result (HasWritten pool g s entry (S.state site.new)
             (record self.new { written = self.new.written + 1 })) }
         ensures stops { (pool : ℕ) (g : Geometry) (s : Stream) (entry : Site) (before : Restoring)
-            (lines behind : List (List ℕ)) (count : ℕ) → GoesOnRestoring entry (S.state site.old) before
+            (lines behind : List (List ℕ)) (number count : ℕ) → GoesOnRestoring number entry (S.state site.old) before
             → HasWritten pool g s entry (S.state site.old) before
             → IsPopped net.now before self.old → self.old.written < count
             → IfErr result (StopsRestoring g lines behind s count entry (S.state site.new)) }
@@ -168,15 +181,20 @@ impl Restoring {
 
     /// Writes the commits that wait, up to a number, and answers whether that many are written.
     pub fn write_waiting<S: Site>(&mut self, site: &mut S, count: u64) -> Result<bool, Fault>
-        requires going { (entry : Site) × GoesOnRestoring entry (S.state site.old) self.old }
+        requires going { (number : ℕ) × (entry : Site) × GoesOnRestoring number entry (S.state site.old) self.old }
         requires most { self.old.written ≤ count }
-        ensures going { (entry : Site) → GoesOnRestoring entry (S.state site.old) self.old
-            → OnOk result (GoesOnRestoring entry (S.state site.new) self.new) }
+        ensures going { (number : ℕ) (entry : Site) → GoesOnRestoring number entry (S.state site.old) self.old
+            → OnOk result (GoesOnRestoring number entry (S.state site.new) self.new) }
+        ensures early { (number : ℕ) (entry : Site) → GoesOnRestoring number entry (S.state site.old) self.old
+            → IfErr result (EndsOnSite count entry (S.state site.new)) }
+        ensures waits { (number : ℕ) (entry : Site) → GoesOnRestoring number entry (S.state site.old) self.old
+            → IfOk result (λ all. all ≡ false → (goes : GoesOnRestoring number entry (S.state site.new) self.new)
+            × (self.new.written ≡ length goes.s.nets) × (self.new.written < count)) }
         ensures writes { (pool : ℕ) (g : Geometry) (s : Stream) (entry : Site)
             → HasWritten pool g s entry (S.state site.old) self.old
             → OnOk result (HasWritten pool g s entry (S.state site.new) self.new) }
         ensures stops { (pool : ℕ) (g : Geometry) (s : Stream) (entry : Site) (lines behind : List (List ℕ))
-            → GoesOnRestoring entry (S.state site.old) self.old
+            (number : ℕ) → GoesOnRestoring number entry (S.state site.old) self.old
             → HasWritten pool g s entry (S.state site.old) self.old
             → IfErr result (StopsRestoring g lines behind s count entry (S.state site.new)) }
         ensures most { OnOk result (self.new.written ≤ count) }
@@ -204,15 +222,19 @@ impl Restoring {
     /// Hears the next line, which has this number, counted from 1.
     pub fn hear<S: Site>(&mut self, site: &mut S, number: u64) -> Result<(), Fault>
         requires { IsSource self.old.source }
-        ensures going { (entry : Site) → GoesOnRestoring entry (S.state site.old) self.old
-            → OnOk result (GoesOnRestoring entry (S.state site.new) self.new) }
+        ensures going { (heard : ℕ) (entry : Site) → GoesOnRestoring heard entry (S.state site.old) self.old
+            → OnOk result (GoesOnRestoring (heard + 1) entry (S.state site.new) self.new) }
+        ensures early { (heard : ℕ) (entry : Site) (count : ℕ)
+            → (goes : GoesOnRestoring heard entry (S.state site.old) self.old)
+            → self.old.written ≡ length goes.s.nets → self.old.written < count → number ≡ heard + 1
+            → IfErr result (EndsOnSite count entry (S.state site.new)) }
         ensures hears { (pool : ℕ) (g : Geometry) (s : Stream) (entry : Site) (lines : List (List ℕ))
             → HasWritten pool g s entry (S.state site.old) self.old
             → HasHeard g lines s entry (S.state site.old) self.old
             → OnOk result ((line : List ℕ) × (now : Stream) × HasWritten pool g now entry (S.state site.new) self.new
             × HasHeard g (lines ++ line ∷ []) now entry (S.state site.new) self.new) }
-        ensures stops { (pool : ℕ) (g : Geometry) (s : Stream) (entry : Site) (lines : List (List ℕ)) (count : ℕ)
-            → GoesOnRestoring entry (S.state site.old) self.old
+        ensures stops { (pool : ℕ) (g : Geometry) (s : Stream) (entry : Site) (lines : List (List ℕ))
+            (heard count : ℕ) → GoesOnRestoring heard entry (S.state site.old) self.old
             → HasWritten pool g s entry (S.state site.old) self.old
             → HasHeard g lines s entry (S.state site.old) self.old → self.old.written ≡ length s.nets
             → self.old.written < count → number ≡ length lines + 1

@@ -1,9 +1,9 @@
 use Rattle.std.proofs.Common.{inl, inr, refl, ◌∙◌, ap, arith}
 use Rattle.site.specs.Faults.{with_output_fault}
-use Rattle.site.proofs.Laws.{goes_in_sequence, stays_honest}
+use Rattle.site.proofs.Laws.{goes_in_sequence, rose_since, stays_honest}
 use Rattle.front_end.proofs.Firsts.{first_none, first_untold}
 use Rattle.archive_restore.proofs.Faults.{first_stopped, status_from}
-use Rattle.archive_restore.proofs.Endings.{filled_told, headline_done, headline_stopped, refuses_told}
+use Rattle.archive_restore.proofs.Endings.{causes_none, causes_stopped, causes_untold, filled_told, headline_done, headline_stopped, refuses_told, tells_done, tells_stopped}
 use Rattle.archive_restore.proofs.restored.restore.Goals as goal
 
 pub returns-in-Ok-tell_restored-clause-restore : goal.returns-in-Ok-tell_restored-clause-restore
@@ -13,6 +13,12 @@ returns-in-Ok-tell_restored-clause-restore g c = record {
       let mid = g.S.Site.state c.restore_commits.new.site in
       let goes = c.restore_commits.ensures.preserves in
       headline_done c.args.count 0 geometry old mid (g.S.Site.state c.tell_restored.new.site) _ (c.in-Ok.ensures.restores geometry t) c.tell_restored.result c.tell_restored.ensures (stays_honest old mid goes t.honest) goes (inl refl);
+  line = λ honest geometry limits lengths.
+      let old = g.S.Site.state c.args.site.now in
+      let mid = g.S.Site.state c.restore_commits.new.site in
+      let goes = c.restore_commits.ensures.preserves in
+      tells_done c.args.count geometry old mid (g.S.Site.state c.tell_restored.new.site) goes (stays_honest old mid goes honest) _ (c.in-Ok.ensures.known honest geometry limits lengths) c.tell_restored.result c.tell_restored.ensures 0 (inl refl);
+  causes = causes_none (g.S.Site.state c.args.site.now) (g.S.Site.state c.tell_restored.new.site);
 }
 
 pub returns-in-Err-tell_restored-clause-restore : goal.returns-in-Err-tell_restored-clause-restore
@@ -22,6 +28,12 @@ returns-in-Err-tell_restored-clause-restore g c = record {
       let mid = g.S.Site.state c.restore_commits.new.site in
       let goes = c.restore_commits.ensures.preserves in
       headline_done c.args.count 6 geometry old mid (g.S.Site.state c.tell_restored.new.site) _ (c.in-Ok.ensures.restores geometry t) c.tell_restored.result c.tell_restored.ensures (stays_honest old mid goes t.honest) goes (inr refl);
+  line = λ honest geometry limits lengths.
+      let old = g.S.Site.state c.args.site.now in
+      let mid = g.S.Site.state c.restore_commits.new.site in
+      let goes = c.restore_commits.ensures.preserves in
+      tells_done c.args.count geometry old mid (g.S.Site.state c.tell_restored.new.site) goes (stays_honest old mid goes honest) _ (c.in-Ok.ensures.known honest geometry limits lengths) c.tell_restored.result c.tell_restored.ensures 6 (inr refl);
+  causes = causes_untold (g.S.Site.state c.args.site.now) (g.S.Site.state c.tell_restored.new.site) (rose_since _ _ _ c.restore_commits.ensures.preserves.output_faults c.in-Err-tell_restored.ensures.cause);
 }
 
 pub returns-in-Err-clause-restore : goal.returns-in-Err-clause-restore
@@ -31,6 +43,16 @@ returns-in-Err-clause-restore g c = record {
       let mid = g.S.Site.state c.restore_commits.new.site in
       let goes = c.restore_commits.ensures.preserves in
       headline_stopped c.args.count c.status.result geometry old mid (g.S.Site.state c.tell_fault.new.site) c.in-Err.fault (c.in-Err.ensures.restores geometry t) c.tell_fault.result c.tell_fault.ensures (stays_honest old mid goes t.honest) goes c.status.ensures;
+  line = λ honest geometry limits lengths.
+      let old = g.S.Site.state c.args.site.now in
+      let mid = g.S.Site.state c.restore_commits.new.site in
+      let goes = c.restore_commits.ensures.preserves in
+      tells_stopped c.args.count geometry old mid (g.S.Site.state c.tell_fault.new.site) goes (stays_honest old mid goes honest) c.in-Err.fault (c.in-Err.ensures.known honest geometry limits lengths) c.tell_fault.result c.tell_fault.ensures c.status.result c.status.ensures;
+  causes =
+      let old = g.S.Site.state c.args.site.now in
+      let mid = g.S.Site.state c.restore_commits.new.site in
+      causes_stopped c.in-Err.fault c.status.result old mid (g.S.Site.state c.tell_fault.new.site) c.status.ensures c.in-Err.ensures.cause c.tell_fault.ensures.preserves
+      (λ honest. c.tell_fault.ensures.devices (stays_honest old mid c.restore_commits.ensures.preserves honest));
 }
 
 pub returns-in-Ok-tell_restored-clause-sizes : goal.returns-in-Ok-tell_restored-clause-sizes

@@ -1,6 +1,6 @@
-use Rattle.std.proofs.Common.{◌≤◌}
+use Rattle.std.proofs.Common.{◌≤◌, IsTrue}
 use Rattle.site.specs.State.{State as Site}
-use Rattle.site.specs.Calls.{Preserves}
+use Rattle.site.specs.Calls.{IsUnchanged, Preserves}
 use Rattle.site.specs.declared.geometry.Geometry.{Geometry}
 use Rattle.front_end.specs.Faults.{SameFaults}
 use Rattle.archive_restore.specs.Progress.{GoesOnRestoring, IsUnderWay}
@@ -15,6 +15,6 @@ invariant-loop-line g l =
       preserves : Preserves old now;
       faults : SameFaults old now;
       most : l.restoring.written ≤ l.count;
-      going : (entry : Site) × GoesOnRestoring entry now l.restoring;
+      going : (entry : Site) × Preserves old entry × (IsTrue old.honest → IsUnchanged old entry) × GoesOnRestoring l.line entry now l.restoring;
       progress : (geometry : Geometry) → IsTarget geometry old → IsUnderWay l.pool l.count geometry old now l.restoring l.line;
     }

@@ -1,12 +1,24 @@
 use Rattle.std.proofs.Common.{refl}
 use Rattle.std.specs.Prelude.{⊤}
-use Rattle.archive_restore.proofs.Starts.{stops_untouched}
+use Rattle.archive_restore.proofs.Starts.{ends_first, stops_untouched}
 use Rattle.archive_restore.proofs.Faults.{test_faults}
 use Rattle.archive_restore.proofs.restoring.blank_sizes.Goals as goal
 
 pub returns-in-Err-clause-never : goal.returns-in-Err-clause-never
 returns-in-Err-clause-never g c geometry behind s count t =
     stops_untouched c.blank_stands.ensures geometry (g.S.Site.state c.args.site.now) (g.S.Site.state c.test_blank.new.site) s t (c.test_blank.ensures.same t.honest) behind count _ c.in-Err.ensures.unfit (λ is. absurd is)
+
+pub returns-in-Err-clause-early : goal.returns-in-Err-clause-early
+returns-in-Err-clause-early g c geometry behind s count limits lengths = ends_first geometry s (g.S.Site.state c.args.site.now) (g.S.Site.state c.test_blank.new.site) behind count _ c.in-Err.ensures.unfit (λ is. absurd is)
+
+pub returns-in-Err-clause-cause : goal.returns-in-Err-clause-cause
+returns-in-Err-clause-cause g c = c.in-Err.ensures.unfit
+
+pub returns-in_default-clause-early : goal.returns-in_default-clause-early
+returns-in_default-clause-early g c geometry behind s count limits lengths = absurd (c.in_default.ensures.none geometry limits lengths)
+
+pub returns-in_default-clause-cause : goal.returns-in_default-clause-cause
+returns-in_default-clause-cause g c honest = c.in_default.ensures.none
 
 pub returns-in-Ok-clause-refuses : goal.returns-in-Ok-clause-refuses
 returns-in-Ok-clause-refuses g c none = none c.in-Some.geometry c.in-Some.ensures.sizes.0 c.in-Some.ensures.sizes.1

@@ -1,7 +1,7 @@
-use Rattle.std.proofs.Common.{◌≡◌, ◌++◌, ◌∷◌, [], List, ℕ, true, refl, sym, ◌∙◌, ap, subst, arith, Err}
+use Rattle.std.proofs.Common.{◌≡◌, ◌+◌, ◌++◌, ◌∷◌, [], List, ℕ, true, refl, sym, ◌∙◌, ap, subst, arith, Err}
 use Rattle.std.specs.Prelude.{take}
 use Rattle.site.specs.Faults.{faults_in}
-use Rattle.site.proofs.Laws.{rose_since}
+use Rattle.site.proofs.Laws.{rose_since, stays_honest}
 use Rattle.shell_text.specs.Runs.{lines_of}
 use Rattle.stream_lines.specs.Faults as hearing
 use Rattle.stream_lines.specs.Lines.{HearsLine, to_hear}
@@ -9,14 +9,15 @@ use Rattle.stream_lines.specs.declared.source.Fault as source
 use Rattle.stream_lines.specs.declared.source.Fault.TheVariants as taking
 use Rattle.stream_lines.specs.declared.source.Heard.TheVariants as kind
 use Rattle.archive_restore.specs.declared.fault.Fault.{Fault}
-use Rattle.archive_restore.specs.Progress.{StopsRestoring}
+use Rattle.archive_restore.specs.Progress.{EndsOnSite, StopsRestoring}
+use Rattle.face.specs.Causes.{IsOverLimit}
 use Rattle.archive_restore.proofs.Taken.{asks_next}
-use Rattle.archive_restore.proofs.Heard.{cut_as, goes_on_heard, heard_as, hears_on, honest_of, left_with, line_first, long_refused, over_limit, stops_here}
+use Rattle.archive_restore.proofs.Heard.{cut_as, ends_heard, goes_on_heard, heard_as, hears_on, honest_of, left_with, line_first, long_refused, over_limit, stops_here}
 use Rattle.archive_restore.specs.Faults.{after_fault}
 use Rattle.archive_restore.proofs.restoring.Restoring.hear.Goals as goal
 
 pub returns-in-Err-Input-clause-stops : goal.returns-in-Err-Input-clause-stops
-returns-in-Err-Input-clause-stops g c pool geometry s entry lines count goes h heard all less number =
+returns-in-Err-Input-clause-stops g c pool geometry s entry lines number' count goes h heard all less number =
     let mid = g.S.Site.state c.args.site.now in
     let new = g.S.Site.state c.next.new.site in
     let r = c.args.self.now in
@@ -28,7 +29,7 @@ returns-in-Err-Input-clause-stops g c pool geometry s entry lines count goes h h
     )
 
 pub returns-in-Err-Limit-clause-stops : goal.returns-in-Err-Limit-clause-stops
-returns-in-Err-Limit-clause-stops g c pool geometry s entry lines count goes h heard all less number =
+returns-in-Err-Limit-clause-stops g c pool geometry s entry lines number' count goes h heard all less number =
     let mid = g.S.Site.state c.args.site.now in
     let new = g.S.Site.state c.next.new.site in
     let r = c.args.self.now in
@@ -40,7 +41,7 @@ returns-in-Err-Limit-clause-stops g c pool geometry s entry lines count goes h h
     )
 
 pub returns-in-Ok-End-clause-stops : goal.returns-in-Ok-End-clause-stops
-returns-in-Ok-End-clause-stops g c pool geometry s entry lines count goes h heard all less number =
+returns-in-Ok-End-clause-stops g c pool geometry s entry lines number' count goes h heard all less number =
     let mid = g.S.Site.state c.args.site.now in
     let new = g.S.Site.state c.next.new.site in
     let r = c.args.self.now in
@@ -52,7 +53,7 @@ returns-in-Ok-End-clause-stops g c pool geometry s entry lines count goes h hear
     )
 
 pub returns-in-Ok-Long-clause-stops : goal.returns-in-Ok-Long-clause-stops
-returns-in-Ok-Long-clause-stops g c pool geometry s entry lines count goes h heard all less number =
+returns-in-Ok-Long-clause-stops g c pool geometry s entry lines number' count goes h heard all less number =
     let mid = g.S.Site.state c.args.site.now in
     let new = g.S.Site.state c.next.new.site in
     let r = c.args.self.now in
@@ -64,9 +65,19 @@ returns-in-Ok-Long-clause-stops g c pool geometry s entry lines count goes h hea
     )
 
 pub returns-in-Ok-clause-going : goal.returns-in-Ok-clause-going
-returns-in-Ok-clause-going g c entry goes =
-    goes_on_heard entry (g.S.Site.state c.args.site.now) (g.S.Site.state c.next.new.site) c.args.self.now c.line.new.self c.next.new.self c.as_slice.result.now goes c.next.ensures.preserves c.next.ensures.same c.in-Ok-Line.ensures.faults c.next.ensures.source
-    (c.in-Ok.ensures.accepted goes.pages goes.s (take c.args.self.now.written goes.s.nets) goes.replay)
+returns-in-Ok-clause-going g c number entry goes =
+    let mid = g.S.Site.state c.args.site.now in
+    let new = g.S.Site.state c.next.new.site in
+    let r = c.args.self.now in
+    goes_on_heard number entry mid new r c.line.new.self c.next.new.self c.as_slice.result.now goes c.next.ensures.preserves c.next.ensures.same c.in-Ok-Line.ensures.faults c.next.ensures.source
+    (c.in-Ok.ensures.accepted goes.g.pages goes.s (take c.args.self.now.written goes.s.nets) goes.archived.replay)
+    (λ honest ended.
+    let first = heard_as c.in-Ok-Line.field-0 kind.Line _ _ _ _ _ (c.in-Ok-Line.ensures.heard honest ended) c.in-Ok-Line.field-0-is in (
+      subst (λ (l : List ℕ). HearsLine l r.source.ended c.next.new.self.ended (to_hear r.source mid) (to_hear c.next.new.self new)) (sym c.as_slice.ensures.value) first,
+      c.in-Ok-Line.ensures.ended honest ended,
+      c.in-Ok-Line.ensures.count honest,
+      (c.next.ensures.takes honest ended).count,
+    ))
 
 pub returns-in-Ok-clause-hears : goal.returns-in-Ok-clause-hears
 returns-in-Ok-clause-hears g c pool geometry s entry lines h heard =
@@ -80,7 +91,7 @@ returns-in-Ok-clause-hears g c pool geometry s entry lines h heard =
     (c.in-Ok.ensures.accepted geometry.pages s (take r.written s.nets) h.replay)
 
 pub returns-in-Err-BadStream-clause-stops : goal.returns-in-Err-BadStream-clause-stops
-returns-in-Err-BadStream-clause-stops g c pool geometry s entry lines count goes h heard all less number =
+returns-in-Err-BadStream-clause-stops g c pool geometry s entry lines number' count goes h heard all less number =
     let mid = g.S.Site.state c.args.site.now in
     let new = g.S.Site.state c.next.new.site in
     let r = c.args.self.now in
@@ -96,7 +107,7 @@ returns-in-Err-BadStream-clause-stops g c pool geometry s entry lines count goes
     )
 
 pub returns-in-Err-Memory-clause-stops : goal.returns-in-Err-Memory-clause-stops
-returns-in-Err-Memory-clause-stops g c pool geometry s entry lines count goes h heard all less number =
+returns-in-Err-Memory-clause-stops g c pool geometry s entry lines number' count goes h heard all less number =
     let mid = g.S.Site.state c.args.site.now in
     let new = g.S.Site.state c.next.new.site in
     let r = c.args.self.now in
@@ -150,3 +161,61 @@ pub returns-in-Err-Memory-clause-asks : goal.returns-in-Err-Memory-clause-asks
 returns-in-Err-Memory-clause-asks g c pool geometry s entry lines count h heard all less before =
     asks_next geometry lines s entry (g.S.Site.state c.args.site.now) (g.S.Site.state c.next.new.site) c.args.self.now count heard (omega (arith, all, less)) h.told
     (c.next.ensures.takes (honest_of pool geometry s entry (g.S.Site.state c.args.site.now) c.args.self.now h) heard.ended) before
+
+-- Of every site.
+
+pub returns-in-Err-Input-clause-early : goal.returns-in-Err-Input-clause-early
+returns-in-Err-Input-clause-early g c number entry count goes all less is =
+    let rose = rose_since _ _ _ goes.database.preserves.input_faults (c.in-Err-Input.ensures.input (ap Err c.in-Err-Input.field-0-is)) in
+    ends_heard number count entry (g.S.Site.state c.args.site.now) (g.S.Site.state c.next.new.site) c.args.self.now _ goes less (λ honest. (rose, all)) rose
+
+pub returns-in-Err-Limit-clause-early : goal.returns-in-Err-Limit-clause-early
+returns-in-Err-Limit-clause-early g c number entry count goes all less is =
+    let mid = g.S.Site.state c.args.site.now in
+    let new = g.S.Site.state c.next.new.site in
+    let r = c.args.self.now in
+    let over : IsOverLimit entry new = (λ honest.
+    let h = goes.heard honest in
+    over_limit goes.g goes.lines goes.s entry mid new r h (cut_as c.in-Err-Limit.field-0 taking.Limit _ _ _ _ (c.in-Err-Limit.ensures.cut_off (stays_honest entry mid goes.database.preserves honest) h.ended) c.in-Err-Limit.field-0-is)) in
+    ends_heard number count entry mid new r _ goes less (λ honest. (over, all)) over
+
+pub returns-in-Ok-End-clause-early : goal.returns-in-Ok-End-clause-early
+returns-in-Ok-End-clause-early g c number entry count goes all less is =
+    let mid = g.S.Site.state c.args.site.now in
+    ends_heard number count entry mid (g.S.Site.state c.next.new.site) c.args.self.now _ goes less
+    (λ honest.
+    let end = heard_as c.in-Ok-End.field-0 kind.End _ _ _ _ _ (c.in-Ok-End.ensures.heard (stays_honest entry mid goes.database.preserves honest) (goes.heard honest).ended) c.in-Ok-End.field-0-is in
+    (refl, all, ap (lines_of true) end.0)) tt
+
+pub returns-in-Ok-Long-clause-early : goal.returns-in-Ok-Long-clause-early
+returns-in-Ok-Long-clause-early g c number entry count goes all less is =
+    let mid = g.S.Site.state c.args.site.now in
+    ends_heard number count entry mid (g.S.Site.state c.next.new.site) c.args.self.now _ goes less
+    (λ honest.
+    let long = heard_as c.in-Ok-Long.field-0 kind.Long _ _ _ _ _ (c.in-Ok-Long.ensures.heard (stays_honest entry mid goes.database.preserves honest) (goes.heard honest).ended) c.in-Ok-Long.field-0-is in
+    (is ∙ ap (λ n. n + 1) (sym goes.long), all, long.line, long.behind, long.is_first, λ now. long_refused goes.g.pages long.line goes.s now long.many)) tt
+
+pub returns-in-Err-BadStream-clause-early : goal.returns-in-Err-BadStream-clause-early
+returns-in-Err-BadStream-clause-early g c number entry count goes all less is =
+    let mid = g.S.Site.state c.args.site.now in
+    let new = g.S.Site.state c.next.new.site in
+    let r = c.args.self.now in
+    let line = c.as_slice.result.now in
+    ends_heard number count entry mid new r _ goes less
+    (λ honest.
+    let there = stays_honest entry mid goes.database.preserves honest in
+    let ended = (goes.heard honest).ended in
+    let first = heard_as c.in-Ok-Line.field-0 kind.Line _ _ _ _ _ (c.in-Ok-Line.ensures.heard there ended) c.in-Ok-Line.field-0-is in
+    let same = subst (λ (l : List ℕ). HearsLine l r.source.ended c.next.new.self.ended (to_hear r.source mid) (to_hear c.next.new.self new)) (sym c.as_slice.ensures.value) first in (
+      is ∙ ap (λ n. n + 1) (sym goes.long),
+      all,
+      line,
+      lines_of true (to_hear c.next.new.self new),
+      line_first line r.source c.next.new.self mid new c.next.ensures.source (c.in-Ok-Line.ensures.ended there ended) same,
+      c.in-Err-BadStream.ensures.bad goes.g.pages goes.s (take r.written goes.s.nets) goes.archived.replay (ap Err c.in-Err-BadStream.field-0-is),
+    )) tt
+
+pub returns-in-Err-Memory-clause-early : goal.returns-in-Err-Memory-clause-early
+returns-in-Err-Memory-clause-early g c number entry count goes all less is =
+    subst (λ (f : Fault). EndsOnSite count entry (g.S.Site.state c.next.new.site) f) (sym c.lacks_memory.ensures)
+    (ends_heard number count entry (g.S.Site.state c.args.site.now) (g.S.Site.state c.next.new.site) c.args.self.now _ goes less (λ honest. tt) tt)

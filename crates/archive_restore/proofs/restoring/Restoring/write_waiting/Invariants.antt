@@ -17,7 +17,7 @@ invariant-loop-self g l =
       preserves : Preserves old now;
       faults : SameFaults old now;
       left : IsTrue old.honest → now.input ≡ old.input;
-      going : (entry : Site) → GoesOnRestoring entry old l.fn.self → GoesOnRestoring entry now l.self;
+      going : (number : ℕ) (entry : Site) → GoesOnRestoring number entry old l.fn.self → GoesOnRestoring number entry now l.self;
       writes : (pool : ℕ) (geometry : Geometry) (s : Stream) (entry : Site) → HasWritten pool geometry s entry old l.fn.self → HasWritten pool geometry s entry now l.self;
     }
 
