@@ -1,16 +1,17 @@
 -- The last line is told.
-use Rattle.std.proofs.Common.{◌≡◌, ◌≢◌, ◌⊎◌, inl, inr, ⊎_elim, ℕ, zero, suc, List, [], ◌++◌, take, refl, sym, ◌∙◌, ap, subst, arith, append-nil, IsTrue, Result, Ok, Err}
+use Rattle.std.proofs.Common.{◌≡◌, ◌≢◌, ◌⊎◌, inl, inr, ⊎_elim, ℕ, zero, suc, List, [], ◌++◌, length, take, refl, sym, ◌∙◌, ap, subst, arith, append-nil, IsTrue, Result, Ok, Err}
 use Rattle.std.specs.Prelude.{⊤}
 use Rattle.site.specs.State.{State as Site, Image, Snapshot, no_loose, now_of}
 use Rattle.site.specs.Calls.{Preserves, Rose}
 use Rattle.site.specs.Moments.{Leaves, LeavesOnly}
-use Rattle.site.specs.Telling.{SameDevices}
+use Rattle.site.specs.Telling.{SameDevices, TellsOnly}
+use Rattle.site.specs.declared.outside.Dev.{Dev}
 use Rattle.site.specs.declared.outside.Failed.{Failed}
 use Rattle.site.specs.declared.geometry.Geometry.{Geometry}
 use Rattle.site.proofs.Laws.{image_is, in_sequence, leaves_weaker, rose_then, stays_honest, tell_leaves}
 use Rattle.log_archive.specs.Accepted.{Stream}
 use Rattle.site.specs.declared.outside.Stop.TheVariants.{Device, Foreign, Memory, Worn}
-use Rattle.front_end.specs.New.{IsNotBlank, unfit_line}
+use Rattle.front_end.specs.New.{IsNotBlank, ReadsOnce, unfit_line}
 use Rattle.front_end.specs.Refusals.{RefusesDevices}
 use Rattle.front_end.specs.Tells.{Tells}
 use Rattle.front_end.specs.declared.halt.Halt.TheVariants as halt
@@ -20,13 +21,23 @@ use Rattle.front_end.proofs.Endings.{ends_with, refuses_devices}
 use Rattle.engine.specs.Leaves.{HasNoSizes}
 use Rattle.front_end.specs.declared.halt.Halt.{Halt}
 use Rattle.face.specs.Causes.{HasCause, IsForeign}
+use Rattle.page_store.proofs.Counting.{unsynced_told}
+use Rattle.face.specs.Headline.{Resources}
+use Rattle.face.specs.Working.{Demands}
+use Rattle.face.specs.Run.{Run, first_lines}
+use Rattle.face.proofs.CallCounts.{calls_told}
+use Rattle.face.proofs.Demanded.{asked_done, demands_done, demands_failed, demands_lost}
+use Rattle.archive_restore.specs.Progress.{AsksForNets, IsUntouched, halt_in, nets_lines}
+use Rattle.archive_restore.specs.Writing.{blank_state, run_over}
+use Rattle.archive_restore.proofs.Faults.{status_from}
+use Rattle.archive_restore.proofs.Nets.{lines_rise}
 use Rattle.face.proofs.CauseLaws.{cause_then, no_causes, status_causes}
 use Rattle.archive_restore.proofs.Taken.{asks_still}
 use Rattle.archive_restore.specs.declared.fault.Fault.{Fault}
 use Rattle.archive_restore.specs.declared.fault.Fault.TheVariants as fault
-use Rattle.archive_restore.specs.Contract.{EndsSo, IsKnown, RestoreCauses, RestoreHeadline, RestoreOutcome, RestoreTells}
+use Rattle.archive_restore.specs.Contract.{AsksAsLines, EndsSo, EndsUntouched, HasAsked, IsKnown, RestoreCauses, RestoreHeadline, RestoreOutcome, RestoreTells}
 use Rattle.archive_restore.specs.Refusing.{RefusesFilled, RefusesSizes, RefusesWritten}
-use Rattle.archive_restore.specs.Restores.{EndsBy, HasFaultCause, HasFewCommits, HasSealed, IsBetween, IsLeft, StandsAfter, StandsNear, TellsBehind}
+use Rattle.archive_restore.specs.Restores.{EndsBy, HasFaultCause, HasFewCommits, HasSealed, HasTested, IsBetween, IsLeft, StandsAfter, StandsNear, TellsBehind}
 use Rattle.archive_restore.specs.Texts.{fault_line, fault_status, restored_line}
 
 unfit_then : (u : Unfit) (a b c : Site) → IsNotBlank u a b → Preserves b c → IsNotBlank u a c
@@ -45,8 +56,24 @@ ends_then (fault.Stream number) g lines behind s begun a b c is goes same = is
 ends_then (fault.Short commits) g lines behind s begun a b c is goes same = is
 ends_then fault.Full g lines behind s begun a b c is goes same = is
 
+-- with 8 a device is worn
+worn_fault : (f : Fault) → fault_status f ≡ 8 → (dev : Dev) × (f ≡ fault.Halt (halt.Stop (Worn dev)))
+worn_fault (fault.Unfit unfit.Foreign) e = absurd (omega (arith, e))
+worn_fault (fault.Unfit (unfit.Failed dev)) e = absurd (omega (arith, e))
+worn_fault (fault.Unfit (unfit.NotBlank dev place)) e = absurd (omega (arith, e))
+worn_fault (fault.Halt (halt.Stop (Device dev))) e = absurd (omega (arith, e))
+worn_fault (fault.Halt (halt.Stop Memory)) e = absurd (omega (arith, e))
+worn_fault (fault.Halt (halt.Stop (Worn dev))) e = (dev, refl)
+worn_fault (fault.Halt (halt.Stop Foreign)) e = absurd (omega (arith, e))
+worn_fault (fault.Halt halt.Input) e = absurd (omega (arith, e))
+worn_fault (fault.Halt halt.Output) e = absurd (omega (arith, e))
+worn_fault (fault.Halt halt.Limit) e = absurd (omega (arith, e))
+worn_fault (fault.Stream number) e = absurd (omega (arith, e))
+worn_fault (fault.Short commits) e = absurd (omega (arith, e))
+worn_fault fault.Full e = absurd (omega (arith, e))
+
 -- What is left while a line is told behind the work.
-module _ (count : ℕ) (g : Geometry) (old mid new : Site) {T : Type 0} (result : Result T Fault) (o : RestoreOutcome count g old mid result) (line : List ℕ) {U : Type 0} (told : Result U Failed) (tells : Tells line mid new told) (honest : IsTrue mid.honest) where
+module _ (count pool : ℕ) (g : Geometry) (old mid new : Site) {T : Type 0} (result : Result T Fault) (o : RestoreOutcome count pool g old mid result) (line : List ℕ) {U : Type 0} (told : Result U Failed) (tells : Tells line mid new told) (honest : IsTrue mid.honest) where
   left_told : (snapshot : Snapshot) → IsLeft g o.s o.begun [] old.told snapshot → snapshot.told ≡ old.told
   left_told snapshot l = ⊎_elim (λ same. same) (λ some. some.1 ∙ ap (λ (t : List ℕ). old.told ++ t) (none_taken some.0) ∙ append-nil old.told) l.told
     where
@@ -82,21 +109,108 @@ module _ (count : ℕ) (g : Geometry) (old mid new : Site) {T : Type 0} (result 
         (tell_leaves (StandsAfter g o.s k) line mid new (λ snapshot left. subst (λ (x : Image). StandsAfter g o.s k x) (sym (image_is (now_of mid) snapshot quiet left)) stands) (tells.any_moment honest)));
   }
 
-  pub headline_by : (status : ℕ) → Preserves old mid → EndsSo status line count g o.lines o.behind o.s o.begun old new (HasSealed g o.s o.begun old new) → (status ≢ 3 → mid.loose ≡ no_loose) → RestoreHeadline count g old new status
-  headline_by status goes so quiet = record {
+  pub headline_by : (status : ℕ) → Preserves old mid → EndsSo status line count g o.lines o.behind o.s o.begun old new (HasSealed g o.s o.begun old new) → (status ≢ 3 → mid.loose ≡ no_loose) → EndsUntouched old new status ⊎ HasTested old (AsksAsLines pool g o.s o.begun line new status) → RestoreHeadline count pool g old new status
+  headline_by status goes so quiet resources = record {
     line = line;
     ended = record { lines = o.lines; behind = o.behind; s = o.s; heard = o.heard; begun = o.begun; few = o.few; most = o.most; fit = o.fit; so = so };
     ends = ends_with old.told line old mid new told goes honest o.told tells;
     moments = moments_told;
     quiet = λ ne. same.loose ∙ quiet ne;
     asks = asks_still (HasFewCommits g.pages count) old mid new o.asks same.left;
+    resources = resources;
   }
 
+  still_read : ReadsOnce old mid → ReadsOnce old new
+  still_read read dev = let more = tells.reads dev in let once = read dev in omega (arith, more, once)
+
+  -- the devices were only read
+  pub untouched_told : (f : Fault) (status : ℕ) → status ≡ fault_status f → IsUntouched old mid f → EndsUntouched old new status
+  untouched_told f status is u = record {
+    early = subst (λ n. (n ≡ 3) ⊎ ((n ≡ 4) ⊎ (n ≡ 10))) (sym is) u.early;
+    devices = record { image = same.image ∙ u.same.image; loose = same.loose ∙ u.same.loose; left = same.left ∙ u.same.left };
+    read = still_read u.read;
+  }
+
+  -- its lines ask for no more where it is told that they fail
+  pub asks_told : (f : Fault) (status : ℕ) → line ≡ fault_line f → status ≡ fault_status f → (tested : Site) → AsksForNets pool g o.s o.begun tested mid (halt_in f) → AsksAsLines pool g o.s o.begun line new status tested
+  asks_told f status is_line is tested a =
+      let run = run_over g (nets_lines g o.s o.begun) in
+      let d = demands_failed pool (first_lines run a.begun) tested mid new same.image tells.reads (tells.any_moment honest) (halt_in f) a.demands in
+      let some : status ≡ 0 → ⊥ = (λ zero. let from = status_from f status is in omega (arith, from, zero)) in
+      record {
+        begun = a.begun;
+        few = a.few;
+        enough = a.enough;
+        asked = record {
+          worn = λ eight. let w = worn_fault f (sym is ∙ eight) in (w.0, is_line ∙ ap fault_line w.1, d.worn w.0 (ap Err (ap halt_in w.1)));
+          room = λ zero. absurd (some zero);
+          earlier = a.earlier;
+          done = λ zero. absurd (some zero);
+          staged = λ zero. absurd (some zero);
+          calls = λ zero. absurd (some zero);
+          numbers = d.numbers;
+          reads = d.reads;
+        };
+      }
+
+  -- nor where it is told that all is restored
+  module _ (tested : Site) (a : HasAsked pool g o.s o.begun tested mid) where
+    abbrev run : Run
+    run = run_over g (nets_lines g o.s o.begun)
+
+    abbrev all : ℕ
+    all = length (nets_lines g o.s o.begun)
+
+    pub asks_done : new.told ≡ mid.told ++ line → TellsOnly (length line) mid new → AsksAsLines pool g o.s o.begun line new 0 tested
+    asks_done is only =
+        let each = tells.any_moment honest in
+        let d : Demands {T = ⊤} pool (first_lines run all) tested new (Ok tt) = demands_done pool (first_lines run all) tested mid new same.image tells.reads each {T = ⊤} {U = ⊤} tt tt (calls_told g line mid new same.image is each.grown only) (unsynced_told mid new each.grown only.works) a.demands in
+        let r : Resources pool run all [] tested new 0 = asked_done pool run all tested new {T = ⊤} tt a.all a.earlier d in
+        record {
+          begun = all;
+          few = omega arith;
+          enough = lines_rise (blank_state g) o.s.nets o.begun;
+          asked = record { worn = λ eight. absurd (omega (arith, eight)); room = r.room; earlier = r.earlier; done = r.done; staged = r.staged; calls = r.calls; numbers = r.numbers; reads = r.reads };
+        }
+
+    -- or was to be told
+    pub asks_lost : AsksAsLines pool g o.s o.begun line new 6 tested
+    asks_lost =
+        let d : Demands {T = ⊤} pool (first_lines run all) tested new (Err halt.Output) = demands_lost pool (first_lines run all) tested mid new same.image tells.reads (tells.any_moment honest) {T = ⊤} {U = ⊤} tt a.demands in
+        record {
+          begun = all;
+          few = omega arith;
+          enough = lines_rise (blank_state g) o.s.nets o.begun;
+          asked = record {
+            worn = λ eight. absurd (omega (arith, eight));
+            room = λ zero. absurd (omega (arith, zero));
+            earlier = a.earlier;
+            done = λ zero. absurd (omega (arith, zero));
+            staged = λ zero. absurd (omega (arith, zero));
+            calls = λ zero. absurd (omega (arith, zero));
+            numbers = d.numbers;
+            reads = d.reads;
+          };
+        }
+
 -- it is all restored
-pub headline_done : (count status : ℕ) (g : Geometry) (old mid new : Site) {T : Type 0} (x : T) (o : RestoreOutcome count g old mid (Ok x)) {U : Type 0} (told : Result U Failed) (tells : Tells (restored_line count) mid new told) → IsTrue mid.honest → Preserves old mid → (status ≡ 0) ⊎ (status ≡ 6) → RestoreHeadline count g old new status
-headline_done count status g old mid new x o told tells honest goes is =
-    headline_by count g old mid new (Ok x) o (restored_line count) told tells honest status goes
-    (inl (is, refl, o.done.0, sealed_told count g old mid new (Ok x) o (restored_line count) told tells honest o.begun o.done.2 (subst (λ n. StandsAfter g o.s n mid.image) (sym o.done.0) o.done.1))) (λ ne. o.done.2)
+pub headline_done : (count pool status : ℕ) (g : Geometry) (old mid new : Site) {T : Type 0} (x : T) (o : RestoreOutcome count pool g old mid (Ok x)) {U : Type 0} (told : Result U Failed) (tells : Tells (restored_line count) mid new told) → IsTrue mid.honest → Preserves old mid → (status ≡ 0) ⊎ (status ≡ 6)
+    → HasTested old (AsksAsLines pool g o.s o.begun (restored_line count) new status) → RestoreHeadline count pool g old new status
+headline_done count pool status g old mid new x o told tells honest goes is resources =
+    headline_by count pool g old mid new (Ok x) o (restored_line count) told tells honest status goes
+    (inl (is, refl, o.done.0, sealed_told count pool g old mid new (Ok x) o (restored_line count) told tells honest o.begun o.done.2 (subst (λ n. StandsAfter g o.s n mid.image) (sym o.done.0) o.done.1))) (λ ne. o.done.2) (inr resources)
+
+-- and told
+pub headline_told : (count pool : ℕ) (g : Geometry) (old mid new : Site) {T : Type 0} (x : T) (o : RestoreOutcome count pool g old mid (Ok x)) {U : Type 0} (told : Result U Failed) (tells : Tells (restored_line count) mid new told) → IsTrue mid.honest → Preserves old mid → new.told ≡ mid.told ++ restored_line count → TellsOnly (length (restored_line count)) mid new
+    → RestoreHeadline count pool g old new 0
+headline_told count pool g old mid new x o told tells honest goes is only =
+    headline_done count pool 0 g old mid new x o told tells honest goes (inl refl)
+    (record { tested = o.asks_all.tested; same = o.asks_all.same; read = o.asks_all.read; holds = asks_done count pool g old mid new (Ok x) o (restored_line count) told tells honest o.asks_all.tested o.asks_all.holds is only })
+
+pub headline_lost : (count pool : ℕ) (g : Geometry) (old mid new : Site) {T : Type 0} (x : T) (o : RestoreOutcome count pool g old mid (Ok x)) {U : Type 0} (told : Result U Failed) (tells : Tells (restored_line count) mid new told) → IsTrue mid.honest → Preserves old mid → RestoreHeadline count pool g old new 6
+headline_lost count pool g old mid new x o told tells honest goes =
+    headline_done count pool 6 g old mid new x o told tells honest goes (inr refl)
+    (record { tested = o.asks_all.tested; same = o.asks_all.same; read = o.asks_all.read; holds = asks_lost count pool g old mid new (Ok x) o (restored_line count) told tells honest o.asks_all.tested o.asks_all.holds })
 
 -- no device failed where all that were begun are written
 between_settled : (f : Fault) → IsBetween f → fault_status f ≢ 3
@@ -110,16 +224,18 @@ between_settled (fault.Halt halt.Limit) is e = omega (arith, e)
 between_settled (fault.Unfit unfit) is e = absurd is
 
 -- or it ends before
-pub headline_stopped : (count status : ℕ) (g : Geometry) (old mid new : Site) {T : Type 0} (f : Fault) (o : RestoreOutcome {T = T} count g old mid (Err f)) {U : Type 0} (told : Result U Failed) (tells : Tells (fault_line f) mid new told) → IsTrue mid.honest → Preserves old mid → status ≡ fault_status f → RestoreHeadline count g old new status
-headline_stopped count status g old mid new f o told tells honest goes is =
-    headline_by count g old mid new (Err f) o (fault_line f) told tells honest status goes
+pub headline_stopped : (count pool status : ℕ) (g : Geometry) (old mid new : Site) {T : Type 0} (f : Fault) (o : RestoreOutcome {T = T} count pool g old mid (Err f)) {U : Type 0} (told : Result U Failed) (tells : Tells (fault_line f) mid new told) → IsTrue mid.honest → Preserves old mid → status ≡ fault_status f → RestoreHeadline count pool g old new status
+headline_stopped count pool status g old mid new f o told tells honest goes is =
+    headline_by count pool g old mid new (Err f) o (fault_line f) told tells honest status goes
     (inr (
       f,
       is,
       refl,
       ends_then f g o.lines o.behind o.s o.begun old mid new o.stops.0 tells.preserves (λ h. tells.devices honest),
-      λ between. let b = o.stops.1 between in (b.0, sealed_told count g old mid new (Err f) o (fault_line f) told tells honest o.begun (o.stops.2 (between_settled f between)) b.1),
+      λ between. let b = o.stops.1 between in (b.0, sealed_told count pool g old mid new (Err f) o (fault_line f) told tells honest o.begun (o.stops.2 (between_settled f between)) b.1),
     )) (λ ne. o.stops.2 (λ e. ne (is ∙ e)))
+    (⊎_elim (λ untouched. inl (untouched_told count pool g old mid new (Err f) o (fault_line f) told tells honest f status is untouched))
+    (λ some. inr (record { tested = some.tested; same = some.same; read = some.read; holds = asks_told count pool g old mid new (Err f) o (fault_line f) told tells honest f status refl is some.tested some.holds })) o.asks_early)
 
 -- Over any honest site the line comes last.
 module _ {T : Type 0} (count : ℕ) (g : Geometry) (old mid new : Site) (goes : Preserves old mid) (honest : IsTrue mid.honest) where

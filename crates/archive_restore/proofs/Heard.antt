@@ -31,10 +31,14 @@ use Rattle.face.specs.Image.{blank_table}
 use Rattle.face.proofs.Serving.{served_heard}
 use Rattle.archive_restore.specs.declared.restoring.Restoring.{Restoring}
 use Rattle.archive_restore.specs.declared.fault.Fault.{Fault}
-use Rattle.archive_restore.specs.Progress.{EndsOnSite, GoesOnRestoring, HasFit, HasHeard, HasWritten, StopsRestoring}
+use Rattle.archive_restore.specs.Progress.{EndsOnSite, GoesOnRestoring, HasFit, HasHeard, HasWritten, StopsAsking, halt_in}
 use Rattle.archive_restore.specs.Restores.{EndsBy, FitsAt, HasFaultCause, IsLeft, StandsAfter, lines_of_nets, net_at}
 use Rattle.archive_restore.specs.Writing.{HasCarried, blank_state, run_over}
-use Rattle.archive_restore.proofs.Carried.{carried_fits, carried_quiet, carried_stands}
+use Rattle.archive_restore.proofs.Carried.{carried_fits, carried_quiet, carried_so_far, carried_stands}
+use Rattle.archive_restore.proofs.Nets.{lines_rise}
+use Rattle.site.specs.declared.outside.Dev.{Dev}
+use Rattle.site.specs.declared.outside.Stop.TheVariants.{Worn}
+use Rattle.front_end.specs.declared.halt.Halt.TheVariants as halt
 use Rattle.archive_restore.proofs.Growing.{Grows, line_grows, net_stays, table_stays, take_stays}
 
 as_front : (old new : Site) → HearsOnly old new → front.HearsOnly old new
@@ -148,21 +152,24 @@ long_refused pages line s now many (inr (is, same)) =
     omega (arith, whole, digits, many)
 
 -- It ends there: all commits that were heard of are written.
-module _ (pool : ℕ) (g : Geometry) (s : Stream) (entry mid new : Site) (r : Restoring) (h : HasWritten pool g s entry mid r) (same : HearsOnly mid new) where
+module _ (pool : ℕ) (g : Geometry) (s : Stream) (entry mid new : Site) (r : Restoring) (h : HasWritten pool g s entry mid r) (goes : Preserves mid new) (same : HearsOnly mid new) where
   quiet_here : new.loose ≡ no_loose
   quiet_here = same.loose ∙ carried_quiet pool g entry mid r.engine _ _ h.carried
 
   stands_here : StandsAfter g s r.written new.image
   stands_here = subst (λ (x : Image). StandsAfter g s r.written x) (sym same.image) (carried_stands pool g entry mid r.engine _ _ h.carried)
 
-  pub stops_here : (lines behind : List (List ℕ)) (count : ℕ) (f : Fault) → EndsBy f g lines behind s r.written entry new → r.written < count → StopsRestoring g lines behind s count entry new f
-  stops_here lines behind count f ends less = record {
-    early = record { begun = r.written; few = h.few; most = omega (arith, less); ends = ends; fit = h.fit; less = λ is. less };
-    told = same.told ∙ h.told;
-    moments = calm entry mid new (Leaves (IsLeft g s r.written [] entry.told)) h.moments same.past (now_same mid new same.told same.image same.loose);
-    near = λ snapshot left. (r.written, omega arith, omega arith, subst (λ (x : Image). StandsAfter g s r.written x) (sym (image_is (now_of new) snapshot quiet_here left)) stands_here);
-    between = λ is. stands_here;
-    quiet = λ ne. quiet_here;
+  pub stops_here : (lines behind : List (List ℕ)) (count : ℕ) (f : Fault) → EndsBy f g lines behind s r.written entry new → r.written < count → ((dev : Dev) → halt_in f ≡ halt.Stop (Worn dev) → ⊥) → StopsAsking pool g lines behind s count entry new f
+  stops_here lines behind count f ends less never = record {
+    stops = record {
+      early = record { begun = r.written; few = h.few; most = omega (arith, less); ends = ends; fit = h.fit; less = λ is. less };
+      told = same.told ∙ h.told;
+      moments = calm entry mid new (Leaves (IsLeft g s r.written [] entry.told)) h.moments same.past (now_same mid new same.told same.image same.loose);
+      near = λ snapshot left. (r.written, omega arith, omega arith, subst (λ (x : Image). StandsAfter g s r.written x) (sym (image_is (now_of new) snapshot quiet_here left)) stands_here);
+      between = λ is. stands_here;
+      quiet = λ ne. quiet_here;
+    };
+    asks = carried_so_far pool g entry new r.engine _ _ (carried_heard pool g entry mid new r.engine _ _ h.carried goes same) (halt_in f) (length (lines_of_nets (blank_state g) (take (r.written - 1) s.nets))) never (lines_rise (blank_state g) s.nets r.written);
   }
 
 -- On every site it goes on behind a line.

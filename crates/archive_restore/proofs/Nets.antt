@@ -1,5 +1,5 @@
 -- One net more.
-use Rattle.std.proofs.Common.{◌≡◌, inl, ⊎_elim, ℕ, zero, suc, ◌+◌, ◌≤◌, List, [], ◌∷◌, ◌++◌, length, take, refl, sym, ◌∙◌, ap, subst, arith, append_assoc, append-nil, length-append}
+use Rattle.std.proofs.Common.{◌≡◌, inl, ⊎_elim, ℕ, zero, suc, ◌+◌, ◌-◌, ◌≤◌, List, [], ◌∷◌, ◌++◌, length, take, refl, sym, ◌∙◌, ap, subst, arith, append_assoc, append-nil, length-append}
 use Rattle.std.specs.Prelude.{flat_map, slice_set}
 use Rattle.std.proofs.lemmas.Grind.{flat_map-append}
 use Rattle.std.proofs.lemmas.List.{length-take-le, take_at}
@@ -35,6 +35,22 @@ lines_push s (x ∷ nets) net =
     let mid = after_lines s first [] in
     ap (λ l. first ++ l) (lines_push mid nets net) ∙ sym (append_assoc first (lines_of_nets mid nets) (net_lines (after_lines mid (lines_of_nets mid nets) []) net))
     ∙ ap (λ (t : State). (first ++ lines_of_nets mid nets) ++ net_lines t net) (sym (after_then s first (lines_of_nets mid nets)))
+
+-- fewer nets have fewer lines
+lines_fewer : (s : State) (nets : List (List Write)) (i k : ℕ) → i ≤ k → length (lines_of_nets s (take i nets)) ≤ length (lines_of_nets s (take k nets))
+lines_fewer s nets zero k less = omega arith
+lines_fewer s nets (suc i) zero less = absurd (omega (arith, less))
+lines_fewer s [] (suc i) (suc k) less = omega arith
+lines_fewer s (net ∷ nets) (suc i) (suc k) less =
+    let first = net_lines s net in
+    let mid = after_lines s first [] in
+    let a = length-append first (lines_of_nets mid (take i nets)) in
+    let b = length-append first (lines_of_nets mid (take k nets)) in
+    let rest = lines_fewer mid nets i k (omega (arith, less)) in
+    omega (arith, a, b, rest)
+
+pub lines_rise : (s : State) (nets : List (List Write)) (k : ℕ) → length (lines_of_nets s (take (k - 1) nets)) ≤ length (lines_of_nets s (take k nets))
+lines_rise s nets k = lines_fewer s nets (k - 1) k (omega arith)
 
 module _ (nets : List (List Write)) (k : ℕ) (net : List Write) (waiting : List (List Write)) (few : k ≤ length nets) (are : nets ≡ (take k nets ++ net ∷ []) ++ waiting) where
   pub split_there : nets ≡ take k nets ++ net ∷ waiting

@@ -1,18 +1,18 @@
 -- What comes of a restore, since the devices were tested.
-use Rattle.std.proofs.Common.{◌≡◌, ℕ, ◌+◌, ◌^◌, ◌<◌, ◌≤◌, List, [], ◌++◌, length, drop, true, refl, sym, ◌∙◌, ap, subst, arith, IsTrue, Ok, Err}
+use Rattle.std.proofs.Common.{◌≡◌, inl, inr, ⊎_elim, ℕ, zero, suc, ◌+◌, ◌-◌, ◌^◌, ◌<◌, List, [], ◌++◌, length, take, drop, true, refl, sym, ◌∙◌, ap, subst, arith, IsTrue, Ok, Err}
 use Rattle.std.specs.List.{AllByRecursion}
 use Rattle.site.specs.State.{State as Site, Image, Input, Moment, now_of}
 use Rattle.site.specs.Calls.{IsUnchanged, Preserves}
 use Rattle.site.specs.Moments.{EachMoment, Leaves, LeavesOnly}
 use Rattle.site.specs.Geometry.{HasLengths, HasLimits}
 use Rattle.site.specs.declared.outside.Stop.TheVariants.{Device, Foreign, Memory, Worn}
-use Rattle.site.proofs.Laws.{goes_nowhere, image_is, rose_since, stays_honest, unchanged}
+use Rattle.site.proofs.Laws.{image_is, rose_since, stays_honest}
 use Rattle.site.specs.declared.geometry.Geometry.{Geometry}
 use Rattle.shell_text.specs.Runs.{lines_of}
-use Rattle.stream_lines.specs.Lines.{AsksFor, IsSource, pending, to_hear}
+use Rattle.stream_lines.specs.Lines.{AsksFor, IsSource, to_hear}
 use Rattle.stream_lines.proofs.Asked.{asks_none}
 use Rattle.log_archive.specs.Accepted.{Accepted, Stream, blank_stream}
-use Rattle.front_end.specs.New.{IsFirstOfAll, IsNotBlank}
+use Rattle.front_end.specs.New.{IsFirstOfAll, IsNotBlank, ReadsOnce}
 use Rattle.front_end.specs.declared.halt.Halt.TheVariants as halt
 use Rattle.front_end.specs.declared.new_database.Unfit.{Unfit}
 use Rattle.front_end.specs.declared.new_database.Unfit.TheVariants as unfit
@@ -20,9 +20,14 @@ use Rattle.archive_restore.specs.declared.fault.Fault.{Fault}
 use Rattle.archive_restore.specs.declared.fault.Fault.TheVariants as fault
 use Rattle.archive_restore.specs.declared.restoring.Restoring.{Restoring}
 use Rattle.archive_restore.specs.Contract.{IsKnown, RestoreOutcome}
-use Rattle.archive_restore.specs.Progress.{EndsEarly, EndsOnSite, GoesOnRestoring, HasHeard, HasWritten, IsUnderWay, StopsRestoring}
-use Rattle.archive_restore.specs.Restores.{EndsBy, HasFaultCause, HasFewCommits, HaveFit, IsHeard, IsLeft, StandsAfter}
-use Rattle.archive_restore.proofs.Carried.{carried_quiet, carried_stands}
+use Rattle.archive_restore.specs.Progress.{EndsEarly, EndsOnSite, GoesOnRestoring, HasHeard, HasWritten, IsUnderWay, NeverRestores, StopsAsking, halt_in}
+use Rattle.archive_restore.specs.Restores.{EndsBy, HasFaultCause, HasFewCommits, HaveFit, IsHeard, IsLeft, StandsAfter, lines_of_nets}
+use Rattle.archive_restore.specs.Writing.{AsksSome, blank_state}
+use Rattle.record_model.specs.State.{Write}
+use Rattle.record_model.specs.Run.{Line}
+use Rattle.engine.specs.Listings.{QueueIsOnFlash}
+use Rattle.engine.specs.SeenVersions.{WhereItFits}
+use Rattle.archive_restore.proofs.Carried.{carried_all, carried_earlier, carried_quiet, carried_stands, carried_whole}
 use Rattle.archive_restore.proofs.Starts.{cause_since, one_geometry}
 use Rattle.archive_restore.proofs.Taken.{asks_since, asks_still}
 
@@ -52,9 +57,9 @@ lines_since : (a b : Site) (lines : List (List ℕ)) → IsUnchanged a b → lin
 lines_since a b lines same is = ap (λ (x : Input). lines_of true x.left) (sym same.left) ∙ is
 
 -- it ends before its last commit
-pub outcome_stopped : {T : Type 0} (count : ℕ) (g : Geometry) (old tested new : Site) (lines behind : List (List ℕ)) (s : Stream) (f : Fault) → IsUnchanged old tested → Preserves old tested → Accepted g.pages lines (blank_stream g.pages) s → lines_of true tested.input.left ≡ lines ++ behind
-    → AsksFor (HasFewCommits g.pages count) tested new → StopsRestoring g lines behind s count tested new f → RestoreOutcome {T = T} count g old new (Err f)
-outcome_stopped count g old tested new lines behind s f same goes accepted all asks stops = record {
+pub outcome_stopped : {T : Type 0} (count pool : ℕ) (g : Geometry) (old tested new : Site) (lines behind : List (List ℕ)) (s : Stream) (f : Fault) → IsUnchanged old tested → ReadsOnce old tested → Preserves old tested → Accepted g.pages lines (blank_stream g.pages) s → lines_of true tested.input.left ≡ lines ++ behind
+    → AsksFor (HasFewCommits g.pages count) tested new → StopsAsking pool g lines behind s count tested new f → RestoreOutcome {T = T} count pool g old new (Err f)
+outcome_stopped count pool g old tested new lines behind s f same read goes accepted all asks stops = record {
   lines = lines;
   behind = behind;
   s = s;
@@ -69,15 +74,49 @@ outcome_stopped count g old tested new lines behind s f same goes accepted all a
   near = stops.near;
   stops = (ends_since f g lines behind s stops.begun old tested new (λ h. same) goes stops.ends, λ is. (stops.less is, stops.between is), stops.quiet);
   done = tt;
+  asks_early = inr (record { tested = tested; same = same; read = read; holds = stops.asks });
+  asks_all = tt;
 }
 
+none_taken : (n : ℕ) → take {A = List Write} n [] ≡ []
+none_taken zero = refl
+none_taken (suc n) = refl
+
 -- so it ends before a line was heard
-pub outcome_never : {T : Type 0} (count : ℕ) (g : Geometry) (old new : Site) (f : Fault) → new.input ≡ old.input → StopsRestoring g [] (lines_of true old.input.left) (blank_stream g.pages) count old new f → RestoreOutcome {T = T} count g old new (Err f)
-outcome_never count g old new f left stops = outcome_stopped count g old old new [] (lines_of true old.input.left) (blank_stream g.pages) f (unchanged old) (goes_nowhere old) refl refl (asks_none (HasFewCommits g.pages count) old new left) stops
+pub outcome_never : {T : Type 0} (count pool : ℕ) (g : Geometry) (old new : Site) (f : Fault) → new.input ≡ old.input → NeverRestores pool g (lines_of true old.input.left) count old new f → RestoreOutcome {T = T} count pool g old new (Err f)
+outcome_never count pool g old new f left never =
+    let s = blank_stream g.pages in
+    let stops = never.stops in
+    let lines : (n : ℕ) → lines_of_nets (blank_state g) (take n s.nets) ≡ [] = (λ n. ap (lines_of_nets (blank_state g)) (none_taken n)) in
+    record {
+      lines = [];
+      behind = lines_of true old.input.left;
+      s = s;
+      heard = record { all = refl; accepted = refl };
+      begun = stops.begun;
+      few = stops.few;
+      most = stops.most;
+      fit = stops.fit;
+      moments = stops.moments;
+      told = stops.told;
+      asks = asks_none (HasFewCommits g.pages count) old new left;
+      near = stops.near;
+      stops = (stops.ends, λ is. (stops.less is, stops.between is), stops.quiet);
+      done = tt;
+      asks_early = ⊎_elim (λ untouched. inl untouched)
+          (λ begins. inr (record {
+            tested = begins.tested;
+            same = begins.same;
+            read = begins.read;
+            holds = subst (λ n. AsksSome pool g n (lines_of_nets (blank_state g) (take stops.begun s.nets)) begins.tested new (halt_in f)) (sym (ap (λ (l : List Line). length l) (lines (stops.begun - 1))))
+                (subst (λ (l : List Line). AsksSome pool g 0 l begins.tested new (halt_in f)) (sym (lines stops.begun)) begins.holds);
+          })) never.asks;
+      asks_all = tt;
+    }
 
 -- all commits are written
-pub outcome_done : {T : Type 0} (count pool : ℕ) (g : Geometry) (old mid new : Site) (r r' : Restoring) (number : ℕ) (u : IsUnderWay pool count g old mid r number) → HasWritten pool g u.s u.tested new r' → r'.written ≡ count → new.input ≡ mid.input → (x : T) → RestoreOutcome {T = T} count g old new (Ok x)
-outcome_done count pool g old mid new r r' number u h all input x =
+pub outcome_done : {T : Type 0} (count pool : ℕ) (g : Geometry) (old mid new : Site) (r r' : Restoring) (number : ℕ) (u : IsUnderWay pool count g old mid r number) → HasWritten pool g u.s u.tested new r' → r'.written ≡ count → new.input ≡ mid.input → QueueIsOnFlash → WhereItFits → (x : T) → RestoreOutcome {T = T} count pool g old new (Ok x)
+outcome_done count pool g old mid new r r' number u h all input queue seen x =
     let lines = u.lines in
     let behind = lines_of true (to_hear r.source mid) in
     record {
@@ -95,6 +134,17 @@ outcome_done count pool g old mid new r r' number u h all input x =
       near = λ snapshot left. (r'.written, omega arith, omega arith, subst (λ (x : Image). StandsAfter g u.s r'.written x) (sym (image_is (now_of new) snapshot (carried_quiet pool g u.tested new r'.engine _ _ h.carried) left)) (carried_stands pool g u.tested new r'.engine _ _ h.carried));
       stops = tt;
       done = (all, subst (λ n. StandsAfter g u.s n new.image) all (carried_stands pool g u.tested new r'.engine _ _ h.carried), carried_quiet pool g u.tested new r'.engine _ _ h.carried);
+      asks_early = tt;
+      asks_all = record {
+        tested = u.tested;
+        same = u.same;
+        read = u.read;
+        holds = record {
+          demands = carried_all pool g u.tested new r'.engine _ _ h.carried queue seen;
+          earlier = carried_earlier pool g u.tested new r'.engine _ _ h.carried;
+          all = carried_whole pool g u.tested new r'.engine _ _ h.carried;
+        };
+      };
     }
 
 -- no more lines are heard than octets were taken

@@ -1,5 +1,5 @@
 -- The lines that write a net are carried out.
-use Rattle.std.proofs.Common.{◌≡◌, ◌⊎◌, inl, inr, ⊎_elim, ℕ, zero, suc, ◌+◌, ◌-◌, ◌*◌, ◌<◌, ◌≤◌, Bool, true, false, List, [], ◌∷◌, ◌++◌, length, map, take, refl, sym, ◌∙◌, ap, subst, arith, append_assoc, append-nil, Ok, Err, Result, Some, None}
+use Rattle.std.proofs.Common.{◌≡◌, ◌⊎◌, inl, inr, ⊎_elim, ℕ, zero, suc, ◌+◌, ◌-◌, ◌*◌, ◌<◌, ◌≤◌, Bool, true, false, List, [], ◌∷◌, ◌++◌, length, map, take, drop, refl, sym, ◌∙◌, ap, subst, arith, append_assoc, append-nil, Ok, Err, Result, Some, None}
 use Rattle.std.proofs.lemmas.Bool.{ltb-false}
 use Rattle.std.specs.Prelude.{IfErr, nat_lt, slice_index_or, if◌then◌else◌}
 use Rattle.site.specs.State.{State as Site, Snapshot, Image, now_of}
@@ -21,8 +21,8 @@ use Rattle.engine.specs.Leaves.{LeavesEither}
 use Rattle.front_end.specs.declared.halt.Halt.{Halt}
 use Rattle.face.specs.Carrying.{CarriesUntold}
 use Rattle.face.specs.Run.{StandsFor, step}
-use Rattle.archive_restore.specs.Writing.{FailsToWrite, HasCarried, HasFreed, HasWrittenNet, IsFree, LeavesNet}
-use Rattle.archive_restore.proofs.Carried.{carried_leaves, carried_next, carried_quiet, carried_stands, failed_quiet}
+use Rattle.archive_restore.specs.Writing.{AsksSome, FailsToWrite, HasCarried, HasFreed, HasWrittenNet, IsFree, LeavesNet}
+use Rattle.archive_restore.proofs.Carried.{carried_asks, carried_leaves, carried_next, carried_quiet, carried_stands, failed_quiet}
 
 -- the lines of a session don't quit
 writes_on : (number : ℕ) (content : Content) (c : Command) → Some c ≡ line_writing number content → is_quit (Some c) ≡ false
@@ -49,6 +49,16 @@ take_line (x ∷ lines) zero c is = ap (λ (l : Line). l ∷ []) (sym is)
 take_line (x ∷ lines) (suc i) c is =
     let more : suc i + 1 ≡ suc (i + 1) = omega arith in
     ap (λ n. take n (x ∷ lines)) more ∙ ap (λ (l : List Line). x ∷ l) (take_line lines i c is)
+
+-- it stands between those before it and those behind it
+split_line : (lines : List Line) (i : ℕ) (c : Command) → Some c ≡ slice_index_or lines i None → lines ≡ take i lines ++ Some c ∷ drop (suc i) lines
+split_line [] i c is = let bad : Some c ≡ None = is in cc
+split_line (x ∷ lines) zero c is = ap (λ (l : Line). l ∷ lines) (sym is)
+split_line (x ∷ lines) (suc i) c is = ap (λ (l : List Line). x ∷ l) (split_line lines i c is)
+
+-- fewer lines at least
+asks_weaker : (pool : ℕ) (g : Geometry) (least most : ℕ) (lines : List Line) (entry new : Site) (halt : Halt) → least ≤ most → AsksSome pool g most lines entry new halt → AsksSome pool g least lines entry new halt
+asks_weaker pool g least most lines entry new halt less a = record { begun = a.begun; enough = (let enough = a.enough in omega (arith, less, enough)); few = a.few; earlier = a.earlier; demands = a.demands }
 
 -- So many lines of the session were carried out.
 pub record HasComeTo (pool : ℕ) (g : Geometry) (entry old now : Site) (engine : Engine) (lines : List Line) (table : List Content) (commits made kept cap : ℕ) (net : List Write) (place : ℕ) : Type 0 where
@@ -111,8 +121,17 @@ module _ (pool : ℕ) (g : Geometry) (entry : Site) (lines : List Line) (table :
           told_after : new.told ≡ old.told
           told_after = (holds_now mid new (LeavesEither g h.s after mid.told) (carried_leaves pool g entry mid engine _ h.s h.carried c engine' new (Ok reply) done)).told ∙ h.told
 
-      pub come_fails : (halt : Halt) → CarriesUntold (Err halt) (Some c) engine engine' mid new → FailsToWrite g table commits net old new halt
-      come_fails halt done = record { moments = leaves (Err halt) done; quiet = failed_quiet pool g entry mid engine _ h.s h.carried c engine' new halt done }
+      pub come_fails : (halt : Halt) → CarriesUntold (Err halt) (Some c) engine engine' mid new → FailsToWrite pool g entry (length lines) (lines ++ session_lines net) table commits net old new halt
+      come_fails halt done =
+          let all = session_lines net in
+          let rest = drop (suc place) all in
+          let long = length-append lines (take place all) in
+          record {
+            asks = subst (λ (l : List Line). AsksSome pool g (length lines) l entry new halt) (append_assoc lines (take place all) (Some c ∷ rest) ∙ ap (λ (l : List Line). lines ++ l) (sym (split_line all place c is)))
+                (carried_asks pool g entry mid engine (lines ++ take place all) h.s h.carried c engine' new rest halt (length lines) done (omega (arith, long)));
+            moments = leaves (Err halt) done;
+            quiet = failed_quiet pool g entry mid engine _ h.s h.carried c engine' new halt done;
+          }
 
     -- all of them
     pub come_to_end : (old now : Site) (engine : Engine) (place : ℕ) → HasComeTo pool g entry old now engine lines table commits made kept cap net place → place ≡ length net + 2 → HasWrittenNet pool g entry old now engine (lines ++ session_lines net) table commits cap net
@@ -170,8 +189,13 @@ module _ (pool : ℕ) (g : Geometry) (entry old : Site) (engine : Engine) (lines
           moments = leaves_weaker old new leaves_both (LeavesNet g table commits net old.told) both (carried_leaves pool g entry old engine lines _ c command.Checkpoint engine' new (Ok reply) done);
         }
 
-    pub frees_not : (halt : Halt) → CarriesUntold (Err halt) (Some command.Checkpoint) engine engine' old new → FailsToWrite g table commits net old new halt
-    frees_not halt done = record {
+    pub frees_not : tight cap used_is net ≡ true → (halt : Halt) → CarriesUntold (Err halt) (Some command.Checkpoint) engine engine' old new → FailsToWrite pool g entry (length lines) (lines ++ net_lines (idle table commits made kept cap) net) table commits net old new halt
+    frees_not full halt done = record {
+      asks =
+          let wants : tight cap (made - kept) net ≡ true = ap (λ n. tight cap n net) (sym same) ∙ full in
+          let are : net_lines (idle table commits made kept cap) net ≡ Some command.Checkpoint ∷ session_lines net = ap (λ (b : Bool). if b then Some command.Checkpoint ∷ session_lines net else session_lines net) wants in
+          subst (λ (l : List Line). AsksSome pool g (length lines) (lines ++ l) entry new halt) (sym are)
+          (carried_asks pool g entry old engine lines _ c command.Checkpoint engine' new (session_lines net) halt (length lines) done (omega arith));
       moments = leaves_weaker old new leaves_both (LeavesNet g table commits net old.told) both (carried_leaves pool g entry old engine lines _ c command.Checkpoint engine' new (Err halt) done);
       quiet = failed_quiet pool g entry old engine lines _ c command.Checkpoint engine' new halt done;
     }
@@ -197,5 +221,13 @@ module _ (pool : ℕ) (g : Geometry) (entry old mid : Site) (engine : Engine) (l
     moments = moments_then new w.moments;
   }
 
-  pub session_fails : (new : Site) (halt : Halt) → FailsToWrite g table commits net mid new halt → FailsToWrite g table commits net old new halt
-  session_fails new halt w = record { moments = moments_then new w.moments; quiet = w.quiet }
+  pub session_fails : (new : Site) (halt : Halt) → FailsToWrite pool g entry (length (lines ++ first_of (tight cap (made - kept) net))) ((lines ++ first_of (tight cap (made - kept) net)) ++ session_lines net) table commits net mid new halt
+      → FailsToWrite pool g entry (length lines) (lines ++ net_lines (idle table commits made kept cap) net) table commits net old new halt
+  session_fails new halt w =
+      let front = first_of (tight cap (made - kept) net) in
+      let long = length-append lines front in
+      record {
+        asks = subst (λ (l : List Line). AsksSome pool g (length lines) l entry new halt) (lines_then (tight cap (made - kept) net)) (asks_weaker pool g (length lines) (length (lines ++ front)) ((lines ++ front) ++ session_lines net) entry new halt (omega (arith, long)) w.asks);
+        moments = moments_then new w.moments;
+        quiet = w.quiet;
+      }

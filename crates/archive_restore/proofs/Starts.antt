@@ -1,5 +1,5 @@
 -- A restore begins: the devices are blank.
-use Rattle.std.proofs.Common.{◌≡◌, ◌≢◌, inl, ℕ, zero, suc, ◌+◌, ◌*◌, ◌-◌, ◌<◌, max, List, [], ◌∷◌, ◌++◌, length, take, drop, None, true, false, true≢false, refl, sym, ◌∙◌, ap, subst, arith, IsTrue}
+use Rattle.std.proofs.Common.{◌≡◌, ◌≢◌, inl, inr, ℕ, zero, suc, ◌*◌, ◌-◌, ◌<◌, max, List, [], ◌∷◌, ◌++◌, length, take, drop, None, true, false, true≢false, refl, sym, ◌∙◌, ap, subst, arith, IsTrue}
 use Rattle.std.specs.Prelude.{replicate, slice_index_or}
 use Rattle.std.proofs.lemmas.List.{length-replicate}
 use Rattle.site.specs.State.{State as Site, Image, Input, Snapshot, MayLeave, now_of, no_loose}
@@ -24,11 +24,14 @@ use Rattle.net_lines.specs.Nets.{AreLengths, while_writing}
 use Rattle.engine.specs.Image.{Opens, Stands}
 use Rattle.site.specs.Telling.{TellsPart}
 use Rattle.engine.specs.Leaves.{LeavesTable}
-use Rattle.front_end.specs.New.{IsBlank}
+use Rattle.front_end.specs.New.{IsBlank, IsNotBlank, ReadsOnce}
+use Rattle.front_end.specs.declared.new_database.Unfit.{Unfit}
+use Rattle.front_end.specs.declared.new_database.Unfit.TheVariants as unfit
 use Rattle.face.specs.Image.{BlankLaw, blank_table}
 use Rattle.archive_restore.specs.declared.fault.Fault.{Fault}
+use Rattle.archive_restore.specs.declared.fault.Fault.TheVariants as fault
 use Rattle.archive_restore.specs.declared.restoring.Restoring.{Restoring}
-use Rattle.archive_restore.specs.Progress.{EndsEarly, HasFit, HasHeard, HasWritten, StopsRestoring}
+use Rattle.archive_restore.specs.Progress.{EndsEarly, HasFit, HasHeard, HasWritten, IsUntouched, NeverRestores, StopsRestoring}
 use Rattle.archive_restore.specs.Restores.{EndsBy, IsBetween, IsLeft, IsTarget, StandsAfter}
 use Rattle.archive_restore.specs.Texts.{fault_status}
 use Rattle.archive_restore.specs.Writing.{blank_state}
@@ -98,6 +101,16 @@ module _ (law : BlankLaw) (g : Geometry) (old new : Site) (s : Stream) (t : IsTa
     between = λ is. stands_still;
     quiet = λ ne. quiet_still;
   }
+
+-- the test ends it
+pub untouched_unfit : (u : Unfit) (old new : Site) → IsNotBlank u old new → IsUnchanged old new → ReadsOnce old new → IsUntouched old new (fault.Unfit u)
+untouched_unfit unfit.Foreign old new is same read = absurd is
+untouched_unfit (unfit.Failed dev) old new is same read = record { early = inl refl; same = same; read = read }
+untouched_unfit (unfit.NotBlank dev place) old new is same read = record { early = inr (inr refl); same = same; read = read }
+
+-- or want of memory
+pub never_remembers : (pool : ℕ) (g : Geometry) (old new : Site) (behind : List (List ℕ)) (count : ℕ) → StopsRestoring g [] behind (blank_stream g.pages) count old new (fault.Halt (halt.Stop Memory)) → IsUnchanged old new → ReadsOnce old new → NeverRestores pool g behind count old new (fault.Halt (halt.Stop Memory))
+never_remembers pool g old new behind count stops same read = record { stops = stops; asks = inl (record { early = inr (inl refl); same = same; read = read }) }
 
 -- no record has a value
 none_there : (n i : ℕ) → content_at (replicate n None) i ≡ None

@@ -28,12 +28,12 @@ use Rattle.stream_lines.specs.Lines.{IsSource, to_hear}
 use Rattle.stream_lines.specs.declared.source.Source.{Source}
 use Rattle.archive_restore.specs.declared.fault.Fault.TheVariants as fault
 use Rattle.archive_restore.specs.declared.restoring.Restoring.{Restoring}
-use Rattle.archive_restore.specs.Progress.{EndsEarly, EndsOnSite, GoesOnRestoring, HasFit, HasWritten, IsPopped, StopsRestoring}
+use Rattle.archive_restore.specs.Progress.{EndsEarly, EndsOnSite, GoesOnRestoring, HasFit, HasWritten, IsPopped, AsksForNets, StopsAsking}
 use Rattle.archive_restore.specs.Restores.{EndsBy, FitsAt, HasFaultCause, HaveFit, IsBetween, IsHeard, StandsAfter, StandsNear, lines_of_nets, net_at}
-use Rattle.archive_restore.specs.Writing.{FailsToWrite, HasCarried, HasWrittenNet, LeavesNet, blank_state}
-use Rattle.archive_restore.proofs.Carried.{carried_quiet, carried_stands}
+use Rattle.archive_restore.specs.Writing.{AsksSome, FailsToWrite, HasCarried, HasWrittenNet, LeavesNet, blank_state}
+use Rattle.archive_restore.proofs.Carried.{carried_quiet, carried_so_far, carried_stands}
 use Rattle.archive_restore.proofs.Stills.{heard_still}
-use Rattle.archive_restore.proofs.Nets.{lines_push, moments_more, one_more_there, split_there, table_there, take_there}
+use Rattle.archive_restore.proofs.Nets.{lines_push, lines_rise, moments_more, one_more_there, split_there, table_there, take_there}
 
 at_place : (front : List (List Write)) (x : List Write) (rest : List (List Write)) (k : ℕ) → length front ≡ k → slice_index_or (front ++ x ∷ rest) k [] ≡ x
 at_place [] x rest zero is = refl
@@ -240,52 +240,70 @@ module _ (pool : ℕ) (g : Geometry) (s : Stream) (entry mid : Site) (before r :
   quiet_now : mid.loose ≡ no_loose
   quiet_now = carried_quiet pool g entry mid before.engine first _ h.carried
 
+  lines_are : first ++ net_lines (idle here k h.made h.kept r.cap) net ≡ lines_of_nets (blank_state g) (take (k + 1) s.nets)
+  lines_are =
+      ap (λ n. first ++ net_lines (idle here k h.made h.kept n) net) caps
+      ∙ ap (λ (t : State). first ++ net_lines t net) (sym h.carried.state)
+      ∙ sym (ap (lines_of_nets (blank_state g)) (take_is g s before r net h.archived p) ∙ lines_push (blank_state g) (take k s.nets) net)
+
   -- the database has no room for it
-  pub stops_full : (lines behind : List (List ℕ)) (count : ℕ) → r.written < count → (Fits r.cap here net → ⊥) → StopsRestoring g lines behind s count entry mid fault.Full
+  pub stops_full : (lines behind : List (List ℕ)) (count : ℕ) → r.written < count → (Fits r.cap here net → ⊥) → StopsAsking pool g lines behind s count entry mid fault.Full
   stops_full lines behind count less full =
       let written = p.written in
       let more = one_more g s before r net h.archived p in
       record {
-        early = record {
-          begun = k;
-          few = h.few;
-          most = omega (arith, less, written);
-          ends = (omega (arith, more), λ fits. full (fits_back g s before r net h.archived p fits));
-          fit = h.fit;
-          less = λ is. omega (arith, less, written);
+        stops = record {
+          early = record {
+            begun = k;
+            few = h.few;
+            most = omega (arith, less, written);
+            ends = (omega (arith, more), λ fits. full (fits_back g s before r net h.archived p fits));
+            fit = h.fit;
+            less = λ is. omega (arith, less, written);
+          };
+          told = h.told;
+          moments = h.moments;
+          near = λ snapshot left. (k, omega arith, omega arith, subst (λ (x : Image). StandsAfter g s k x) (sym (image_is (now_of mid) snapshot quiet_now left)) stands_now);
+          between = λ is. stands_now;
+          quiet = λ ne. quiet_now;
         };
-        told = h.told;
-        moments = h.moments;
-        near = λ snapshot left. (k, omega arith, omega arith, subst (λ (x : Image). StandsAfter g s k x) (sym (image_is (now_of mid) snapshot quiet_now left)) stands_now);
-        between = λ is. stands_now;
-        quiet = λ ne. quiet_now;
+        asks = carried_so_far pool g entry mid before.engine first _ h.carried halt.Output (length (lines_of_nets (blank_state g) (take (k - 1) s.nets))) (λ dev e. cc) (lines_rise (blank_state g) s.nets k);
       }
 
   -- Its lines were begun.
   module _ (fits : Fits r.cap here net) (new : Site) where
     -- they fail
-    pub stops_halted : (lines behind : List (List ℕ)) (count : ℕ) (x : Halt) → r.written < count → (x ≢ halt.Input) × (x ≢ halt.Limit) → HasCause x entry new → FailsToWrite g here k net mid new x → StopsRestoring g lines behind s count entry new (fault.Halt x)
+    pub stops_halted : (lines behind : List (List ℕ)) (count : ℕ) (x : Halt) → r.written < count → (x ≢ halt.Input) × (x ≢ halt.Limit) → HasCause x entry new → FailsToWrite pool g entry (length first) (first ++ net_lines (idle here k h.made h.kept r.cap) net) here k net mid new x → StopsAsking pool g lines behind s count entry new (fault.Halt x)
     stops_halted lines behind count x less ne cause f =
         let written = p.written in
         let now = holds_now mid new (LeavesNet g here k net mid.told) f.moments in
         record {
-          early = record {
-            begun = k + 1;
-            few = one_more g s before r net h.archived p;
-            most = omega (arith, less, written);
-            ends = ends_halt x g lines behind s (k + 1) entry new ne cause;
-            fit = fit_more g s before r net h.archived p fits;
-            less = λ is. not_between x ne is;
+          stops = record {
+            early = record {
+              begun = k + 1;
+              few = one_more g s before r net h.archived p;
+              most = omega (arith, less, written);
+              ends = ends_halt x g lines behind s (k + 1) entry new ne cause;
+              fit = fit_more g s before r net h.archived p fits;
+              less = λ is. not_between x ne is;
+            };
+            told = now.told ∙ h.told;
+            moments = moments_more g s entry.told k net entry mid new more_is h.told h.moments f.moments;
+            near = λ snapshot left. near_of snapshot (f.moments.now snapshot left);
+            between = λ is. not_between x ne is;
+            quiet = λ other. f.quiet other;
           };
-          told = now.told ∙ h.told;
-          moments = moments_more g s entry.told k net entry mid new more_is h.told h.moments f.moments;
-          near = λ snapshot left. near_of snapshot (f.moments.now snapshot left);
-          between = λ is. not_between x ne is;
-          quiet = λ other. f.quiet other;
+          asks = asks_here;
         }
       where
         near_of : (snapshot : Snapshot) → LeavesNet g here k net mid.told snapshot → StandsNear g s (k + 1) snapshot.image
         near_of snapshot l = ⊎_elim (λ stands. (k, omega arith, omega arith, stands)) (λ stands. (k + 1, omega arith, omega arith, subst (λ (t : List Content). Stands g snapshot.image t (k + 1)) (sym more_is) stands)) l.stands
+
+        asks_here : AsksForNets pool g s (k + 1) entry new x
+        asks_here =
+            let back : k + 1 - 1 ≡ k = omega arith in
+            subst (λ n. AsksSome pool g (length (lines_of_nets (blank_state g) (take n s.nets))) (lines_of_nets (blank_state g) (take (k + 1) s.nets)) entry new x) (sym back)
+            (subst (λ (l : List Line). AsksSome pool g (length first) l entry new x) lines_are f.asks)
 
     -- or they are written
     pub written_more : (engine : Engine) (room : List ℕ) → AreLengths (while_writing (table_with here net) []) room → HasWrittenNet pool g entry mid new engine (first ++ net_lines (idle here k h.made h.kept r.cap) net) here k r.cap net
@@ -302,12 +320,6 @@ module _ (pool : ℕ) (g : Geometry) (s : Stream) (entry mid : Site) (before r :
           moments = moments_more g s entry.told k net entry mid new more_is h.told h.moments w.moments;
         })
       where
-        lines_are : first ++ net_lines (idle here k h.made h.kept r.cap) net ≡ lines_of_nets (blank_state g) (take (k + 1) s.nets)
-        lines_are =
-            ap (λ n. first ++ net_lines (idle here k h.made h.kept n) net) caps
-            ∙ ap (λ (t : State). first ++ net_lines t net) (sym h.carried.state)
-            ∙ sym (ap (lines_of_nets (blank_state g)) (take_is g s before r net h.archived p) ∙ lines_push (blank_state g) (take k s.nets) net)
-
         carried_more : (engine : Engine) (w : HasWrittenNet pool g entry mid new engine (first ++ net_lines (idle here k h.made h.kept r.cap) net) here k r.cap net)
             → HasCarried pool g entry new engine (lines_of_nets (blank_state g) (take (k + 1) s.nets)) (idle (archive_table (blank_table g) s.nets (k + 1)) (k + 1) w.made w.kept (g.blocks - 1))
         carried_more engine w =

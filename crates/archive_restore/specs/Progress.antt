@@ -1,5 +1,6 @@
 -- A restore under way.
-use Rattle.std.specs.Prelude.{◌≡◌, ◌≢◌, ℕ, ◌+◌, ◌-◌, ◌*◌, ◌≤◌, ◌<◌, List, [], ◌∷◌, ◌++◌, length, take, true, IsTrue}
+use Rattle.std.specs.Prelude.{◌≡◌, ◌≢◌, ◌⊎◌, ℕ, ◌+◌, ◌-◌, ◌*◌, ◌≤◌, ◌<◌, List, [], ◌∷◌, ◌++◌, length, take, true}
+use Rattle.std.specs.Prelude.{IsTrue}
 use Rattle.site.specs.State.{State as Site, Snapshot, MayLeave, now_of, no_loose}
 use Rattle.site.specs.declared.geometry.Geometry.{Geometry}
 use Rattle.site.specs.Calls.{IsUnchanged, Preserves}
@@ -7,19 +8,25 @@ use Rattle.site.specs.Geometry.{HasLimits, HasLengths}
 use Rattle.site.specs.Moments.{LeavesOnly}
 use Rattle.shell_text.specs.Runs.{lines_of}
 use Rattle.record_model.specs.State.{Write}
+use Rattle.record_model.specs.Run.{Line}
 use Rattle.log_archive.specs.Accepted.{Accepted, Stream, archive_table, blank_stream}
 use Rattle.log_replay.specs.Stands.{StandsFor}
 use Rattle.net_lines.specs.Nets.{AreLengths, idle, while_writing}
 use Rattle.stream_lines.specs.Lines.{AsksFor, HasCut, HasEnded, IsSource, pending, to_hear, total}
 use Rattle.engine.specs.Image.{Stands}
+use Rattle.front_end.specs.New.{ReadsOnce}
+use Rattle.front_end.specs.declared.halt.Halt.{Halt}
+use Rattle.front_end.specs.declared.halt.Halt.TheVariants as halt
 use Rattle.face.specs.Image.{blank_table}
 use Rattle.face.specs.RunInProgress.{GoesOn}
-use Rattle.archive_restore.specs.Restores.{EndsBy, HasFaultCause, HasFewCommits, HaveFit, IsBetween, IsHeard, IsLeft}
+use Rattle.archive_restore.specs.Restores.{EndsBy, HasFaultCause, HasFewCommits, HasTested, HaveFit, IsBetween}
+use Rattle.archive_restore.specs.Restores.{IsHeard, IsLeft}
 use Rattle.archive_restore.specs.Restores.{StandsAfter, StandsNear}
 use Rattle.archive_restore.specs.Restores.{lines_of_nets}
-use Rattle.archive_restore.specs.Writing.{HasCarried, blank_state}
+use Rattle.archive_restore.specs.Writing.{AsksSome, HasCarried, blank_state}
 use Rattle.archive_restore.specs.Texts.{fault_status}
 use Rattle.archive_restore.specs.declared.fault.Fault.{Fault}
+use Rattle.archive_restore.specs.declared.fault.Fault.TheVariants as fault
 use Rattle.archive_restore.specs.declared.restoring.Restoring.{Restoring}
 
 -- So many commits of a stream had room in a database of these sizes, and the room that is left is known.
@@ -112,10 +119,47 @@ pub record StopsRestoring (g : Geometry) (lines behind : List (List ℕ)) (s : S
   pub between : IsBetween f → StandsAfter g s begun now.image
   pub quiet : fault_status f ≢ 3 → now.loose ≡ no_loose
 
+-- the halt of the run that its lines make; where that isn't what it ends by, one that no ring has caused
+abbrev pub halt_in : Fault → Halt
+halt_in (fault.Halt h) = h
+halt_in (fault.Unfit unfit) = halt.Output
+halt_in (fault.Stream number) = halt.Output
+halt_in (fault.Short commits) = halt.Output
+halt_in fault.Full = halt.Output
+
+-- the lines that write the nets of so many commits into a database that was never written
+abbrev pub nets_lines : Geometry → Stream → ℕ → List Line
+nets_lines g s begun = lines_of_nets (blank_state g) (take begun s.nets)
+
+-- what they ask of which some were begun, all those of the commits before the last
+abbrev pub AsksForNets : ℕ → Geometry → Stream → ℕ → Site → Site → Halt → Type 0
+AsksForNets pool g s begun entry now halt =
+    AsksSome pool g (length (nets_lines g s (begun - 1))) (nets_lines g s begun) entry now halt
+
+-- and what they ask by then
+pub record StopsAsking (pool : ℕ) (g : Geometry) (lines behind : List (List ℕ)) (s : Stream) (count : ℕ)
+    (entry now : Site) (f : Fault) : Type 0 where
+  pub stops : StopsRestoring g lines behind s count entry now f
+  pub open stops use *
+  pub asks : AsksForNets pool g s begun entry now (halt_in f)
+
+-- the devices were only read, once
+pub record IsUntouched (old new : Site) (f : Fault) : Type 0 where
+  pub early : (fault_status f ≡ 3) ⊎ ((fault_status f ≡ 4) ⊎ (fault_status f ≡ 10))
+  pub same : IsUnchanged old new
+  pub read : ReadsOnce old new
+
+-- it ends before the first line: they were only read, or tested so, and then the restart failed
+pub record NeverRestores (pool : ℕ) (g : Geometry) (behind : List (List ℕ)) (count : ℕ) (old new : Site) (f : Fault)
+    : Type 0 where
+  pub stops : StopsRestoring g [] behind (blank_stream g.pages) count old new f
+  pub asks : IsUntouched old new f ⊎ HasTested old (λ tested. AsksSome pool g 0 [] tested new (halt_in f))
+
 -- A restore under way over a target: these lines were heard, and nets of their stream are written.
 pub record IsUnderWay (pool count : ℕ) (g : Geometry) (old now : Site) (r : Restoring) (number : ℕ) : Type 0 where
   pub tested : Site
   pub same : IsUnchanged old tested
+  pub read : ReadsOnce old tested
   pub kept : Preserves old tested
   pub lines : List (List ℕ)
   pub s : Stream

@@ -2,6 +2,7 @@
 use Rattle.std.specs.Prelude.{◌≡◌, ◌⊎◌, ℕ, ◌+◌, ◌-◌, ◌≤◌, ◌<◌, List, [], ◌∷◌, ◌++◌, length, slice_index_or}
 use Rattle.std.specs.Prelude.{take, true, IsTrue}
 use Rattle.site.specs.State.{State as Site, Image, Snapshot, no_loose}
+use Rattle.site.specs.Calls.{IsUnchanged}
 use Rattle.site.specs.Moments.{LeavesOnly}
 use Rattle.site.specs.declared.geometry.Geometry.{Geometry}
 use Rattle.site.specs.declared.outside.Stop.TheVariants.{Foreign}
@@ -13,7 +14,7 @@ use Rattle.log_archive.specs.Accepted.{Accepted, AfterLine, Stream, archive_tabl
 use Rattle.net_lines.specs.Nets.{Fits, net_lines}
 use Rattle.engine.specs.Image.{Stands}
 use Rattle.engine.specs.Leaves.{HasNoSizes}
-use Rattle.front_end.specs.New.{IsBlank, IsNotBlank}
+use Rattle.front_end.specs.New.{IsBlank, IsNotBlank, ReadsOnce}
 use Rattle.front_end.specs.declared.halt.Halt.TheVariants as halt
 use Rattle.face.specs.Causes.{HasCause}
 use Rattle.face.specs.Image.{blank_table}
@@ -65,6 +66,13 @@ pub record HasSealed (g : Geometry) (s : Stream) (k : ℕ) (old new : Site) : Ty
   pub stands : StandsAfter g s k new.image
   pub behind : LeavesOnly old new (TellsBehind g s k old.told)
 
+-- The devices were tested, each read once and nothing of them changed, and then this holds.
+pub record HasTested (old : Site) (P : Site → Type 0) : Type 0 where
+  pub tested : Site
+  pub same : IsUnchanged old tested
+  pub read : ReadsOnce old tested
+  pub holds : P tested
+
 -- the net of a commit
 abbrev pub net_at : Stream → ℕ → List Write
 net_at s k = slice_index_or s.nets k []
@@ -112,7 +120,7 @@ IsBetween (fault.Halt halt.Limit) = Unit {0}
 IsBetween (fault.Halt h) = ⊥
 IsBetween (fault.Unfit unfit) = ⊥
 
--- These lines are an archive with fewer commits than that. Input is asked for behind no others: none is taken behind the
--- last commit, or behind a line that isn't accepted.
+-- These lines are an archive with fewer commits. Input is asked for behind no others: none is taken behind the last
+-- commit, or behind a line that isn't accepted.
 abbrev pub HasFewCommits : ℕ → ℕ → List (List ℕ) → Type 0
 HasFewCommits pages count lines = (s : Stream) × Accepted pages lines (blank_stream pages) s × (length s.nets < count)

@@ -7,14 +7,16 @@ use Rattle.site.specs.Moments.{LeavesOnly}
 use Rattle.record_model.specs.State.{Content, State, Write, opened, table_with}
 use Rattle.record_model.specs.Run.{Line, is_quit}
 use Rattle.record_model.specs.declared.words.Command.TheVariants.{Checkpoint}
-use Rattle.std.specs.Prelude.{Some}
+use Rattle.std.specs.Prelude.{Some, Err, ⊤}
 use Rattle.net_lines.specs.Nets.{AreWritable, HasPageRoom, idle, tight}
 use Rattle.engine.specs.declared.engine.Engine.{Engine}
 use Rattle.engine.specs.Image.{Stands}
 use Rattle.front_end.specs.declared.halt.Halt.{Halt}
 use Rattle.front_end.specs.Texts.{status_of}
 use Rattle.face.specs.Image.{blank_table}
-use Rattle.face.specs.Run.{Run, after_lines}
+use Rattle.face.specs.Run.{Run, after_lines, first_lines}
+use Rattle.face.specs.Working.{Demands}
+use Rattle.face.specs.Worn.{WearsNoneBefore}
 use Rattle.face.specs.RunInProgress.{HasServed}
 
 -- the database that was never written
@@ -62,8 +64,18 @@ pub record HasWrittenNet (pool : ℕ) (g : Geometry) (entry old now : Site) (eng
   pub carried : HasCarried pool g entry now engine lines (idle (table_with table net) (commits + 1) made kept cap)
   pub moments : LeavesOnly old now (LeavesNet g table commits net old.told)
 
--- or it fails: a crash leaves it whole or nothing of it
-pub record FailsToWrite (g : Geometry) (table : List Content) (commits : ℕ) (net : List Write) (old new : Site)
-    (halt : Halt) : Type 0 where
+-- Of these lines some were begun, so many at least, all but the last carried out; what they ask of the devices.
+pub record AsksSome (pool : ℕ) (g : Geometry) (least : ℕ) (lines : List Line) (entry now : Site) (halt : Halt)
+    : Type 0 where
+  pub begun : ℕ
+  pub enough : least ≤ begun
+  pub few : begun ≤ length lines
+  pub earlier : WearsNoneBefore pool (run_over g lines) begun entry.image
+  pub demands : Demands {T = ⊤} pool (first_lines (run_over g lines) begun) entry now (Err halt)
+
+-- or it fails: a crash leaves it whole or nothing of it, and it was one of these lines that failed
+pub record FailsToWrite (pool : ℕ) (g : Geometry) (entry : Site) (least : ℕ) (lines : List Line) (table : List Content)
+    (commits : ℕ) (net : List Write) (old new : Site) (halt : Halt) : Type 0 where
+  pub asks : AsksSome pool g least lines entry new halt
   pub moments : LeavesOnly old new (LeavesNet g table commits net old.told)
   pub quiet : status_of halt ≢ 3 → new.loose ≡ no_loose

@@ -20,7 +20,7 @@ pub fn begin<S: Site>(alloc: Global, pool: u32, site: &mut S) -> Result<Engine, 
     ensures begins { (g : Geometry) → IsTarget g (S.state site.old)
         → IfOk result (HasBegun pool g (S.state site.old) (S.state site.new)) }
     ensures never { (g : Geometry) → IsTarget g (S.state site.old)
-        → IfErr result (NeverBegins g (S.state site.old) (S.state site.new)) }
+        → IfErr result (NeverBegins pool g (S.state site.old) (S.state site.new)) }
     ensures going { IfOk result (GoesOn (S.state site.old) (S.state site.new)) }
     ensures left { IsTrue (S.state site.old).honest → (S.state site.new).input ≡ (S.state site.old).input }
     ensures halts { IfErr result (λ halt. (halt ≢ Halt.Input) × (halt ≢ Halt.Limit)) }

@@ -1,5 +1,6 @@
 // Why a restore ends before its last commit.
-ghost use Rattle.std.specs.Prelude.{◌≡◌, ◌≤◌, ◌++◌, codes, decimal, length};
+ghost use Rattle.std.specs.Prelude.{◌≡◌, ◌≤◌, ◌++◌, codes, decimal, length, IsTrue, OnOk};
+ghost use Rattle.site.specs.Telling.{TellsOnly};
 ghost use Rattle.front_end.specs.Tells.{Tells};
 ghost use Rattle.archive_restore.specs.Texts.{fault_line, fault_status, restored_line};
 
@@ -64,7 +65,10 @@ pub fn tell_fault<S: Site>(site: &mut S, fault: Fault) -> Result<(), Failed>
 
 /// Tells that all is restored.
 pub fn tell_restored<S: Site>(site: &mut S, count: u64) -> Result<(), Failed>
-    ensures { Tells (restored_line count) (S.state site.old) (S.state site.new) result }
+    ensures tells { Tells (restored_line count) (S.state site.old) (S.state site.new) result }
+    // With no call but those that tell, at most one an octet.
+    ensures only { IsTrue (S.state site.old).honest
+        → OnOk result (TellsOnly (length (restored_line count)) (S.state site.old) (S.state site.new)) }
 {
     tell_all(site, numbered_line(b"restored ", count).as_slice())
 }

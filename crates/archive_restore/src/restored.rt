@@ -13,6 +13,7 @@ ghost use Rattle.site.specs.declared.geometry.Geometry.{Geometry};
 
 use crate::fault::{Fault, tell_fault, tell_restored};
 use crate::restoring::Restoring;
+use engine::{queue_is_on_flash, versions_are_seen};
 use front_end::Halt;
 use site::Site;
 use std::alloc::Global;
@@ -24,7 +25,7 @@ const LINES: u64 = (1 << 40) + 1;
 fn restore_commits<S: Site>(alloc: Global, count: u64, pool: u32, site: &mut S) -> Result<(), Fault>
     requires pool { (1 ≤ pool) × (pool ≤ 4096) }
     ensures restores { (g : Geometry) → IsTarget g (S.state site.old)
-        → RestoreOutcome count g (S.state site.old) (S.state site.new) result }
+        → RestoreOutcome count pool g (S.state site.old) (S.state site.new) result }
     ensures known { IsTrue (S.state site.old).honest → (g : Geometry) → HasLimits g
         → HasLengths g (S.state site.old).image
         → IsKnown count g (S.state site.old) (S.state site.new) result }
@@ -35,6 +36,8 @@ fn restore_commits<S: Site>(alloc: Global, count: u64, pool: u32, site: &mut S) 
         → RefusesWritten result (S.state site.old) (S.state site.new) }
     ensures preserves { Preserves (S.state site.old) (S.state site.new) }
 {
+    queue_is_on_flash();
+    versions_are_seen();
     let mut restoring = match Restoring::start(alloc, pool, site) {
         Ok(restoring) => restoring,
         Err(fault) => return Err(fault),
@@ -60,7 +63,7 @@ pub fn restore<S: Site>(alloc: Global, count: u64, pool: u32, site: &mut S) -> u
     requires from { 1 ≤ pool }
     requires to { pool ≤ 4096 }
     // What is told, what a crash at any moment leaves, and when each status comes.
-    ensures restore { RestoreContract count (S.state site.old) (S.state site.new) result }
+    ensures restore { RestoreContract count pool (S.state site.old) (S.state site.new) result }
     // Devices without sizes have status 9.
     ensures sizes { HasNoSizes (S.state site.old) → RefusesDevices result (S.state site.old) (S.state site.new) }
     // Of every honest site: devices that aren't blank have 10, unless a read fails, and nothing of them is changed.

@@ -10,7 +10,7 @@ ghost use Rattle.shell_text.specs.Runs.{lines_of};
 ghost use Rattle.log_archive.specs.Accepted.{Stream, blank_stream};
 ghost use Rattle.stream_lines.specs.Lines.{AsksFor, IsSource};
 ghost use Rattle.front_end.specs.Faults.{SameFaults};
-ghost use Rattle.front_end.specs.New.{IsBlank, IsNotBlank};
+ghost use Rattle.front_end.specs.New.{IsBlank, IsNotBlank, ReadsOnce};
 ghost use Rattle.site.specs.declared.outside.Stop.{Stop};
 ghost use Rattle.front_end.specs.declared.halt.Halt.{Halt};
 ghost use Rattle.archive_restore.specs.declared.fault.Fault.{Fault};
@@ -19,7 +19,7 @@ ghost use Rattle.archive_restore.specs.Faults.{RestoreFaults};
 ghost use Rattle.archive_restore.specs.Refusing.{IsWritten, RefusesSizes, RefusesWritten};
 ghost use Rattle.archive_restore.specs.Restores.{HasFaultCause, HasFewCommits, IsTarget};
 ghost use Rattle.archive_restore.specs.Progress.{EndsEarly, EndsOnSite, GoesOnRestoring, HasHeard, HasWritten};
-ghost use Rattle.archive_restore.specs.Progress.{IsPopped, StopsRestoring};
+ghost use Rattle.archive_restore.specs.Progress.{IsPopped, IsUntouched, NeverRestores, StopsAsking, StopsRestoring};
 
 use crate::beginning::begin;
 use crate::fault::Fault;
@@ -74,7 +74,9 @@ fn blank_sizes<S: Site>(site: &mut S) -> Result<Geometry, Fault>
     ensures unfit { IsTrue (S.state site.old).honest → IsWritten (S.state site.old)
         → RefusesWritten result (S.state site.old) (S.state site.new) }
     ensures never { (g : Geometry) (behind : List (List ℕ)) (s : Stream) (count : ℕ) → IsTarget g (S.state site.old)
-        → IfErr result (StopsRestoring g [] behind s count (S.state site.old) (S.state site.new)) }
+        → IfErr result (λ f. StopsRestoring g [] behind s count (S.state site.old) (S.state site.new) f
+        × IsUntouched (S.state site.old) (S.state site.new) f) }
+    ensures read { ReadsOnce (S.state site.old) (S.state site.new) }
     ensures early { (g : Geometry) (behind : List (List ℕ)) (s : Stream) (count : ℕ) → HasLimits g
         → HasLengths g (S.state site.old).image
         → IfErr result (EndsEarly g [] behind s count (S.state site.old) (S.state site.new)) }
@@ -108,10 +110,10 @@ impl Restoring {
             × IsUnchanged (S.state site.old) tested × Preserves (S.state site.old) tested
             × GoesOnRestoring 0 tested (S.state site.new) r
             × HasWritten pool g (blank_stream g.pages) tested (S.state site.new) r
-            × HasHeard g [] (blank_stream g.pages) tested (S.state site.new) r) }
+            × HasHeard g [] (blank_stream g.pages) tested (S.state site.new) r
+            × ReadsOnce (S.state site.old) tested) }
         ensures never { (g : Geometry) (behind : List (List ℕ)) (count : ℕ) → IsTarget g (S.state site.old)
-            → IfErr result (StopsRestoring g [] behind (blank_stream g.pages) count (S.state site.old)
-            (S.state site.new)) }
+            → IfErr result (NeverRestores pool g behind count (S.state site.old) (S.state site.new)) }
         ensures early { (g : Geometry) (behind : List (List ℕ)) (s : Stream) (count : ℕ) → HasLimits g
             → HasLengths g (S.state site.old).image → IsTrue (S.state site.old).honest
             → IfErr result (EndsEarly g [] behind s count (S.state site.old) (S.state site.new)) }
@@ -160,7 +162,7 @@ impl Restoring {
             (lines behind : List (List ℕ)) (number count : ℕ) → GoesOnRestoring number entry (S.state site.old) before
             → HasWritten pool g s entry (S.state site.old) before
             → IsPopped net.now before self.old → self.old.written < count
-            → IfErr result (StopsRestoring g lines behind s count entry (S.state site.new)) }
+            → IfErr result (StopsAsking pool g lines behind s count entry (S.state site.new)) }
         ensures left { IsTrue (S.state site.old).honest → (S.state site.new).input ≡ (S.state site.old).input }
         ensures preserves { Preserves (S.state site.old) (S.state site.new) }
         ensures still { OnOk result ((self.new.written ≡ self.old.written) × (self.new.source ≡ self.old.source)) }
@@ -196,7 +198,7 @@ impl Restoring {
         ensures stops { (pool : ℕ) (g : Geometry) (s : Stream) (entry : Site) (lines behind : List (List ℕ))
             (number : ℕ) → GoesOnRestoring number entry (S.state site.old) self.old
             → HasWritten pool g s entry (S.state site.old) self.old
-            → IfErr result (StopsRestoring g lines behind s count entry (S.state site.new)) }
+            → IfErr result (StopsAsking pool g lines behind s count entry (S.state site.new)) }
         ensures most { OnOk result (self.new.written ≤ count) }
         ensures all { IfOk result (λ all. all ≡ true → self.new.written ≡ count) }
         ensures none { (pool : ℕ) (g : Geometry) (s : Stream) (entry : Site)
@@ -239,7 +241,7 @@ impl Restoring {
             → HasHeard g lines s entry (S.state site.old) self.old → self.old.written ≡ length s.nets
             → self.old.written < count → number ≡ length lines + 1
             → IfErr result (λ fault. (behind : List (List ℕ)) × (lines_of true entry.input.left ≡ lines ++ behind)
-            × StopsRestoring g lines behind s count entry (S.state site.new) fault) }
+            × StopsAsking pool g lines behind s count entry (S.state site.new) fault) }
         ensures asks { (pool : ℕ) (g : Geometry) (s : Stream) (entry : Site) (lines : List (List ℕ)) (count : ℕ)
             → HasWritten pool g s entry (S.state site.old) self.old
             → HasHeard g lines s entry (S.state site.old) self.old → self.old.written ≡ length s.nets

@@ -57,7 +57,9 @@ fn free<S: Site>(engine: &mut Engine, site: &mut S, cap: u64, net: &Net) -> Resu
     ensures fails { (pool : ℕ) (g : Geometry) (entry : Site) (lines : List Line) (table : List Content)
         (commits made kept : ℕ)
         → HasCarried pool g entry (S.state site.old) engine.old lines (idle table commits made kept cap)
-        → IfErr result (FailsToWrite g table commits net.now (S.state site.old) (S.state site.new)) }
+        → IfErr result (FailsToWrite pool g entry (length lines)
+        (lines ++ net_lines (idle table commits made kept cap) net.now) table commits net.now (S.state site.old)
+        (S.state site.new)) }
 {
     if !is_tight(cap, used_of(engine), net) {
         return Ok(());
@@ -90,7 +92,8 @@ fn carry_session<S: Site>(engine: &mut Engine, site: &mut S, net: &Net) -> Resul
         (commits made kept cap : ℕ)
         → HasCarried pool g entry (S.state site.old) engine.old lines (idle table commits made kept cap)
         → IsFree table made kept cap net.now
-        → IfErr result (FailsToWrite g table commits net.now (S.state site.old) (S.state site.new)) }
+        → IfErr result (FailsToWrite pool g entry (length lines) (lines ++ session_lines net.now) table commits net.now
+        (S.state site.old) (S.state site.new)) }
 {
     for place in 0..net.len() + 2 {
         match carry_out(engine, site, Some(session_line(net, place))) {
@@ -128,7 +131,9 @@ pub fn write_net<S: Site>(
         (commits made kept : ℕ)
         → HasCarried pool g entry (S.state site.old) engine.old lines (idle table commits made kept cap)
         → AreWritable (length table) net.now → Fits cap table net.now
-        → IfErr result (FailsToWrite g table commits net.now (S.state site.old) (S.state site.new)) }
+        → IfErr result (FailsToWrite pool g entry (length lines)
+        (lines ++ net_lines (idle table commits made kept cap) net.now) table commits net.now (S.state site.old)
+        (S.state site.new)) }
 {
     match free(engine, site, cap, net) {
         Ok(()) => carry_session(engine, site, net),

@@ -75,7 +75,8 @@ impl Source {
         ensures empty { self.new.from ≡ self.new.to }
         ensures taken { self.new.taken ≡ self.old.taken }
         ensures same { IsTrue (S.state site.old).honest → HearsOnly (S.state site.old) (S.state site.new) }
-        ensures takes { IsTrue (S.state site.old).honest → TakesWithin 1 self.old (S.state site.old) (S.state site.new) }
+        ensures takes { IsTrue (S.state site.old).honest
+            → TakesWithin 1 self.old (S.state site.old) (S.state site.new) }
         ensures cut_off { IsTrue (S.state site.old).honest
             → IfErr result (λ fault. CutsOff fault (total self.old (S.state site.old)) (S.state site.old).input.left
             (S.state site.new).input.left) }
@@ -112,7 +113,8 @@ impl Source {
             (to_hear self.old (S.state site.old)) (S.state site.new).input.left) }
         ensures going { OnErr result (self.old.ended ≡ false) }
         ensures same { IsTrue (S.state site.old).honest → HearsOnly (S.state site.old) (S.state site.new) }
-        ensures takes { IsTrue (S.state site.old).honest → TakesWithin 1 self.old (S.state site.old) (S.state site.new) }
+        ensures takes { IsTrue (S.state site.old).honest
+            → TakesWithin 1 self.old (S.state site.old) (S.state site.new) }
         ensures preserves { Preserves (S.state site.old) (S.state site.new) }
         ensures input { result ≡ Err Fault.Input
             → Rose (S.state site.old).input_faults (S.state site.new).input_faults }

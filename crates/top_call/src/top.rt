@@ -63,7 +63,7 @@ pub fn face<S: Site>(alloc: Global, words: &[String], site: &mut S) -> u8
     ensures verify { (pages : ℕ) → IsVerify (words_of words.now) pages
         → VerifyContract pages (S.state site.old) (S.state site.new) result }
     ensures restore { (r : Restoring) → IsRestore (words_of words.now) r
-        → RestoreContract r.commits (S.state site.old) (S.state site.new) result
+        → RestoreContract r.commits r.pool (S.state site.old) (S.state site.new) result
         ⊎ LacksMemory result (S.state site.old) (S.state site.new) }
     // Which octets a run takes of an honest site, and with which status, whatever stands on its devices.
     ensures hears { ((pool : ℕ) × IsRun (words_of words.now) pool) → IsTrue (S.state site.old).honest

@@ -1,4 +1,5 @@
-use Rattle.std.proofs.Common.{List, [], ap, refl, sym, subst, arith}
+use Rattle.std.proofs.Common.{◌≡◌, List, [], ◌∙◌, ap, refl, sym, subst, arith}
+use Rattle.std.specs.Prelude.{Err}
 use Rattle.std.proofs.lemmas.List.{append-nil}
 use Rattle.site.proofs.Laws.{no_call}
 use Rattle.site.specs.Telling.{TellsPart}
@@ -13,7 +14,13 @@ use Rattle.front_end.specs.declared.halt.Halt.TheVariants as halt
 use Rattle.face.proofs.CallCounts.{calls_told}
 use Rattle.face.proofs.Carrying.{stop_faults}
 use Rattle.face.proofs.CommandLaws.{start_cause}
-use Rattle.face.proofs.Counted.{first_counted}
+use Rattle.face.proofs.Counted.{first_counted, restart_numbers}
+use Rattle.face.proofs.Demanded.{demands_err}
+use Rattle.face.specs.Run.{first_lines}
+use Rattle.ring_machine.specs.Machine.{RingOp, first_worn}
+use Rattle.ring_machine.specs.Restart.{restart_work}
+use Rattle.engine.specs.RingWork.{machine_on}
+use Rattle.site.specs.declared.outside.Stop.TheVariants.{Worn}
 use Rattle.face.proofs.Meanings.{opens_where_it_stands, stands_by}
 use Rattle.face.proofs.Pagings.{first_paged, first_reads}
 use Rattle.face.proofs.WornRuns.{opened_performs}
@@ -55,9 +62,27 @@ returns-in-Ok-clause-begins g c geometry t =
 pub returns-in-Err-clause-never : goal.returns-in-Err-clause-never
 returns-in-Err-clause-never g c geometry t =
     let old = g.S.Site.state c.args.site.now in
+    let new = g.S.Site.state c.start.new.site in
     let opening : Opens geometry old.image (blank_state geometry) = target_opens c.blank_stands.ensures geometry old t in
     let ends = c.in-Err.ensures.ends t.honest geometry (blank_state geometry).table 0 (stands_by geometry old.image (blank_state geometry) opening) in
-    record { moments = ends.any_moment t.quiet; quiet = λ ne. ends.quiet t.quiet (λ d is. ne (ap (λ x. status_of (halt.Stop x)) is)) }
+    record {
+      asks = record {
+        begun = 0;
+        enough = omega arith;
+        few = omega arith;
+        earlier = λ lines less. absurd (omega (arith, less));
+        demands = demands_err c.args.pool (first_lines (run_over geometry []) 0) old new (halt.Stop c.in-Err.stop)
+            (λ dev says newest blocks sound.
+            let same : c.in-Err.stop ≡ Worn dev = cc in
+            let start = machine_on geometry old.image in
+            ap (λ (w : List RingOp). first_worn (rules_of c.args.pool geometry.groups) w start) (append-nil (restart_work (logical_image_under newest geometry old.image blocks)))
+            ∙ (c.in-Err.ensures.performs t.honest geometry newest blocks sound).worn start refl dev (ap Err same))
+            (λ newest blocks sound. restart_numbers (run_over geometry []) (log_under newest blocks) old c.start.result _ new (c.start.ensures.numbers t.honest t.quiet geometry newest blocks sound))
+            (λ newest blocks sound. first_reads c.args.pool (run_over geometry []) newest old.image blocks c.start.result (λ e. e.store.pages) old new new (λ dev. refl) (c.start.ensures.writes t.honest t.quiet geometry newest blocks sound) (c.start.ensures.asks t.honest geometry newest blocks sound) (c.start.ensures.log_reads t.honest geometry newest blocks sound));
+      };
+      moments = ends.any_moment t.quiet;
+      quiet = λ ne. ends.quiet t.quiet (λ d is. ne (ap (λ x. status_of (halt.Stop x)) is));
+    }
 
 pub returns-in-Ok-clause-going : goal.returns-in-Ok-clause-going
 returns-in-Ok-clause-going g c =

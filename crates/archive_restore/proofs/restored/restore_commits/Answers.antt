@@ -27,14 +27,14 @@ loop-line-init g c = record {
   going = (c.in-Ok.ensures.going.0, c.in-Ok.ensures.going.1, c.in-Ok.ensures.going.4, c.in-Ok.ensures.going.3);
   progress = λ geometry t.
       let b = c.in-Ok.ensures.begins geometry t in
-      record { tested = b.0; same = b.1; kept = b.2; lines = []; s = _; goes = b.3; written = b.4; heard = b.5; long = refl; asks = asks_none (HasFewCommits geometry.pages c.args.count) _ _ (c.start.ensures.left t.honest ∙ sym b.1.left) };
+      record { tested = b.0; same = b.1; read = b.6; kept = b.2; lines = []; s = _; goes = b.3; written = b.4; heard = b.5; long = refl; asks = asks_none (HasFewCommits geometry.pages c.args.count) _ _ (c.start.ensures.left t.honest ∙ sym b.1.left) };
 }
 
 pub returns-in-Err-clause-restores : goal.returns-in-Err-clause-restores
 returns-in-Err-clause-restores g c geometry t =
     let old = g.S.Site.state c.args.site.now in
     let new = g.S.Site.state c.start.new.site in
-    outcome_never c.args.count geometry old new c.in-Err.fault (c.start.ensures.left t.honest) (c.in-Err.ensures.never geometry _ c.args.count t)
+    outcome_never c.args.count c.args.pool geometry old new c.in-Err.fault (c.start.ensures.left t.honest) (c.in-Err.ensures.never geometry _ c.args.count t)
 
 pub write_waiting-requires : goal.write_waiting-requires
 write_waiting-requires g c = record { going = (c.loop-line.line, c.loop-line.invariant.going.0, c.loop-line.invariant.going.3); most = c.loop-line.invariant.most }
@@ -46,13 +46,13 @@ pub returns-in-Ok-true-clause-restores : goal.returns-in-Ok-true-clause-restores
 returns-in-Ok-true-clause-restores g c geometry t =
     let u = c.loop-line.invariant.progress geometry t in
     outcome_done c.args.count c.args.pool geometry (g.S.Site.state c.args.site.now) (g.S.Site.state c.loop-line.site) (g.S.Site.state c.write_waiting.new.site) c.loop-line.restoring c.write_waiting.new.self c.loop-line.line u
-    (c.in-Ok-true.ensures.writes c.args.pool geometry u.s u.tested u.written) (c.in-Ok-true.ensures.all c.in-Ok-true.field-0-test) (c.write_waiting.ensures.left (honest_of c.args.pool geometry u.s u.tested (g.S.Site.state c.loop-line.site) c.loop-line.restoring u.written)) _
+    (c.in-Ok-true.ensures.writes c.args.pool geometry u.s u.tested u.written) (c.in-Ok-true.ensures.all c.in-Ok-true.field-0-test) (c.write_waiting.ensures.left (honest_of c.args.pool geometry u.s u.tested (g.S.Site.state c.loop-line.site) c.loop-line.restoring u.written)) c.queue_is_on_flash.ensures c.versions_are_seen.ensures _
 
 pub returns-in-Err-write_waiting-clause-restores : goal.returns-in-Err-write_waiting-clause-restores
 returns-in-Err-write_waiting-clause-restores g c geometry t =
     let u = c.loop-line.invariant.progress geometry t in
     let behind = lines_of true (to_hear c.loop-line.restoring.source (g.S.Site.state c.loop-line.site)) in
-    outcome_stopped c.args.count geometry (g.S.Site.state c.args.site.now) u.tested (g.S.Site.state c.write_waiting.new.site) u.lines behind u.s c.in-Err-write_waiting.fault u.same u.kept u.heard.accepted u.heard.all
+    outcome_stopped c.args.count c.args.pool geometry (g.S.Site.state c.args.site.now) u.tested (g.S.Site.state c.write_waiting.new.site) u.lines behind u.s c.in-Err-write_waiting.fault u.same u.read u.kept u.heard.accepted u.heard.all
     (asks_still (HasFewCommits geometry.pages c.args.count) u.tested (g.S.Site.state c.loop-line.site) (g.S.Site.state c.write_waiting.new.site) u.asks (c.write_waiting.ensures.left (honest_of c.args.pool geometry u.s u.tested (g.S.Site.state c.loop-line.site) c.loop-line.restoring u.written)))
     (c.in-Err-write_waiting.ensures.stops c.args.pool geometry u.s u.tested u.lines behind c.loop-line.line u.goes u.written)
 
@@ -80,7 +80,7 @@ returns-in-Err-hear-clause-restores g c geometry t =
     let u = c.loop-line.invariant.progress geometry t in
     let none = c.in-Ok-false.ensures.none c.args.pool geometry u.s u.tested u.written c.in-Ok-false.field-0-test in
     let st = c.in-Err-hear.ensures.stops c.args.pool geometry u.s u.tested u.lines c.loop-line.line c.args.count (goes g s geometry t) (written g s geometry t) (heard g s geometry t) none.0 none.1 (ap (λ n. n + 1) (sym u.long)) in
-    outcome_stopped c.args.count geometry (g.S.Site.state c.args.site.now) u.tested (g.S.Site.state c.hear.new.site) u.lines st.0 u.s c.in-Err-hear.fault u.same u.kept u.heard.accepted st.1
+    outcome_stopped c.args.count c.args.pool geometry (g.S.Site.state c.args.site.now) u.tested (g.S.Site.state c.hear.new.site) u.lines st.0 u.s c.in-Err-hear.fault u.same u.read u.kept u.heard.accepted st.1
     (c.hear.ensures.asks c.args.pool geometry u.s u.tested u.lines c.args.count (written g s geometry t) (heard g s geometry t) none.0 none.1 (asks g s geometry t)) st.2
 
 pub loop-line-preserved : goal.loop-line-preserved
@@ -103,6 +103,7 @@ loop-line-preserved g c =
           record {
             tested = u.tested;
             same = u.same;
+            read = u.read;
             kept = u.kept;
             lines = u.lines ++ h.0 ∷ [];
             s = h.1;

@@ -1,12 +1,18 @@
-use Rattle.std.proofs.Common.{refl}
+use Rattle.std.proofs.Common.{arith, refl}
 use Rattle.std.specs.Prelude.{⊤}
-use Rattle.archive_restore.proofs.Starts.{ends_first, stops_untouched}
+use Rattle.archive_restore.proofs.Starts.{ends_first, stops_untouched, untouched_unfit}
 use Rattle.archive_restore.proofs.Faults.{test_faults}
 use Rattle.archive_restore.proofs.restoring.blank_sizes.Goals as goal
 
 pub returns-in-Err-clause-never : goal.returns-in-Err-clause-never
 returns-in-Err-clause-never g c geometry behind s count t =
-    stops_untouched c.blank_stands.ensures geometry (g.S.Site.state c.args.site.now) (g.S.Site.state c.test_blank.new.site) s t (c.test_blank.ensures.same t.honest) behind count _ c.in-Err.ensures.unfit (λ is. absurd is)
+    let old = g.S.Site.state c.args.site.now in
+    let new = g.S.Site.state c.test_blank.new.site in
+    let same = c.test_blank.ensures.same t.honest in
+    (stops_untouched c.blank_stands.ensures geometry old new s t same behind count _ c.in-Err.ensures.unfit (λ is. absurd is), untouched_unfit c.in-Err.unfit old new c.in-Err.ensures.unfit same c.test_blank.ensures.few)
+
+pub returns-in_default-clause-read : goal.returns-in_default-clause-read
+returns-in_default-clause-read g c dev = omega arith
 
 pub returns-in-Err-clause-early : goal.returns-in-Err-clause-early
 returns-in-Err-clause-early g c geometry behind s count limits lengths = ends_first geometry s (g.S.Site.state c.args.site.now) (g.S.Site.state c.test_blank.new.site) behind count _ c.in-Err.ensures.unfit (λ is. absurd is)

@@ -20,7 +20,7 @@ pub returns-in-Err-clause-fails : goal.returns-in-Err-clause-fails
 returns-in-Err-clause-fails g c pool geometry entry lines table commits made kept carried =
     frees_not pool geometry entry (g.S.Site.state c.args.site.now) c.args.engine.now lines table commits made kept c.args.cap c.args.net.now carried c.used_of.result
     (c.used_of.ensures (idle table commits made kept c.args.cap) (g.S.Site.state c.args.site.now) (carried_fits pool geometry entry (g.S.Site.state c.args.site.now) c.args.engine.now lines _ carried)) c.carry_out.new.engine (g.S.Site.state c.carry_out.new.site)
-    c.in-Err.halt c.in-Err.ensures
+    (sym c.is_tight.ensures ∙ c.if-not-is_tight.false) c.in-Err.halt c.in-Err.ensures
 
 pub returns-in-Ok-clause-going : goal.returns-in-Ok-clause-going
 returns-in-Ok-clause-going g c entry goes = goes_next entry (g.S.Site.state c.args.site.now) (g.S.Site.state c.carry_out.new.site) c.args.engine.now goes c.in-Ok._reply _ c.carry_out.new.engine c.in-Ok.ensures.course

@@ -108,7 +108,7 @@ returns-in-Err-Words-clause-verify g c pages is_verify =
 pub returns-in-Ok-Restore-clause-restore : goal.returns-in-Ok-Restore-clause-restore
 returns-in-Ok-Restore-clause-restore g c r is_restore =
     let found : IsRestore (words_of c.args.words.now) c.in-Ok-Restore.to = search rules in
-    inl (subst (λ (x : Restoring). RestoreContract x.commits (g.S.Site.state c.args.site.now) (g.S.Site.state c.restore.new.site) c.restore.result) (one_restore (words_of c.args.words.now) _ r found is_restore) c.restore.ensures.restore)
+    inl (subst (λ (x : Restoring). RestoreContract x.commits x.pool (g.S.Site.state c.args.site.now) (g.S.Site.state c.restore.new.site) c.restore.result) (one_restore (words_of c.args.words.now) _ r found is_restore) c.restore.ensures.restore)
 
 pub returns-in-Ok-Restore-clause-restore_sizes : goal.returns-in-Ok-Restore-clause-restore_sizes
 returns-in-Ok-Restore-clause-restore_sizes g c is_restore none = inl (c.restore.ensures.sizes none)

@@ -9,7 +9,7 @@ use Rattle.stream_lines.specs.declared.source.Fault as source
 use Rattle.stream_lines.specs.declared.source.Fault.TheVariants as taking
 use Rattle.stream_lines.specs.declared.source.Heard.TheVariants as kind
 use Rattle.archive_restore.specs.declared.fault.Fault.{Fault}
-use Rattle.archive_restore.specs.Progress.{EndsOnSite, StopsRestoring}
+use Rattle.archive_restore.specs.Progress.{EndsOnSite, StopsAsking}
 use Rattle.face.specs.Causes.{IsOverLimit}
 use Rattle.archive_restore.proofs.Taken.{asks_next}
 use Rattle.archive_restore.proofs.Heard.{cut_as, ends_heard, goes_on_heard, heard_as, hears_on, honest_of, left_with, line_first, long_refused, over_limit, stops_here}
@@ -24,8 +24,8 @@ returns-in-Err-Input-clause-stops g c pool geometry s entry lines number' count 
     let honest = honest_of pool geometry s entry mid r h in (
       lines_of true (to_hear r.source mid),
       heard.all,
-      stops_here pool geometry s entry mid new r h (c.next.ensures.same honest) lines _ count _
-          (rose_since _ _ _ goes.database.preserves.input_faults (c.in-Err-Input.ensures.input (ap Err c.in-Err-Input.field-0-is)), all) less,
+      stops_here pool geometry s entry mid new r h c.next.ensures.preserves (c.next.ensures.same honest) lines _ count _
+          (rose_since _ _ _ goes.database.preserves.input_faults (c.in-Err-Input.ensures.input (ap Err c.in-Err-Input.field-0-is)), all) less (λ dev e. cc),
     )
 
 pub returns-in-Err-Limit-clause-stops : goal.returns-in-Err-Limit-clause-stops
@@ -36,8 +36,8 @@ returns-in-Err-Limit-clause-stops g c pool geometry s entry lines number' count 
     let honest = honest_of pool geometry s entry mid r h in (
       lines_of true (to_hear r.source mid),
       heard.all,
-      stops_here pool geometry s entry mid new r h (c.next.ensures.same honest) lines _ count _
-          (λ h'. over_limit geometry lines s entry mid new r heard (cut_as c.in-Err-Limit.field-0 taking.Limit _ _ _ _ (c.in-Err-Limit.ensures.cut_off honest heard.ended) c.in-Err-Limit.field-0-is), all) less,
+      stops_here pool geometry s entry mid new r h c.next.ensures.preserves (c.next.ensures.same honest) lines _ count _
+          (λ h'. over_limit geometry lines s entry mid new r heard (cut_as c.in-Err-Limit.field-0 taking.Limit _ _ _ _ (c.in-Err-Limit.ensures.cut_off honest heard.ended) c.in-Err-Limit.field-0-is), all) less (λ dev e. cc),
     )
 
 pub returns-in-Ok-End-clause-stops : goal.returns-in-Ok-End-clause-stops
@@ -49,7 +49,7 @@ returns-in-Ok-End-clause-stops g c pool geometry s entry lines number' count goe
     let end = heard_as c.in-Ok-End.field-0 kind.End _ _ _ _ _ (c.in-Ok-End.ensures.heard honest heard.ended) c.in-Ok-End.field-0-is in (
       [],
       heard.all ∙ ap (λ (l : List ℕ). lines ++ lines_of true l) end.0,
-      stops_here pool geometry s entry mid new r h (c.next.ensures.same honest) lines _ count _ (refl, all, refl) less,
+      stops_here pool geometry s entry mid new r h c.next.ensures.preserves (c.next.ensures.same honest) lines _ count _ (refl, all, refl) less (λ dev e. cc),
     )
 
 pub returns-in-Ok-Long-clause-stops : goal.returns-in-Ok-Long-clause-stops
@@ -61,7 +61,7 @@ returns-in-Ok-Long-clause-stops g c pool geometry s entry lines number' count go
     let long = heard_as c.in-Ok-Long.field-0 kind.Long _ _ _ _ _ (c.in-Ok-Long.ensures.heard honest heard.ended) c.in-Ok-Long.field-0-is in (
       long.line ∷ long.behind,
       left_with geometry lines s entry mid r long.line long.behind heard long.is_first,
-      stops_here pool geometry s entry mid new r h (c.next.ensures.same honest) lines _ count _ (number, all, long.line, long.behind, refl, λ now. long_refused geometry.pages long.line s now long.many) less,
+      stops_here pool geometry s entry mid new r h c.next.ensures.preserves (c.next.ensures.same honest) lines _ count _ (number, all, long.line, long.behind, refl, λ now. long_refused geometry.pages long.line s now long.many) less (λ dev e. cc),
     )
 
 pub returns-in-Ok-clause-going : goal.returns-in-Ok-clause-going
@@ -102,8 +102,8 @@ returns-in-Err-BadStream-clause-stops g c pool geometry s entry lines number' co
     let behind = lines_of true (to_hear c.next.new.self new) in (
       line ∷ behind,
       left_with geometry lines s entry mid r line behind heard (line_first line r.source c.next.new.self mid new c.next.ensures.source (c.in-Ok-Line.ensures.ended honest heard.ended) same),
-      stops_here pool geometry s entry mid new r h (c.next.ensures.same honest) lines _ count _
-          (number, all, line, behind, refl, c.in-Err-BadStream.ensures.bad geometry.pages s (take r.written s.nets) h.replay (ap Err c.in-Err-BadStream.field-0-is)) less,
+      stops_here pool geometry s entry mid new r h c.next.ensures.preserves (c.next.ensures.same honest) lines _ count _
+          (number, all, line, behind, refl, c.in-Err-BadStream.ensures.bad geometry.pages s (take r.written s.nets) h.replay (ap Err c.in-Err-BadStream.field-0-is)) less (λ dev e. cc),
     )
 
 pub returns-in-Err-Memory-clause-stops : goal.returns-in-Err-Memory-clause-stops
@@ -114,8 +114,8 @@ returns-in-Err-Memory-clause-stops g c pool geometry s entry lines number' count
     let honest = honest_of pool geometry s entry mid r h in (
       lines_of true (to_hear r.source mid),
       heard.all,
-      subst (λ (f : Fault). StopsRestoring geometry lines (lines_of true (to_hear r.source mid)) s count entry new f) (sym c.lacks_memory.ensures)
-          (stops_here pool geometry s entry mid new r h (c.next.ensures.same honest) lines (lines_of true (to_hear r.source mid)) count _ tt less),
+      subst (λ (f : Fault). StopsAsking pool geometry lines (lines_of true (to_hear r.source mid)) s count entry new f) (sym c.lacks_memory.ensures)
+          (stops_here pool geometry s entry mid new r h c.next.ensures.preserves (c.next.ensures.same honest) lines (lines_of true (to_hear r.source mid)) count _ tt less (λ dev e. cc)),
     )
 
 pub returns-in-Err-Input-clause-faults : goal.returns-in-Err-Input-clause-faults

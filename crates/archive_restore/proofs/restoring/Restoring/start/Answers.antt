@@ -1,4 +1,4 @@
-use Rattle.std.proofs.Common.{◌-◌, ◌*◌, ◌≡◌, List, [], ℕ, length, refl, sym, ◌∙◌, ap, subst, arith, IsTrue}
+use Rattle.std.proofs.Common.{◌-◌, ◌*◌, ◌≡◌, inl, inr, List, [], ℕ, length, refl, sym, ◌∙◌, ap, subst, arith, IsTrue}
 use Rattle.site.specs.State.{Image}
 use Rattle.engine.specs.Image.{Stands}
 use Rattle.face.specs.Image.{blank_table}
@@ -11,9 +11,9 @@ use Rattle.site.specs.declared.geometry.Geometry.{Geometry}
 use Rattle.log_archive.specs.Accepted.{blank_stream}
 use Rattle.log_replay.specs.Stands.{StandsFor}
 use Rattle.archive_restore.specs.declared.fault.Fault.{Fault}
-use Rattle.archive_restore.specs.Progress.{EndsEarly, StopsRestoring}
+use Rattle.archive_restore.specs.Progress.{EndsEarly, NeverRestores}
 use Rattle.archive_restore.specs.Restores.{HasFaultCause}
-use Rattle.archive_restore.proofs.Starts.{blank_stand, cause_since, ends_first, fit_none, heard_none, lengths_then, one_geometry, still_target, stops_at_restart, stops_untouched, written_none}
+use Rattle.archive_restore.proofs.Starts.{blank_stand, cause_since, ends_first, fit_none, heard_none, lengths_then, one_geometry, still_target, never_remembers, stops_at_restart, stops_untouched, written_none}
 use Rattle.archive_restore.proofs.Writes.{ends_halt, halt_cause, not_between}
 use Rattle.archive_restore.specs.Faults.{after_fault}
 use Rattle.archive_restore.proofs.restoring.Restoring.start.Goals as goal
@@ -62,15 +62,20 @@ pub returns-in_default-clause-never : goal.returns-in_default-clause-never
 returns-in_default-clause-never g c geometry behind count t =
     let old = g.S.Site.state c.args.site.now in
     let mid = g.S.Site.state c.blank_sizes.new.site in
-    subst (λ (f : Fault). StopsRestoring geometry [] behind (blank_stream geometry.pages) count old mid f) (sym c.lacks_memory.ensures)
-    (stops_untouched c.blank_stands.ensures geometry old mid (blank_stream geometry.pages) t (c.blank_sizes.ensures.same t.honest) behind count _ tt (λ is. absurd is))
+    subst (λ (f : Fault). NeverRestores c.args.pool geometry behind count old mid f) (sym c.lacks_memory.ensures)
+    (never_remembers c.args.pool geometry old mid behind count (stops_untouched c.blank_stands.ensures geometry old mid (blank_stream geometry.pages) t (c.blank_sizes.ensures.same t.honest) behind count _ tt (λ is. absurd is)) (c.blank_sizes.ensures.same t.honest) c.blank_sizes.ensures.read)
 
 pub returns-in_default-blank-clause-never : goal.returns-in_default-blank-clause-never
 returns-in_default-blank-clause-never g c geometry behind count t =
     let old = g.S.Site.state c.args.site.now in
     let mid = g.S.Site.state c.blank_sizes.new.site in
-    subst (λ (f : Fault). StopsRestoring geometry [] behind (blank_stream geometry.pages) count old mid f) (sym c.lacks_memory-in_default-blank.ensures)
-    (stops_untouched c.blank_stands.ensures geometry old mid (blank_stream geometry.pages) t (c.blank_sizes.ensures.same t.honest) behind count _ tt (λ is. absurd is))
+    subst (λ (f : Fault). NeverRestores c.args.pool geometry behind count old mid f) (sym c.lacks_memory-in_default-blank.ensures)
+    (never_remembers c.args.pool geometry old mid behind count (stops_untouched c.blank_stands.ensures geometry old mid (blank_stream geometry.pages) t (c.blank_sizes.ensures.same t.honest) behind count _ tt (λ is. absurd is)) (c.blank_sizes.ensures.same t.honest) c.blank_sizes.ensures.read)
+
+pub returns-in-Err-clause-never : goal.returns-in-Err-clause-never
+returns-in-Err-clause-never g c geometry behind count t =
+    let never = c.in-Err.ensures.never geometry behind (blank_stream geometry.pages) count t in
+    record { stops = never.0; asks = inl never.1 }
 
 pub returns-in-Ok-begin-clause-going : goal.returns-in-Ok-begin-clause-going
 returns-in-Ok-begin-clause-going g c =
@@ -119,6 +124,7 @@ returns-in-Ok-begin-clause-begins g c geometry t =
       written_none c.args.pool geometry mid new _ refl (subst (λ (x : Geometry). StandsFor x.pages (blank_stream x.pages) [] c.in-Ok-start.replay) is c.in-Ok-start.ensures.stands) (c.in-Ok-begin.ensures.begins geometry there)
           (ap (λ (x : Geometry). x.blocks - 1) is) (c.in-Ok-blank.ensures ∙ ap (λ (x : Geometry). replicate (32 * x.pages) 0) is),
       heard_none geometry mid new _ c.new.ensures.empty c.new.ensures.taken c.new.ensures.going (c.begin.ensures.left there.honest),
+      c.blank_sizes.ensures.read,
     )
 
 pub returns-in-Err-begin-clause-never : goal.returns-in-Err-begin-clause-never
@@ -130,9 +136,12 @@ returns-in-Err-begin-clause-never g c geometry behind count t =
     let there = still_target geometry old mid t same c.blank_sizes.ensures.preserves in
     let never = c.in-Err-begin.ensures.never geometry there in
     let ne = c.in-Err-begin.ensures.halts in
-    stops_at_restart c.blank_stands.ensures geometry old mid new (blank_stream geometry.pages) t same never.moments behind count _
-    (ends_halt c.in-Err-begin.halt geometry [] behind (blank_stream geometry.pages) 0 old new ne (cause_since c.in-Err-begin.halt old mid new c.blank_sizes.ensures.same c.blank_sizes.ensures.preserves c.in-Err-begin.ensures.ends.cause))
-    (λ is. not_between c.in-Err-begin.halt ne is) never.quiet
+    record {
+      stops = stops_at_restart c.blank_stands.ensures geometry old mid new (blank_stream geometry.pages) t same never.moments behind count _
+          (ends_halt c.in-Err-begin.halt geometry [] behind (blank_stream geometry.pages) 0 old new ne (cause_since c.in-Err-begin.halt old mid new c.blank_sizes.ensures.same c.blank_sizes.ensures.preserves c.in-Err-begin.ensures.ends.cause))
+          (λ is. not_between c.in-Err-begin.halt ne is) never.quiet;
+      asks = inr (record { tested = mid; same = same; read = c.blank_sizes.ensures.read; holds = never.asks });
+    }
 
 pub returns-in-Ok-begin-clause-preserves : goal.returns-in-Ok-begin-clause-preserves
 returns-in-Ok-begin-clause-preserves g c = goes_in_sequence (g.S.Site.state c.args.site.now) (g.S.Site.state c.blank_sizes.new.site) (g.S.Site.state c.begin.new.site) c.blank_sizes.ensures.preserves c.begin.ensures.ends.preserves
