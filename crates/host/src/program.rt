@@ -71,8 +71,10 @@ where
     R::File: FileExt + LockFile,
 {
     if let Some(rule) = site.watch().rule() {
-        let place = find_place(alloc, site, rule).ok()??;
-        return Some((rule, place));
+        return match find_place(alloc, site, rule) {
+            Ok(Some(place)) => Some((rule, place)),
+            _ => None,
+        };
     }
     match check_image(alloc, site) {
         Ok(Verdict::Unsound { rule, place }) => Some((rule, place)),
