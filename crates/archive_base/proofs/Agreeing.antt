@@ -27,7 +27,7 @@ use Rattle.log_records.proofs.Values.{content_of_table, length_table_of}
 use Rattle.std_lemmas.proofs.Options.{option_or_none}
 use Rattle.log_archive.specs.Accepted.{Standing, Unclosed, is_unclosed, put_in}
 use Rattle.log_archive.specs.Values.{Agrees, AgreesAt, Ascends, HasNotWritten, HasWritten, IsOpenAt, Wrote, is_at, undone}
-use Rattle.archive_base.proofs.Ascending.{last_put, put_ascends}
+use Rattle.log_archive.proofs.Ascending.{last_put, put_ascends}
 use Rattle.archive_base.specs.Base.{base_stream, put_all, standing_by, unclosed_at, unclosed_in}
 use Rattle.archive_base.specs.Laws.{BaseAgrees}
 
@@ -87,7 +87,7 @@ leads_back number first (u ∷ us) are runs = by (is_on number u) refl (leads_ba
 -- Of one number.
 
 module _ (p : LogicalImage) (sound : IsSound p) where
-  undoable : IsUndoable p.log
+  pub undoable : IsUndoable p.log
   undoable = record { undone = sound.losers_can_be_undone; held = sound.losers_hold_others_off }
 
   early_records : AllByRecursion (λ e. e.lsn < 512 * p.hi + 2) p.log

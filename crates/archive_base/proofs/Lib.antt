@@ -1,2 +1,5 @@
-mod Ascending
 pub mod Agreeing
+pub mod Hearing
+pub mod Opened
+pub mod Claims
+pub mod Reading

@@ -2,5 +2,9 @@
 #![tactic(auto)]
 
 mod laws;
+mod opening;
+mod reading;
 
-pub use laws::base_agrees;
+pub use laws::{base_agrees, heard_are_open};
+pub use opening::Opening;
+pub use reading::{Base, read_base};

@@ -6,4 +6,4 @@ use Rattle.log_replay.proofs.transaction.Transaction.claim.Given as goal
 abbrev pub invariant-loop-number : goal.invariant-loop-number
 invariant-loop-number l = (n : ℕ) →
     cond (list_any (λ k. k == n) l.number-iterator) (Some l.self.begin) (get nat_eq l.writers n)
-    ≡ cond (has_written n l.fn.self.now) (Some l.self.begin) (get nat_eq l.fn.writers n)
+    ≡ cond (has_written n l.fn.self) (Some l.self.begin) (get nat_eq l.fn.writers n)
