@@ -4,21 +4,18 @@ use Rattle.std.proofs.Common.{◌≡◌, ℕ, ◌+◌, ◌*◌, ◌<◌, ◌≤�
 use Rattle.std.specs.Prelude.{Option, Some, None, IsTrue, find, flat_map, option_map, unwrap_or, filter}
 use Rattle.std.specs.List.{AllByRecursion, list_any}
 use Rattle.std.specs.Option.{option_or}
-use Rattle.std.proofs.lemmas.Bool.{and_from, and_left, and_right, cases_eq, eqb-true, eq-eqb}
+use Rattle.std.proofs.lemmas.Bool.{and_left, and_right, eqb-true, eq-eqb}
 use Rattle.std.proofs.lemmas.List.{ext_get_or}
 use Rattle.std.proofs.lemmas.List.FromFn.{length-map-range_with_len, get_or-map-range_with_len}
 use Rattle.std.proofs.lemmas.Option.{same_Some, none-some}
 use Rattle.std_lemmas.proofs.AllOf.{all_both, all_filter, all_map, all_weaker}
 use Rattle.record_model.specs.State.{Content, Write, content_at, last_write, table_with}
-use Rattle.log_records.specs.declared.log_record.LogRecord.{LogRecord}
-use Rattle.log_records.specs.declared.log_record.LogRecord.TheVariants.{Update}
-use Rattle.log_records.specs.Log.{Entry, Version, after_of, before_of, entries_of, first_update, is_closed, shown_by, slot_at, table_of, value_of, is_loser, is_of, is_on, is_update, last_on, last_where, number_of, shown, txn_of, updates_in}
-use Rattle.log_records.specs.Unfinished.{is_begin, left_open, losers, open_updates}
+use Rattle.log_records.specs.Log.{Entry, after_of, before_of, entries_of, first_update, is_closed, shown_by, slot_at, table_of, value_of, is_loser, is_of, is_on, is_update, last_on, last_where, shown, txn_of}
+use Rattle.log_records.specs.Unfinished.{is_begin, left_open, losers}
 use Rattle.log_records.specs.Sound.{IsSound, LogicalImage}
-use Rattle.log_laws.specs.Follow.{IsUndoable, shown_table, write_of, writes_in}
-use Rattle.log_laws.proofs.Chains.{RunsFrom, Runs, none_any, runs_in_chain, top_on}
+use Rattle.log_laws.specs.Follow.{IsUndoable, shown_table, writes_in}
+use Rattle.log_laws.proofs.Chains.{RunsFrom, Runs, runs_in_chain, top_on}
 use Rattle.log_laws.proofs.Listing.{loser_is_listed}
-use Rattle.log_laws.proofs.Lists.{last_where-filter}
 use Rattle.log_laws.proofs.Losers.{left_are_its_updates, left_keep, loser_is_not_closed}
 use Rattle.log_laws.proofs.Parts.{all_below, are_losers}
 use Rattle.log_laws.proofs.Tables.{content_with, last_write_of, length_table_with}
@@ -29,7 +26,6 @@ use Rattle.log_archive.specs.Accepted.{Standing, Unclosed, is_unclosed, put_in}
 use Rattle.log_archive.specs.Values.{Agrees, AgreesAt, Ascends, HasNotWritten, HasWritten, IsOpenAt, Wrote, is_at, undone}
 use Rattle.log_archive.proofs.Ascending.{last_put, put_ascends}
 use Rattle.archive_base.specs.Base.{base_stream, put_all, standing_by, unclosed_at, unclosed_in}
-use Rattle.archive_base.specs.Laws.{BaseAgrees}
 
 -- Nets.
 
@@ -152,7 +148,7 @@ module _ (p : LogicalImage) (sound : IsSound p) where
         let w = writes_last t number x loser last in
         let first = w.2 in
         let runs : Runs number (Some first.0) (Some x) us = subst (λ (o : Option Entry). Runs number o (Some x) us) first.1
-            (subst (λ (o : Option Entry). Runs number (first_update p.log t number) o us) last (runs_in_chain number t (entries_of t p.log) (sound.losers_can_be_undone t loser))) in
+        (subst (λ (o : Option Entry). Runs number (first_update p.log t number) o us) last (runs_in_chain number t (entries_of t p.log) (sound.losers_can_be_undone t loser))) in
         record {
           last = x;
           last_is = w.0;

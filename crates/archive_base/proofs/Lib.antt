@@ -2,4 +2,4 @@ pub mod Agreeing
 pub mod Hearing
 pub mod Opened
 pub mod Claims
-pub mod Reading
+pub mod WalkedLogs

@@ -1,33 +1,33 @@
 -- What was heard of a sound log are its unfinished transactions.
 use Rattle.std.proofs.lemmas.Grind.{common_steps}
-use Rattle.std.proofs.Common.{◌≡◌, ℕ, ◌+◌, ◌*◌, ◌<◌, ◌≤◌, ◌==◌, nat_eq, Bool, true, false, cond, not, ◌&&◌, ◌||◌, List, [], ◌∷◌, ◌++◌, length, map, drop, refl, sym, ap, subst, ◌∙◌, arith}
-use Rattle.std.specs.Prelude.{Option, Some, None, IsTrue, find, filter, filter_map, option_map}
+use Rattle.std.proofs.Common.{◌≡◌, ℕ, ◌+◌, ◌*◌, ◌<◌, ◌≤◌, ◌==◌, nat_eq, Bool, true, false, cond, not, ◌&&◌, ◌||◌, List, [], ◌∷◌, ◌++◌, map, drop, refl, sym, ap, subst, ◌∙◌, arith}
+use Rattle.std.specs.Prelude.{Option, Some, None, filter_map, option_map}
 use Rattle.std.specs.List.{AllByRecursion, list_any}
-use Rattle.std.proofs.lemmas.Bool.{and_from, and_parts, cases_eq, eqb-true, eq-eqb, ne_eqb, and_right, or_left, or_parts, or_right}
+use Rattle.std.proofs.lemmas.Bool.{and_from, eqb-true, eq-eqb, ne_eqb, and_right, or_left, or_parts, or_right}
 use Rattle.std.proofs.lemmas.Option.{same_Some, none-some}
 use Rattle.std_lemmas.proofs.AllOf.{all_both, all_each, all_map, all_passed, all_weaker}
 use Rattle.std_lemmas.proofs.Lists.{any_map}
 use Rattle.indexmap.specs.IndexMap.{get}
-use Rattle.record_model.specs.State.{Content, Write, last_write}
+use Rattle.record_model.specs.State.{Write, last_write}
 use Rattle.log_records.specs.declared.log_record.LogRecord.{LogRecord}
 use Rattle.log_records.specs.declared.log_record.LogRecord.TheVariants.{Begin, Update, Clr, Commit, End}
-use Rattle.log_records.specs.Log.{Entry, after_of, entries_of, is_closed, is_closing, is_loser, is_of, is_on, is_update, last_on, last_where, txn_of}
+use Rattle.log_records.specs.Log.{Entry, after_of, entries_of, is_closed, is_closing, is_loser, is_of, is_on, is_update, last_where, txn_of}
 use Rattle.log_records.specs.Unfinished.{is_begin, left_open, losers, open_by, open_updates}
 use Rattle.log_records.specs.Sound.{Continues, HaveBegunBefore, InTurn, IsInOrder, IsLoserChain, IsSound, LogicalImage, Undoes, last_number}
-use Rattle.log_laws.specs.Follow.{IsUndoable, write_of, writes_in}
+use Rattle.log_laws.specs.Follow.{write_of}
 use Rattle.log_laws.proofs.Appends.{all_written}
 use Rattle.log_laws.proofs.Chains.{none_any, open_append}
 use Rattle.log_laws.proofs.Listing.{Ascends, above, listed_is_loser, loser_is_listed, losers_ascend}
-use Rattle.log_laws.proofs.Losers.{left_are_its_updates, left_keep, loser_is_not_closed}
+use Rattle.log_laws.proofs.Losers.{left_are_its_updates, left_keep}
 use Rattle.log_laws.proofs.Lists.{or_is_none}
 use Rattle.log_laws.proofs.Orders.{all_from}
 use Rattle.std.proofs.lemmas.List.Elements.{filter_map-append}
-use Rattle.log_archive.specs.Accepted.{Standing, Unclosed, is_taken, is_unclosed, put_in}
+use Rattle.log_archive.specs.Accepted.{Unclosed, is_taken, is_unclosed, put_in}
 use Rattle.log_archive.proofs.Ascending.{none_written}
 use Rattle.log_replay.specs.Opened.{AreOpen, EachOnce, HoldsItsOwn, begun, has_written, is_others, number_of}
 use Rattle.log_replay.specs.declared.transactions.Transactions.{Transactions}
 use Rattle.archive_base.specs.Base.{put_all, standing_by, unclosed_at, unclosed_in}
-use Rattle.archive_base.specs.Opening.{HasHeard, HaveClaimed, IsWriter, heard, heard_by, heard_one}
+use Rattle.archive_base.specs.Opening.{HasHeard, HaveClaimed, IsWriter, heard, heard_by}
 use Rattle.archive_base.proofs.Agreeing.{as_standing, find_listed, losers_early, net_says, undoable, writes_last}
 
 -- Only its own records matter.

@@ -1,5 +1,5 @@
 -- Of a sound logical image.
-use Rattle.std.specs.Prelude.{◌≡◌, ℕ, ◌+◌, ◌*◌, flat_map}
+use Rattle.std.specs.Prelude.{◌≡◌, ◌+◌, ◌*◌, flat_map}
 use Rattle.record_model.specs.State.{table_with}
 use Rattle.log_records.specs.Log.{table_of}
 use Rattle.log_records.specs.Sound.{IsSound, LogicalImage}

@@ -8,7 +8,6 @@ use Rattle.log_records.specs.Log.{Entry, is_of}
 use Rattle.log_archive.specs.Accepted.{Unclosed}
 use Rattle.log_replay.specs.Opened.{begun, has_written, written}
 use Rattle.log_replay.specs.declared.transactions.Transactions.{Transactions}
-use Rattle.archive_base.specs.Base.{standing_by}
 
 -- a transaction behind one more record of its own; of one whose Begin wasn't heard nothing is known
 abbrev pub heard_by : ℕ → LogRecord → Option Unclosed → Option Unclosed

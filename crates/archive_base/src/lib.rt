@@ -7,4 +7,4 @@ mod reading;
 
 pub use laws::{base_agrees, heard_are_open};
 pub use opening::Opening;
-pub use reading::{Base, read_base};
+pub use reading::read_blocks;

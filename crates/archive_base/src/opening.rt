@@ -1,6 +1,6 @@
 // The transactions that a log leaves unfinished, heard record by record.
 ghost use Rattle.std.specs.Prelude.{◌≡◌, ◌⊎◌, ◌≤◌, ◌<◌, ◌+◌, ◌*◌, ◌++◌, ◌∷◌, [], ℕ, List, drop, nat_eq, Some, OnOk, IfOk, IsErrOf};
-ghost use Rattle.std.specs.Prelude.{if◌then◌else◌};
+ghost use Rattle.std.specs.Prelude.{◌==◌, if◌then◌else◌};
 ghost use Rattle.indexmap.specs.IndexMap.{get};
 ghost use Rattle.log_records.specs.Log.{Entry};
 ghost use Rattle.log_records.specs.declared.log_record.LogRecord.TheVariants.{Begin, Clr, Commit, End, Update};
@@ -86,8 +86,11 @@ impl Opening {
         after: &Option<Octets>,
     ) -> Result<(), ReplayFault>
         ensures heard { (log : List Entry) → HasHeard log self.old.transactions → OnOk result (HasHeard
-            (log ++ record { lsn = change.lsn; rec = Update change.txn change.prev change.page change.slot before.now
-            after.now } ∷ []) self.new.transactions) }
+            (log ++ record {
+              lsn = change.lsn;
+              rec = Update change.txn change.prev change.page change.slot before.now
+                  after.now;
+            } ∷ []) self.new.transactions) }
         ensures bad { IsErrOf result ReplayFault.BadStream → (65536 ≤ change.page) ⊎ (32 ≤ change.slot) }
     {
         if change.page >= PAGES {
@@ -113,8 +116,11 @@ impl Opening {
         after: &Option<Octets>,
     ) -> Result<(), ReplayFault>
         ensures heard { (log : List Entry) → HasHeard log self.old.transactions → OnOk result (HasHeard
-            (log ++ record { lsn = change.lsn; rec = Clr change.txn change.prev undo_next change.page change.slot
-            after.now } ∷ []) self.new.transactions) }
+            (log ++ record {
+              lsn = change.lsn;
+              rec = Clr change.txn change.prev undo_next change.page change.slot
+                  after.now;
+            } ∷ []) self.new.transactions) }
         ensures bad { IsErrOf result ReplayFault.BadStream → (65536 ≤ change.page) ⊎ (32 ≤ change.slot) }
     {
         if change.page >= PAGES {
@@ -203,8 +209,10 @@ impl Opening {
         ensures { (log : List Entry) → HasHeard log self.transactions
             → IfOk result (λ kept. HasHeard log kept × HaveClaimed kept) }
     {
-        let active = self.transactions.active;
-        let writers = writers_of(self.alloc, &active)?;
+        let alloc = self.alloc;
+        let transactions = self.transactions;
+        let active = transactions.active;
+        let writers = writers_of(alloc, &active)?;
         Ok(Transactions { active, writers })
     }
 }

@@ -1,6 +1,6 @@
 use Rattle.image_form.specs.Walking.{to_go}
 use Rattle.archive_base.specs.Opening.{HasHeard}
-use Rattle.archive_base.proofs.Reading.{WalksOn}
+use Rattle.archive_base.proofs.WalkedLogs.{WalksOn}
 use Rattle.archive_base.proofs.reading.read_blocks.Given as goal
 
 abbrev pub invariant-loop-opening : goal.invariant-loop-opening

@@ -1,9 +1,8 @@
-use Rattle.std.proofs.Common.{◌∷◌, ◌++◌, [], List, refl, sym, subst}
+use Rattle.std.proofs.Common.{◌∷◌, ◌++◌, [], refl, sym, subst}
 use Rattle.std.specs.Prelude.{OnOk}
 use Rattle.log_records.specs.declared.log_record.LogRecord.{LogRecord}
 use Rattle.log_records.specs.declared.log_record.LogRecord.TheVariants.{Commit, End}
-use Rattle.log_records.specs.Log.{Entry}
-use Rattle.archive_base.specs.Opening.{HasHeard, IsBeyond}
+use Rattle.archive_base.specs.Opening.{HasHeard}
 use Rattle.archive_base.proofs.Hearing.{taken_heard}
 use Rattle.archive_base.proofs.opening.Opening.hear.Goals as goal
 
@@ -22,9 +21,9 @@ returns-in-Clr-clause-heard c = λ log has.
 pub returns-in-Commit-clause-heard : goal.returns-in-Commit-clause-heard
 returns-in-Commit-clause-heard c = λ log has.
     subst (λ (rec : LogRecord). HasHeard (log ++ record { lsn = c.args.lsn; rec = rec } ∷ []) c.take.new.self) (sym c.in-Commit.is)
-    (taken_heard log c.args.self.now.transactions c.take.new.self (record { lsn = c.args.lsn; rec = Commit txn number }) c.in-Commit.txn.now has refl c.take.ensures.others refl)
+    (taken_heard log c.args.self.now.transactions c.take.new.self (record { lsn = c.args.lsn; rec = Commit c.in-Commit.txn _ }) c.in-Commit.txn has refl c.take.ensures.others refl)
 
 pub returns-in-End-clause-heard : goal.returns-in-End-clause-heard
 returns-in-End-clause-heard c = λ log has.
-    subst (λ (rec : LogRecord). HasHeard (log ++ record { lsn = c.args.lsn; rec = rec } ∷ []) c.take-2.new.self) (sym c.in-End.is)
-    (taken_heard log c.args.self.now.transactions c.take-2.new.self (record { lsn = c.args.lsn; rec = End txn }) c.in-End.txn.now has refl c.take-2.ensures.others refl)
+    subst (λ (rec : LogRecord). HasHeard (log ++ record { lsn = c.args.lsn; rec = rec } ∷ []) c.take-in-End.new.self) (sym c.in-End.is)
+    (taken_heard log c.args.self.now.transactions c.take-in-End.new.self (record { lsn = c.args.lsn; rec = End c.in-End.txn }) c.in-End.txn has refl c.take-in-End.ensures.others refl)

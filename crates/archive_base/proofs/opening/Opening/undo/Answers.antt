@@ -1,4 +1,6 @@
-use Rattle.std.proofs.Common.{◌∷◌, refl, sym, ap}
+use Rattle.std.proofs.Common.{◌+◌, ◌*◌, drop, refl, sym, ap}
+use Rattle.std.specs.Prelude.{Some}
+use Rattle.log_replay.specs.Opened.{written}
 use Rattle.log_records.specs.declared.log_record.LogRecord.TheVariants.{Clr}
 use Rattle.archive_base.specs.Opening.{heard_by}
 use Rattle.archive_base.proofs.Hearing.{put_heard, taken_heard}
@@ -15,4 +17,5 @@ returns-in-Ok-clause-heard c = λ log has.
     let ch = c.args.change in
     let u = c.in-Some.transaction in
     let rec = Clr ch.txn ch.prev c.args.undo_next ch.page ch.slot c.args.after.now in
-    put_heard log c.args.self.now.transactions c.take.new.self c.undone.new.self.transactions (record { lsn = ch.lsn; rec = rec }) ch.txn u _ has refl c.in-Some.ensures.taken c.in-Some.ensures.others c.in-Ok.ensures ?
+    put_heard log c.args.self.now.transactions c.take.new.self c.undone.new.self.transactions (record { lsn = ch.lsn; rec = rec }) ch.txn u _ has refl c.in-Some.ensures.taken c.in-Some.ensures.others c.in-Ok.ensures
+    (ap (λ n. Some (written ch.lsn (32 * ch.page + n, c.args.after.now) (drop 1 u.standing) u)) (sym c.from-2.ensures))

@@ -1,4 +1,4 @@
-use Rattle.std.proofs.Common.{◌≡◌, ◌==◌, nat_eq, cond, drop, ap, ◌∙◌}
+use Rattle.std.proofs.Common.{◌==◌, nat_eq, cond, drop, ap, ◌∙◌}
 use Rattle.std.specs.Prelude.{Some}
 use Rattle.indexmap.specs.IndexMap.{get}
 use Rattle.log_archive.specs.Accepted.{Unclosed}

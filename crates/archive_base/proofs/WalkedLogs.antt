@@ -1,9 +1,9 @@
 -- A walk over the blocks of a log.
-use Rattle.std.proofs.Common.{◌≡◌, ℕ, List, [], ◌∷◌, ◌++◌, refl, sym, ap, subst, ◌∙◌, arith}
-use Rattle.std.specs.Prelude.{Option, Some, None, Result, Ok, Err}
-use Rattle.site.specs.State.{State, Image}
+use Rattle.std.proofs.Common.{◌≡◌, ℕ, List, [], ◌∷◌, ◌++◌, refl, sym, ap, subst, ◌∙◌}
+use Rattle.std.specs.Prelude.{Option, Some, None, Ok}
+use Rattle.site.specs.State.{State}
 use Rattle.site.specs.Work.{OnlyReads}
-use Rattle.site.proofs.Working.{looks_then, looks_answered, looks_failed}
+use Rattle.site.proofs.Working.{looks_then, looks_answered}
 use Rattle.log_records.specs.declared.log_record.LogRecord.{LogRecord}
 use Rattle.log_records.specs.Log.{Entry, log_from}
 use Rattle.log_store.specs.declared.store.LogStore.{LogStore}
@@ -11,7 +11,7 @@ use Rattle.log_store.specs.Representation.{Finds, HasBlocks, Invariant}
 use Rattle.image_form.specs.declared.walk.Walk.{Walk}
 use Rattle.image_form.specs.Walking.{Gives, MayWalk, StandsBefore}
 use Rattle.image_form.proofs.BlocksJudged.{finds_later, going_later}
-use Rattle.image_form.proofs.Walks.{Walked, gives_at, walked_all, walked_more, walked_none}
+use Rattle.image_form.proofs.Walks.{Walked, gives_at, walked_all, walked_more}
 
 pub record WalksOn (log : LogStore) (kept : ℕ) (walk : Walk) (old now : State) (P : List Entry → Type 0) : Type 0 where
   pub going : Invariant log now
