@@ -21,9 +21,6 @@ pub record ClaimsSo (known : ℕ → Option Unclosed) (all rest : List ℕ) (wri
   pub parts : all ≡ front ++ rest
   pub claimed : ((t : ℕ) (u : Unclosed) → known t ≡ Some u → u.begin ≡ t) → (number : ℕ) → Claimed known front number (writers number)
 
-pub claims_first : (known : ℕ → Option Unclosed) (all rest : List ℕ) (writers : ℕ → Option ℕ) → all ≡ rest → ((n : ℕ) → writers n ≡ None) → ClaimsSo known all rest writers
-claims_first known all rest writers is none = record { front = []; parts = is; claimed = λ begin number. subst (Claimed known [] number) (sym (none number)) tt }
-
 -- one more
 pub claims_more : (known : ℕ → Option Unclosed) (all rest : List ℕ) (old new : ℕ → Option ℕ) (t : ℕ) (u : Unclosed) (later : List ℕ) → rest ≡ t ∷ later → known t ≡ Some u →
     ((n : ℕ) → new n ≡ cond (has_written n u) (Some u.begin) (old n)) → ClaimsSo known all rest old → ClaimsSo known all later new

@@ -20,8 +20,8 @@ abbrev pub put_all : List Write → List Write → List Write
 put_all net [] = net
 put_all net (write ∷ writes) = put_all (put_in write net) writes
 
--- What a log has of a transaction: its last record, the Updates that no CLR has compensated, and what it has left last on
--- each record.
+-- What a log has of a transaction: its last record, the Updates that no CLR has compensated, and what it has left last
+-- on each record.
 abbrev pub unclosed_at : List Entry → ℕ → Unclosed
 unclosed_at log t = record {
   begin = t;

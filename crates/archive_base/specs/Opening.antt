@@ -1,5 +1,6 @@
 -- The unfinished transactions of a log, heard record by record.
-use Rattle.std.specs.Prelude.{◌≡◌, ◌⊎◌, ℕ, ◌+◌, ◌*◌, nat_eq, true, false, ◌≤◌, List, [], ◌∷◌, drop, Option, Some, None, option_map}
+use Rattle.std.specs.Prelude.{◌≡◌, ◌⊎◌, ℕ, ◌+◌, ◌*◌, ◌≤◌, nat_eq, true, false, List, [], ◌∷◌, drop, Option, Some}
+use Rattle.std.specs.Prelude.{None, option_map}
 use Rattle.std.specs.Prelude.{if◌then◌else◌}
 use Rattle.indexmap.specs.IndexMap.{get}
 use Rattle.log_records.specs.declared.log_record.LogRecord.{LogRecord}

@@ -1,6 +1,6 @@
 // The transactions that a log leaves unfinished, heard record by record.
-ghost use Rattle.std.specs.Prelude.{◌≡◌, ◌⊎◌, ◌≤◌, ◌<◌, ◌+◌, ◌*◌, ◌++◌, ◌∷◌, [], ℕ, List, drop, nat_eq, Some, OnOk, IfOk, IsErrOf};
-ghost use Rattle.std.specs.Prelude.{◌==◌, if◌then◌else◌};
+ghost use Rattle.std.specs.Prelude.{◌≡◌, ◌⊎◌, ◌≤◌, ◌<◌, ◌==◌, ◌+◌, ◌*◌, ◌++◌, ◌∷◌, [], ℕ, List, drop, nat_eq, Some};
+ghost use Rattle.std.specs.Prelude.{OnOk, IfOk, IsErrOf, if◌then◌else◌};
 ghost use Rattle.indexmap.specs.IndexMap.{get};
 ghost use Rattle.log_records.specs.Log.{Entry};
 ghost use Rattle.log_records.specs.declared.log_record.LogRecord.TheVariants.{Begin, Clr, Commit, End, Update};

@@ -13,8 +13,8 @@ use log_store::LogStore;
 use site::{Site, Stop};
 use std::alloc::Global;
 
-/// The transactions that the log leaves unfinished whose blocks are read from this one on: each with its last record, its
-/// Updates that no CLR has compensated, and what it has left. None where the log has a record that no page of any
+/// The transactions that the log leaves unfinished whose blocks are read from this one on: each with its last record,
+/// its Updates that no CLR has compensated, and what it has left. None where the log has a record that no page of any
 /// database has.
 pub fn read_blocks<S: Site>(
     alloc: Global,

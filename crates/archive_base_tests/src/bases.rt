@@ -27,14 +27,18 @@ fn line_of(text: &[u8]) -> [u8; 1014] {
     line
 }
 
-// Hears the records of a block.
+// Hears the records of a block, of which there are at most eight.
 fn hear(opening: &mut Opening, text: &[u8]) -> Option<()> {
     let (number, content) = read_block(&line_of(text))?;
     let used = check_block(&content).ok()?;
+    let first = number.checked_mul(512)?;
     let mut at = 2;
-    while at < used {
+    for _record in 0..8 {
+        if at >= used {
+            break;
+        }
         let (rec, end) = read_record(&content, at, used).ok()?;
-        opening.hear(512 * number + at as u64, &rec).ok()?;
+        opening.hear(first.checked_add(at as u64)?, &rec).ok()?;
         at = end;
     }
     Some(())
