@@ -2,7 +2,7 @@ pub mod Numbered
 pub mod Lined
 mod StreamRows
 pub mod Following
-mod Ascending
+pub mod Ascending
 mod AtNumber
 mod Behind
 mod Steps

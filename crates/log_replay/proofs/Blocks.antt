@@ -49,7 +49,7 @@ one_left : (content : List ℕ) (used at : ℕ) (left : List LogRecord) → AreL
 one_left content used at [] l before = let end = l.end in absurd (omega (arith, end, before))
 one_left content used at (rec ∷ others) l before = (rec, others, refl)
 
-none_left : (content : List ℕ) (used at : ℕ) (left : List LogRecord) → AreLeft content used at left → used ≤ at → left ≡ []
+pub none_left : (content : List ℕ) (used at : ℕ) (left : List LogRecord) → AreLeft content used at left → used ≤ at → left ≡ []
 none_left content used at [] l after = refl
 none_left content used at (rec ∷ others) l after =
     let end = l.end in
@@ -58,7 +58,7 @@ none_left content used at (rec ∷ others) l after =
     absurd (omega (arith, end, after, more, some))
 
 -- what is read there is the first of them
-reads_first : (content : List ℕ) (used at : ℕ) (left : List LogRecord) → AreLeft content used at left → at < used → (rec : LogRecord) (end : ℕ) → IsSpelledAt content at used rec end →
+pub reads_first : (content : List ℕ) (used at : ℕ) (left : List LogRecord) → AreLeft content used at left → at < used → (rec : LogRecord) (end : ℕ) → IsSpelledAt content at used rec end →
     (others : List LogRecord) × (left ≡ rec ∷ others) × AreLeft content used end others
 reads_first content used at left l before rec end spelled =
     let one = one_left content used at left l before in

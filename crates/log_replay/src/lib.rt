@@ -9,6 +9,7 @@ mod table;
 mod transaction;
 mod transactions;
 
+pub use kept::{Kept, copy_of};
 pub use ledger::{Change, Ledger, ReplayFault};
 pub use net::Net;
 pub use replay::Replay;

@@ -8,7 +8,7 @@ ghost use Rattle.site.specs.declared.outside.Stop.TheVariants.{Memory};
 ghost use Rattle.log_archive.specs.Lines.{IsEndLine};
 ghost use Rattle.log_archive.specs.Accepted.{AfterLine, Stream, after_block, blank_stream, commits_in};
 ghost use Rattle.log_replay.specs.declared.ledger.ReplayFault.TheVariants.{BadStream};
-ghost use Rattle.log_replay.specs.Stands.{Hears, NoneWaits, StandsFor};
+ghost use Rattle.log_replay.specs.Stands.{Hears, NoneWaits, StandsAt, StandsFor};
 
 use crate::ledger::{Ledger, ReplayFault};
 use crate::net::Net;
@@ -37,6 +37,14 @@ impl Replay {
             Ok(ledger) => Ok(Replay { next: 0, ledger }),
             Err(_) => Err(Stop::Memory),
         }
+    }
+
+    /// Before the first line of a stream that goes on with a block of this number, behind which its ledger stands.
+    pub fn behind(next: u64, ledger: Ledger) -> Replay
+        ensures { (pages : ℕ) (s : Stream) (popped : List (List Write)) → next ≡ s.next
+            → StandsAt pages (512 * s.next + 2) s popped ledger → StandsFor pages s popped result }
+    {
+        Replay { next, ledger }
     }
 
     // Hears the records of the next block.

@@ -1,9 +1,12 @@
 // One open transaction, record by record.
 ghost use Rattle.std.specs.Prelude.{◌≡◌, ◌+◌, ◌*◌, ◌<◌, ◌==◌, ◌↔◌, ℕ, [], ◌∷◌, drop, IsTrue, IfOk, OnOk};
-ghost use Rattle.log_replay.specs.Opened.{begun, compensated, written};
+ghost use Rattle.std.specs.Prelude.{nat_eq, Some, if◌then◌else◌};
+ghost use Rattle.indexmap.specs.IndexMap.{get};
+ghost use Rattle.log_replay.specs.Opened.{begun, compensated, has_written, written};
 
 use crate::kept::{Kept, copy_of, is_same};
 use crate::net::Net;
+use indexmap::IndexMap;
 use record_model::Octets;
 use std::alloc::{AllocError, Global};
 use std::collections::BTreeMap;
@@ -168,6 +171,17 @@ impl Transaction {
         self.last = lsn;
         self.standing.pop();
         self.net.insert(number, after)?;
+        Ok(())
+    }
+
+    /// Says of each record on which it has left something that it is the writer.
+    pub fn claim(&self, writers: &mut IndexMap<u32, u64>) -> Result<(), AllocError>
+        ensures { OnOk result ((n : ℕ) → get nat_eq writers.new n
+            ≡ (if has_written n self.now then Some self.now.begin else get nat_eq writers.old n)) }
+    {
+        for number in self.net.keys() {
+            writers.insert(*number, self.begin)?;
+        }
         Ok(())
     }
 

@@ -1,0 +1,5 @@
+pub mod Agreeing
+pub mod Hearing
+pub mod Opened
+pub mod Claims
+pub mod WalkedLogs

@@ -1,0 +1,4 @@
+pub mod Base
+pub mod Opening
+pub mod Laws
+pub mod Reading

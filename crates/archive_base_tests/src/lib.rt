@@ -1,0 +1,5 @@
+//! Tests of `archive_base`.
+#![tactic(auto)]
+
+#[cfg(test)]
+mod bases;
