@@ -1,6 +1,6 @@
 -- The word `verify`: its first failed call decides its status; and memory was wanted before anything was done.
-use Rattle.std.proofs.Common.{◌≡◌, ◌⊎◌, inl, inr, refl, arith, ℕ, ap, ◌∙◌, ◌++◌}
-use Rattle.site.specs.State.{State}
+use Rattle.std.proofs.Common.{◌≡◌, ◌⊎◌, inl, inr, refl, sym, arith, ℕ, ap, ◌∙◌, [], ◌++◌, append-nil}
+use Rattle.site.specs.State.{State, Input}
 use Rattle.site.specs.Faults.{faults_in}
 use Rattle.stream_report.specs.Contract.{FirstFails, VerifyContract}
 use Rattle.front_end.specs.Faults.{AfterFirst, FirstDecides}
@@ -44,4 +44,5 @@ lacked_verify pages status old new l =
       input = λ e. absurd (omega (arith, is, e));
       output = λ e. absurd (omega (arith, is, e));
       reads = λ honest. l.1.reads;
+      asks = λ honest. record { takes = []; are = ap (λ (x : Input). x.takes) (l.1.devices honest).left ∙ sym (append-nil old.input.takes); each = tt };
     }
