@@ -1,6 +1,6 @@
 -- What is known of a transaction behind one more record.
 use Rattle.std.proofs.Common.{◌≡◌, ℕ, ◌==◌, nat_eq, Bool, true, false, cond, List, [], ◌∷◌, ◌++◌, refl, sym, ap, subst, ◌∙◌}
-use Rattle.std.specs.Prelude.{Option, Some, None}
+use Rattle.std.specs.Prelude.{Option, Some, None, Result, Ok, Err, OnOk}
 use Rattle.std.proofs.lemmas.Bool.{eqb-true}
 use Rattle.indexmap.specs.IndexMap.{get}
 use Rattle.log_records.specs.declared.log_record.LogRecord.{LogRecord}
@@ -74,3 +74,8 @@ pub taken_heard : (log : List Entry) (old new : Transactions) (e : Entry) (txn :
     ((t : ℕ) → get nat_eq new.active t ≡ cond (txn == t) None (get nat_eq old.active t)) →
     heard_by e.lsn e.rec (get nat_eq old.active txn) ≡ None → HasHeard (log ++ e ∷ []) new
 taken_heard log old new e txn has own others leads = one_heard log old new e txn None has own others (ap (heard_by e.lsn e.rec) (sym (has txn)) ∙ leads)
+
+-- what holds where it is closed
+pub on_ok : {A E : Type 0} (r : Result A E) (P Q : Type 0) → (P → Q) → OnOk r P → OnOk r Q
+on_ok (Ok x) P Q to is = to is
+on_ok (Err e) P Q to is = tt

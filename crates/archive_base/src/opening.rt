@@ -1,6 +1,6 @@
 // The transactions that a log leaves unfinished, heard record by record.
 ghost use Rattle.std.specs.Prelude.{◌≡◌, ◌⊎◌, ◌≤◌, ◌<◌, ◌==◌, ◌+◌, ◌*◌, ◌++◌, ◌∷◌, [], ℕ, List, drop, nat_eq, Some};
-ghost use Rattle.std.specs.Prelude.{OnOk, IfOk, IsErrOf, if◌then◌else◌};
+ghost use Rattle.std.specs.Prelude.{None, OnOk, IfOk, IsErrOf, if◌then◌else◌};
 ghost use Rattle.indexmap.specs.IndexMap.{get};
 ghost use Rattle.log_records.specs.Log.{Entry};
 ghost use Rattle.log_records.specs.declared.log_record.LogRecord.TheVariants.{Begin, Clr, Commit, End, Update};
@@ -150,6 +150,16 @@ impl Opening {
         }
     }
 
+    // A transaction is closed.
+    fn close(&mut self, txn: u64) -> Result<(), ReplayFault>
+        ensures closes { OnOk result ((t : ℕ) → get nat_eq self.new.transactions.active t
+            ≡ (if txn == t then None else get nat_eq self.old.transactions.active t)) }
+        ensures bad { IsErrOf result ReplayFault.BadStream → ⊥ }
+    {
+        self.transactions.take(txn);
+        Ok(())
+    }
+
     /// Hears the record at an LSN. Of a transaction whose Begin wasn't heard it knows nothing. A record that
     /// no page of any database has is BadStream.
     pub fn hear(&mut self, lsn: u64, rec: &LogRecord) -> Result<(), ReplayFault>
@@ -193,14 +203,8 @@ impl Opening {
                 };
                 self.undo(change, *undo_next, after)
             }
-            LogRecord::Commit { txn, .. } => {
-                self.transactions.take(*txn);
-                Ok(())
-            }
-            LogRecord::End { txn } => {
-                self.transactions.take(*txn);
-                Ok(())
-            }
+            LogRecord::Commit { txn, .. } => self.close(*txn),
+            LogRecord::End { txn } => self.close(*txn),
         }
     }
 
