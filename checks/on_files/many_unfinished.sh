@@ -73,13 +73,13 @@ log updates 100
 answers check 'sound records 0 commits 0' 'a check of 50,100 transactions with an Update each'
 answers 'run 4' 'open 0' 'a run that undoes them'
 
-# A check of Begins alone costs at most five times what one costs of a sound log of as many blocks whose transactions are
+# A check of Begins alone costs at most six times what one costs of a sound log of as many blocks whose transactions are
 # open all at once before the first of them ends.
 log ended 4000
 costs check
 [ "$(cat replies)" = 'sound records 0 commits 0' ]
 verdict 'a check of 197,895 transactions that end one after the other' $?
-most=$((5 * cost))
+most=$((6 * cost))
 log begins 4000
 answers check 'unsound S9' 'a check of 2,004,000 unfinished transactions'
 finish
