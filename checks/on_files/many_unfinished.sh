@@ -66,20 +66,20 @@ costs check
 [ "$(cat replies)" = 'sound records 0 commits 0' ]
 verdict 'a check of a sound log' $?
 most=$((20 * cost + 500))
+log begins 400
+answers check 'unsound S9' 'a check of 200,400 unfinished transactions'
+answers 'run 4' 'fault foreign' 'a run over them'
 log updates 100
 answers check 'sound records 0 commits 0' 'a check of 50,100 transactions with an Update each'
 answers 'run 4' 'open 0' 'a run that undoes them'
 
-# A log of Begins alone costs at most three times what a sound one of as many blocks does: a run what one costs that
-# undoes an Update of each of its transactions, a check what one costs whose transactions were open all at once.
-most=$((3 * cost))
-log begins 2605
-answers 'run 4' 'fault foreign' 'a run over 1,305,105 unfinished transactions'
-log ended 5000
+# A check of Begins alone costs at most six times what one costs of a sound log of as many blocks whose transactions are
+# open all at once before the first of them ends.
+log ended 4000
 costs check
 [ "$(cat replies)" = 'sound records 0 commits 0' ]
-verdict 'a check of 247,494 transactions that end one after the other' $?
-most=$((3 * cost))
-log begins 5000
-answers check 'unsound S9' 'a check of 2,505,000 unfinished transactions'
+verdict 'a check of 197,895 transactions that end one after the other' $?
+most=$((6 * cost))
+log begins 4000
+answers check 'unsound S9' 'a check of 2,004,000 unfinished transactions'
 finish

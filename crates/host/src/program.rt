@@ -71,10 +71,8 @@ where
     R::File: FileExt + LockFile,
 {
     if let Some(rule) = site.watch().rule() {
-        return match find_place(alloc, site, rule) {
-            Ok(Some(place)) => Some((rule, place)),
-            _ => None,
-        };
+        let place = find_place(alloc, site, rule).ok()??;
+        return Some((rule, place));
     }
     match check_image(alloc, site) {
         Ok(Verdict::Unsound { rule, place }) => Some((rule, place)),
