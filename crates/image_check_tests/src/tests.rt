@@ -5,8 +5,8 @@ ghost use Rattle.mem_site.specs.MemState.{state_of};
 
 use checkpoint::{Master, Pairs};
 use image_check::{
-    Verdict, check_image, find_place, rule_apart, rule_commits, rule_named, rule_page_room, rule_room,
-    rule_shown, rule_transactions, rule_undoable,
+    Verdict, check_image, find_place, rule_apart, rule_commits, rule_named, rule_page_room,
+    rule_room, rule_shown, rule_transactions, rule_undoable,
 };
 use image_form::{
     Found, Place, rule_blocks, rule_clean, rule_following, rule_groups, rule_kept, rule_lengths,
