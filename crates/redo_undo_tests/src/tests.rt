@@ -173,7 +173,7 @@ fn a_commit_waits_for_its_seal(rt: HostRuntime) -> Result<(), Fail> {
     let (log, pages) = changed(rt.alloc(), &mut site)?;
     let mut store = stored(&mut site, log, pages)?;
     assert!(rt; store.log_commit(&mut site, 2, 1)? == 29);
-    assert!(rt; !is_committed(&store.log, &mut site)?);
+    assert!(rt; store.log.sealed_end() < 512);
     store.seal(&mut site)?;
     assert!(rt; is_committed(&store.log, &mut site)?);
     Ok(())
