@@ -6,7 +6,7 @@ pub mod CauseLaws
 pub mod CommandLaws
 pub mod Counted
 mod Cuts
-mod Demanded
+pub mod Demanded
 mod Dones
 mod Ends
 mod Faults
